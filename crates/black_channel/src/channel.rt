@@ -46,7 +46,7 @@ pub trait Channel: Drop {
         ensures pushes { PushesParcel (record { to = to; frame = frame.now }) (told self.old) (told self.new) };
 
     /// Writes a frame to `out`, whose old contents are lost, and returns where it goes. Returns None if nothing comes,
-    /// only if the channel's count of that rose in this call or is 2^64 - 1.
+    /// only if the channel's count of that rose by one in this call or is 2^64 - 1.
     fn pull(&mut self, out: &mut FrameBuf) -> Option<Place>
         ensures name_stays { name self.new ≡ name self.old }
         ensures pulls { PullsParcel (parcel_of result out.new) (told self.old) (told self.new) };

@@ -1,5 +1,5 @@
 -- What holds of a run from some bytes on holds of it from before them, where those that were told before are the same.
-use Rattle.std.proofs.Common.{◌≡◌, ◌≤◌, ℕ, List, ◌∷◌, [], ◌++◌, Option, ap, ◌∙◌, sym, subst, inl, inr, arith}
+use Rattle.std.proofs.Common.{◌≡◌, ℕ, List, ◌∷◌, [], ◌++◌, Option, ap, ◌∙◌, sym, subst, inl, inr, arith}
 use Rattle.std.specs.Prelude.{IfSome, Some, None}
 use Rattle.std.specs.Io.KnownBytes.{Consumes, prepend_known}
 use Rattle.fsoe_io.specs.Line.{Held}
@@ -64,7 +64,7 @@ since told faults o = record {
   sink = o.sink;
 }
 
-ends_told : {H L E : Type 0} (r : Reporting H L E) (s : Status) (ended : Ended) (o : Outside) (told : Option (List ℕ)) (faults : ℕ) → AreTold told o.source.before → faults ≤ o.source.faults_before → EndsAs r s ended o → EndsAs r s ended (since told faults o)
+ends_told : {H L E : Type 0} (r : Reporting H L E) (s : Status) (ended : Ended) (o : Outside) (told : Option (List ℕ)) (faults : ℕ) → AreTold told o.source.before → o.source.faults_before ≡ faults → EndsAs r s ended o → EndsAs r s ended (since told faults o)
 ends_told r status.Ok ended o told faults same fewer ends = record { ends = ends.ends; read = whole_told r.format told o.source.before o.source.after same ends.read; wrote = if_told _ told o.source.before same ends.wrote }
 ends_told r status.Other ended o told faults same fewer ends = record { ends = ends.ends; read = whole_told r.format told o.source.before o.source.after same ends.read; wrote = if_told _ told o.source.before same ends.wrote }
 ends_told r status.Line ended o told faults same fewer ends = record {
@@ -85,8 +85,8 @@ ends_told r status.Memory ended o told faults same fewer ends = record { place_i
 
 pub ran_told : {H L E : Type 0} (r : Reporting H L E) (ended : Ended) (o : Outside) (told : Option (List ℕ)) (faults : ℕ) → AreTold told o.source.before → o.source.faults_before ≡ faults → RanOver r ended o → RanOver r ended (since told faults o)
 ran_told r ended o told faults same stayed ran = record {
-  ends = ends_told r ended.status ended o told faults same (omega (arith, stayed)) ran.ends;
-  stops = λ read write memory. if_told _ told o.source.before same (ran.stops (λ rose. read (rose_since faults o.source.faults_before o.source.faults_after (omega (arith, stayed)) rose)) write memory);
+  ends = ends_told r ended.status ended o told faults same stayed ran.ends;
+  stops = λ read write memory. if_told _ told o.source.before same (ran.stops (λ rose. read (rose_since faults o.source.faults_before o.source.faults_after stayed rose)) write memory);
   faults = record {
     source_later = omega (arith, stayed, ran.faults.source_later);
     sink_later = ran.faults.sink_later;

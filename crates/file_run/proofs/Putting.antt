@@ -106,7 +106,7 @@ writes_after old mid w0 w1 w2 faults between after text ended result p stayed wr
             less = omega (arith, cut.less, ap (length {A = ℕ}) p.whole, length-append p.part cut.part, length-append p.part mid.bytes, length-append mid.bytes []);
             status_is = cut.status_is;
             place_is = omega (arith, cut.place_is, p.sent, length-append p.part cut.part);
-            cause = rose_since faults between after (omega (arith, stayed)) cut.cause;
+            cause = rose_since faults between after stayed cut.cause;
           })
     ]
 

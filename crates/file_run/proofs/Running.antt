@@ -210,7 +210,7 @@ as_whole r status.Memory place ended o whole came = absurd whole
 
 -- a whole report was written: the run ends as it says, or a write failed at the end
 ends_reported : {H L E : Type 0} (r : Reporting H L E) (o : Outside) (w1 : Option (List ℕ)) (faults : ℕ) (waiting : OutputView) (text last : List ℕ) (ended result : Ended) → Sent o.sink.before w1 waiting text
-    → Writes waiting.sent (waiting.bytes ++ last) ended result (record { before = w1; after = o.sink.after; faults_before = faults; faults_after = o.sink.faults_after }) → o.sink.faults_before ≤ faults
+    → Writes waiting.sent (waiting.bytes ++ last) ended result (record { before = w1; after = o.sink.after; faults_before = faults; faults_after = o.sink.faults_after }) → faults ≡ o.sink.faults_before
     → IfSome o.source.before (λ input. r.reports (input_read r.format input) ended (text ++ last)) → (Wrote o (λ input text. r.reports (input_read r.format input) ended text) → EndsAs r ended.status ended o)
     → EndsAs r result.status result o
 ends_reported r o w1 faults waiting text last ended result sent writes later whole ends =
@@ -230,7 +230,7 @@ pub ends_at_end : {H L E : Type 0} (r : Reporting H L E) (stands : Standing H E)
     → Running r stands says o.source.before b o.sink.before w1 waiting events lines → FindsEvent r.format.event says full (Ok None) b (prepend_known held o.source.after) → length held ≤ most_held → IsFullness r stands events full
     → ((h : H) (log : List E) (text : List ℕ) → length log ≡ events → stands h log text → EndsReport r h log (text ++ last) ended)
     → ((h : H) (log : List E) (text : List ℕ) → stands h log text → EndsWhole r.judges ended.status ended.place)
-    → Writes waiting.sent (waiting.bytes ++ last) ended result (record { before = w1; after = o.sink.after; faults_before = faults; faults_after = o.sink.faults_after }) → o.sink.faults_before ≤ faults
+    → Writes waiting.sent (waiting.bytes ++ last) ended result (record { before = w1; after = o.sink.after; faults_before = faults; faults_after = o.sink.faults_after }) → faults ≡ o.sink.faults_before
     → EndsAs r result.status result o
 ends_at_end {H} {L} {E} r stands says full o b held w1 faults waiting events lines last ended result k finds most fullness reports whole writes later =
     let c = prepend_known held o.source.after in
@@ -256,7 +256,7 @@ begins_nothing r told text begins = subst (λ (z : List ℕ). IfSome told (λ in
 
 -- there was no memory to go on
 ends_wanting : {H L E : Type 0} (r : Reporting H L E) (o : Outside) (w1 : Option (List ℕ)) (faults : ℕ) (waiting : OutputView) (text : List ℕ) (result : Ended) → Sent o.sink.before w1 waiting text
-    → Writes waiting.sent (waiting.bytes ++ last_of halt.Memory) (halted_by halt.Memory) result (record { before = w1; after = o.sink.after; faults_before = faults; faults_after = o.sink.faults_after }) → o.sink.faults_before ≤ faults
+    → Writes waiting.sent (waiting.bytes ++ last_of halt.Memory) (halted_by halt.Memory) result (record { before = w1; after = o.sink.after; faults_before = faults; faults_after = o.sink.faults_after }) → faults ≡ o.sink.faults_before
     → IfSome o.source.before (λ input. BeginsReport r (input_read r.format input) text) → (Grew o.sink.before o.sink.after text → MayWant r.memory (Grew o.sink.before o.sink.after [])) → EndsAs r result.status result o
 ends_wanting r o w1 faults waiting text result sent writes later begins may =
     ends_written r o w1 faults waiting text [] (halted_by halt.Memory) result sent writes later (begins_nothing r o.source.before text begins)
@@ -278,7 +278,7 @@ ends_unmet : {H L E : Type 0} (r : Reporting H L E) (stands : Standing H E) (say
     → Running r stands says o.source.before b o.sink.before w1 waiting events lines → FindsEvent r.format.event says full (Ok (Some event)) b (prepend_known held o.source.after) → length held ≤ most_held → IsFullness r stands events full → number ≡ lines + 1
     → ((h : H) (log : List E) (text : List ℕ) → stands h log text → EndsUnmet r h log text event why)
     → Writes waiting.sent (waiting.bytes ++ refused_line number why) (refused_at number) result (record { before = w1; after = o.sink.after; faults_before = faults; faults_after = o.sink.faults_after })
-    → o.sink.faults_before ≤ faults → EndsAs r result.status result o
+    → faults ≡ o.sink.faults_before → EndsAs r result.status result o
 ends_unmet r stands says full o b held w1 faults waiting events lines number event why result k finds most fullness step unmet writes later =
     let c = prepend_known held o.source.after in
     let at : k.header + length k.log + 1 ≡ number = omega (arith, step, k.lined, k.count) in
@@ -297,7 +297,7 @@ pub ends_stopped : {H L E : Type 0} (r : Reporting H L E) (stands : Standing H E
     → Reports r stands → Running r stands says o.source.before b o.sink.before w1 waiting events lines → FindsEvent r.format.event says full (Ok (Some event)) b (prepend_known held o.source.after) → length held ≤ most_held → IsFullness r stands events full → number ≡ lines + 1
     → ((h : H) (log : List E) (text : List ℕ) → stands h log text → EndsStopped r h log text event why)
     → Writes waiting.sent (waiting.bytes ++ last_of (halt_stopped why number)) (halted_by (halt_stopped why number)) result (record { before = w1; after = o.sink.after; faults_before = faults; faults_after = o.sink.faults_after })
-    → o.sink.faults_before ≤ faults → EndsAs r result.status result o
+    → faults ≡ o.sink.faults_before → EndsAs r result.status result o
 ends_stopped r stands says full o b held w1 faults waiting events lines number event stopped.NoFrame result reports k finds most fullness step stops writes later =
     ends_unmet r stands says full o b held w1 faults waiting events lines number event NoFrame result k finds most fullness step stops writes later
 ends_stopped r stands says full o b held w1 faults waiting events lines number event stopped.NoApp result reports k finds most fullness step stops writes later =
@@ -341,8 +341,8 @@ refused_after r stands says full left0 b c w0 w waiting events lines number why 
 -- the input goes no further
 pub ends_halted : {H L E : Type 0} (r : Reporting H L E) (stands : Standing H E) (says : Saying L) (full : Bool) (o : Outside) (b : Option (List ℕ)) (held : List ℕ) (w1 : Option (List ℕ)) (read faults : ℕ) (waiting : OutputView) (events lines now : ℕ) (why : Halt) (result : Ended)
     → Reports r stands → Running r stands says o.source.before b o.sink.before w1 waiting events lines → FindsEvent r.format.event says full (Err why) b (prepend_known held o.source.after) → IsFullness r stands events full
-    → Goes {T = Unit {0}} (Err why) lines now b (prepend_known held o.source.after) → Stalls {T = Unit {0}} (Err why) held → length held ≤ most_held → Blames {T = Unit {0}} (Err why) read o.source.faults_after → o.source.faults_before ≤ read
-    → Writes waiting.sent (waiting.bytes ++ last_of why) (halted_by why) result (record { before = w1; after = o.sink.after; faults_before = faults; faults_after = o.sink.faults_after }) → o.sink.faults_before ≤ faults
+    → Goes {T = Unit {0}} (Err why) lines now b (prepend_known held o.source.after) → Stalls {T = Unit {0}} (Err why) held → length held ≤ most_held → Blames {T = Unit {0}} (Err why) read o.source.faults_after → read ≡ o.source.faults_before
+    → Writes waiting.sent (waiting.bytes ++ last_of why) (halted_by why) result (record { before = w1; after = o.sink.after; faults_before = faults; faults_after = o.sink.faults_after }) → faults ≡ o.sink.faults_before
     → EndsAs r result.status result o
 ends_halted r stands says full o b held w1 read faults waiting events lines now (halt.Read count) result reports k finds fullness goes stalls most blames read_later writes later =
     let place : k.header + length k.log ≡ count = omega (arith, k.lined, k.count, goes.0) in
@@ -389,7 +389,7 @@ nothing_begins r (Some xs) has = let report = has.some xs in (report.0, report.1
 
 -- there was no memory to begin with
 pub begin_wanting : {H L E : Type 0} (r : Reporting H L E) (o : Outside) (faults : ℕ) (waiting : OutputView) (result : Ended) → HasReports r → TakesMemory r.memory → waiting.bytes ≡ [] → waiting.sent ≡ 0
-    → Writes waiting.sent (waiting.bytes ++ last_of halt.Memory) (halted_by halt.Memory) result (record { before = o.sink.before; after = o.sink.after; faults_before = faults; faults_after = o.sink.faults_after }) → o.sink.faults_before ≤ faults
+    → Writes waiting.sent (waiting.bytes ++ last_of halt.Memory) (halted_by halt.Memory) result (record { before = o.sink.before; after = o.sink.after; faults_before = faults; faults_after = o.sink.faults_after }) → faults ≡ o.sink.faults_before
     → EndsAs r result.status result o
 begin_wanting r o faults waiting result has takes none sent writes later =
     ends_wanting r o o.sink.before faults waiting [] result (sent_none o.sink.before waiting none sent) writes later (nothing_begins r o.source.before has)
@@ -413,7 +413,7 @@ header_cut_off {H} {L} {E} r (Some xs) left held count has cut none =
 pub header_halted : {H L E : Type 0} (r : Reporting H L E) (o : Outside) (held : List ℕ) (faults : ℕ) (waiting : OutputView) (why : Halt) (result : Ended) → HasReports r
     → HaltsHeader r.format (TakesMemory r.memory) why o.source.before (prepend_known held o.source.after)
     → Halts {T = Unit {0}} (Err why) o.source.before o.source.after → Stalls {T = Unit {0}} (Err why) held → Blames {T = Unit {0}} (Err why) o.source.faults_before o.source.faults_after → waiting.bytes ≡ [] → waiting.sent ≡ 0
-    → Writes waiting.sent (waiting.bytes ++ last_of why) (halted_by why) result (record { before = o.sink.before; after = o.sink.after; faults_before = faults; faults_after = o.sink.faults_after }) → o.sink.faults_before ≤ faults
+    → Writes waiting.sent (waiting.bytes ++ last_of why) (halted_by why) result (record { before = o.sink.before; after = o.sink.after; faults_before = faults; faults_after = o.sink.faults_after }) → faults ≡ o.sink.faults_before
     → EndsAs r result.status result o
 header_halted r o held faults waiting (halt.Read count) result has heads halts stalls blames none sent writes later =
     ends_written r o o.sink.before faults waiting [] [] (halted_by (halt.Read count)) result (sent_none o.sink.before waiting none sent) writes later (nothing_begins r o.source.before has)

@@ -1,5 +1,5 @@
 -- What a run sent, and how it ends by that.
-use Rattle.std.proofs.Common.{◌≡◌, ℕ, ◌≤◌, ◌<◌, List, [], ◌++◌, length, arith, ap, ◌∙◌, sym, subst, append_assoc, inl, inr}
+use Rattle.std.proofs.Common.{◌≡◌, ℕ, ◌<◌, List, [], ◌++◌, length, arith, ap, ◌∙◌, sym, subst, append_assoc, inl, inr}
 use Rattle.std.specs.Prelude.{IfSome}
 use Rattle.std.specs.declared.option.Option.{Option}
 use Rattle.std.proofs.lemmas.List.{append-nil, length-append}
@@ -89,9 +89,9 @@ cuts_part r input part text p less begun =
 pub begins_whole : {H L E : Type 0} (r : Reporting H L E) (input : InputOf H E) (ended : Ended) (text : List ℕ) → r.reports input ended text → BeginsReport r input text
 begins_whole r input ended text report = (text, ended, report, ([], sym (append-nil text)))
 
--- a count that rose since a later time rose since an earlier one
-pub rose_since : (first before now : ℕ) → first ≤ before → Rose before now → Rose first now
-rose_since first before now later rose = λ below. let above = rose below in omega (arith, above, later)
+-- a count rose since an earlier time, up to which it stayed
+pub rose_since : (first before now : ℕ) → before ≡ first → Rose before now → Rose first now
+rose_since first before now stayed rose = subst (λ (n : ℕ). Rose n now) stayed rose
 
 -- a write failed
 pub ends_write : {H L E : Type 0} (r : Reporting H L E) (o : Outside) (ended : Ended) (whole : List ℕ) → ended.status ≡ status.Write → AppendedPart o.sink.before o.sink.after ended.place whole
@@ -107,7 +107,7 @@ ends_write r o ended whole e p begins rose =
 -- a run ends as it is to, or a write failed at the end
 pub ends_written : {H L E : Type 0} (r : Reporting H L E) (o : Outside) (between : Option (List ℕ)) (faults : ℕ) (waiting : OutputView) (text last : List ℕ) (ended result : Ended) → Sent o.sink.before between waiting text
     → Writes waiting.sent (waiting.bytes ++ last) ended result (record { before = between; after = o.sink.after; faults_before = faults; faults_after = o.sink.faults_after })
-    → o.sink.faults_before ≤ faults → IfSome o.source.before (λ input. BeginsReport r (input_read r.format input) (text ++ last))
+    → faults ≡ o.sink.faults_before → IfSome o.source.before (λ input. BeginsReport r (input_read r.format input) (text ++ last))
     → (Grew o.sink.before o.sink.after (text ++ last) → EndsAs r ended.status ended o) → EndsAs r result.status result o
 ends_written r o between faults waiting text last ended result s writes later begins ends =
     elim writes [

@@ -65,7 +65,7 @@ pub unread_ran : {H L E : Type 0} (r : Reporting H L E) (o : Outside) (held : Li
 unread_ran r o held why result has u writes later =
     ran_by r result o
     (header_halted r o held o.sink.faults_before (record { sent = 0; bytes = [] }) why result has (unread_halts r.format (TakesMemory r.memory) why u.text o.source.before (prepend_known held o.source.after) u.lines u.finds u.goes)
-    (halts_after o.source.before o.source.before o.source.after held 0 u.lines why (took_none o.source.before) u.goes u.stalls u.most) u.stalls u.blames refl refl writes (omega arith))
+    (halts_after o.source.before o.source.before o.source.after held 0 u.lines why (took_none o.source.before) u.goes u.stalls u.most) u.stalls u.blames refl refl writes refl)
     (counted_halted (Unit {0}) o o.sink.before o.source.faults_before o.sink.faults_before 0 [] why result u.blames u.later refl (λ some. absurd (omega (arith, some))) refl writes later)
 
 -- and no machine was begun

@@ -2,7 +2,7 @@
 use Rattle.std.specs.Prelude.{◌≡◌, ℕ, List, [], ◌∷◌, ◌++◌, Option, Result, Ok, Err, IfSome, Bool, IsTrue}
 use Rattle.std.specs.Io.KnownBytes.{Consumes}
 use Rattle.fsoe_io.specs.Line.{IsLine}
-use Rattle.schedule_file.specs.Input.{InputCause, InputFormat, Line, Refused, lines_of, header_read}
+use Rattle.schedule_file.specs.Input.{InputCause, InputFormat, Line, lines_of, header_read}
 use Rattle.schedule_file.specs.declared.line_cause.LineCause.{LineCause}
 use Rattle.file_run.specs.Refusal.{input_cause}
 use Rattle.file_run.specs.ByTitle.{first_line}

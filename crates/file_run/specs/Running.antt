@@ -6,7 +6,6 @@ use Rattle.fsoe_io.specs.Line.{most_held}
 use Rattle.fsoe_io.specs.Output.{OutputView, most_waiting}
 use Rattle.fsoe_io.specs.Sink.{Grew}
 use Rattle.fsoe_io.specs.declared.status.Ended.{Ended}
-use Rattle.fsoe_io.specs.declared.status.Status.TheVariants as status
 use Rattle.schedule_file.specs.Input.{InputCause, InputFormat, InputOf, lines_of, texts, steps, with_room, stop_at, input_read}
 use Rattle.schedule_file.specs.Limits.{max_events}
 use Rattle.schedule_file.specs.declared.line_cause.LineCause.{LineCause}

@@ -24,7 +24,7 @@ pub trait Desk {
     ghost faults: { Self → List ℕ → ℕ };
 
     /// Returns the bytes under the name. `TooLong` if and only if loading didn't fail and they are more than `limit`.
-    /// `Failed` only if the count of this name rose or is 2^64 - 1. `Memory` if there is none for the bytes.
+    /// `Failed` only if the count of this name rose by one or is 2^64 - 1. `Memory` if there is none for the bytes.
     fn load(&mut self, name: &str, limit: usize) -> Result<Vec<u8>, LoadFault>
         ensures bytes { IfOk result (λ text. IfSome (holds self.old name.now) (λ held. text.items ≡ held)) }
         ensures within { IfOk result (λ text. length text.items ≤ limit) }

@@ -51,7 +51,7 @@ impl FailedLoads {
         }
     }
 
-    /// Records the name of a load that failed: the count of this name rises, and no other.
+    /// Records the name of a load that failed: the count of this name rises by one, and no other.
     #[tactic(auto, using(crate::proofs::Shelves::failed_rose))]
     pub fn note(&mut self, name: String)
         requires { 0 < self.old.room }

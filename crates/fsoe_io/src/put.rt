@@ -12,8 +12,8 @@ pub struct Partial {
     pub done: usize,
 }
 
-/// Writes all the bytes, in as many calls as needed. `Partial` only if the sink's count of faults rose; then exactly
-/// the first `done` bytes were written.
+/// Writes all the bytes, in as many calls as needed, and in none after one that failed. `Partial` only if the sink's
+/// count of faults rose by one or is 2^64 - 1; then exactly the first `done` bytes were written.
 pub fn put_all<K: Sink>(sink: &mut K, bytes: &[u8]) -> Result<(), Partial>
     ensures bytes { MatchResult result
         (λ _. Grew (K.written sink.old) (K.written sink.new) bytes.now)

@@ -158,7 +158,7 @@ ends_write o ended whole e p begins rose =
 -- a run ends as it is to, or a write failed at the end
 ends_written : (o : Outside) (between : Option (List ℕ)) (faults : ℕ) (waiting : OutputView) (text last : List ℕ) (ended result : Ended) → Sent o.sink.before between waiting text
     → Writes waiting.sent (waiting.bytes ++ last) ended result (record { before = between; after = o.sink.after; faults_before = faults; faults_after = o.sink.faults_after })
-    → o.sink.faults_before ≤ faults → Begins o.source.before (text ++ last) → (Grew o.sink.before o.sink.after (text ++ last) → ConvertedAs ended.status ended o) → ConvertedAs result.status result o
+    → faults ≡ o.sink.faults_before → Begins o.source.before (text ++ last) → (Grew o.sink.before o.sink.after (text ++ last) → ConvertedAs ended.status ended o) → ConvertedAs result.status result o
 ends_written o between faults waiting text last ended result s writes later begins ends =
     elim writes [
       | inl whole ↦ subst (λ (x : Ended). ConvertedAs x.status x o) (sym whole.0) (ends (grew_written o.sink.before between o.sink.after waiting text last s whole.1))
@@ -213,7 +213,7 @@ all_ended (Some xs) (Some ys) (Some zs) before text line r next number tells is 
     tells_at xs ys before r number tells ∙ ap (after_part before) (told_next number r next line text ys zs true is goes taken)
 
 pub ends_at_end : (o : Outside) (b c w1 : Option (List ℕ)) (faults : ℕ) (waiting : OutputView) (r next : PairRead) (lines : ℕ) (text : List ℕ) (result : Ended) → Converting o.source.before b o.sink.before w1 waiting r lines → FindsTaken (lines + 1) r (Ok true) next text b c
-    → Writes waiting.sent (waiting.bytes ++ text) (ended_at_stop AtEnd) result (record { before = w1; after = o.sink.after; faults_before = faults; faults_after = o.sink.faults_after }) → o.sink.faults_before ≤ faults → ConvertedAs result.status result o
+    → Writes waiting.sent (waiting.bytes ++ text) (ended_at_stop AtEnd) result (record { before = w1; after = o.sink.after; faults_before = faults; faults_after = o.sink.faults_after }) → faults ≡ o.sink.faults_before → ConvertedAs result.status result o
 ends_at_end o b c w1 faults waiting r next lines text result k finds writes later =
     let all = all_ended o.source.before b c k.text text finds.0 r next (lines + 1) k.tells finds.1 finds.2 finds.3 in
     ends_written o w1 faults waiting k.text text (ended_at_stop AtEnd) result k.sent writes later (all_begins o.source.before (k.text ++ text) (ended_at_stop AtEnd) all)
@@ -259,7 +259,7 @@ read_told (Some xs) left after held text r lines count k same goes none =
 -- the input goes no further
 pub ends_halted : (o : Outside) (b w1 : Option (List ℕ)) (held : List ℕ) (source faults : ℕ) (waiting : OutputView) (r next : PairRead) (lines after : ℕ) (text : List ℕ) (why : Halt) (result : Ended) → Converting o.source.before b o.sink.before w1 waiting r lines
     → FindsTaken (lines + 1) r (Err why) next text b (prepend_known held o.source.after) → Goes {T = Bool} (Err why) lines after b (prepend_known held o.source.after) → Stalls {T = Bool} (Err why) held → length held ≤ most_held → Blames {T = Bool} (Err why) source o.source.faults_after
-    → o.source.faults_before ≤ source → Writes waiting.sent (waiting.bytes ++ last_of why) (halted_by why) result (record { before = w1; after = o.sink.after; faults_before = faults; faults_after = o.sink.faults_after }) → o.sink.faults_before ≤ faults
+    → source ≡ o.source.faults_before → Writes waiting.sent (waiting.bytes ++ last_of why) (halted_by why) result (record { before = w1; after = o.sink.after; faults_before = faults; faults_after = o.sink.faults_after }) → o.sink.faults_before ≤ faults
     → ConvertedAs result.status result o
 ends_halted o b w1 held source faults waiting r next lines after text (halt.Read count) result k finds goes stalls most blames earlier writes later =
     let begun = begins o.source.before b k.text r (lines + 1) k.tells in

@@ -19,7 +19,7 @@ returns-in-Err g c =
     let stays = c.loop-output.invariant.sink_stays in
     ran_by _ _
     (ends_unsent _ _ _ _ _ c.loop-output.reading c.loop-output.reader.lines puts.0 c.write_failed.result c.loop-output.invariant.running puts.1 c.write_failed.ensures.status c.write_failed.ensures.place
-    (rose_since _ _ _ (omega (arith, stays)) cause.failed))
+    (rose_since _ _ _ stays cause.failed))
     (counted_write c.write_failed.result _ c.write_failed.ensures.status c.loop-output.invariant.source_stays (omega (arith, stays, cause.later)))
 
 pub returns-in-Err-next_taken : goal.returns-in-Err-next_taken
@@ -30,7 +30,7 @@ returns-in-Err-next_taken g c =
     let stays = c.in_default.ensures.cause.stayed ∙ c.loop-output.invariant.sink_stays in
     ran_by _ _
     (ends_halted _ _ _ c.next_taken.new.reader.bytes (g.S.Source.faults c.loop-output.source) _ _ c.loop-output.reading c.next_taken.new.reading c.loop-output.reader.lines c.next_taken.new.reader.lines c.next_taken.new.text c.in-Err-next_taken.why c.halt.result
-    sent next.finds next.goes next.stalls next.most next.cause (omega (arith, source)) c.halt.ensures.writes (omega (arith, stays)))
+    sent next.finds next.goes next.stalls next.most next.cause source c.halt.ensures.writes stays)
     (counted_halted Bool _ _ _ _ _ c.send_before_read.new.output.bytes c.in-Err-next_taken.why c.halt.result next.cause next.later source
     (λ some. ap g.S.Source.faults (next.unread (λ is. let none = ap (length {A = ℕ}) (c.in_default.ensures.sent is) in absurd (omega (arith, some, none))))) stays c.halt.ensures.writes c.halt.ensures.later)
 
@@ -41,7 +41,7 @@ returns-then-ends g c =
     let stays = c.in_default.ensures.cause.stayed ∙ c.loop-output.invariant.sink_stays in
     ran_by _ _
     (ends_at_end _ _ _ _ _ _ c.loop-output.reading c.next_taken.new.reading c.loop-output.reader.lines c.bytes.result.now c.close.result sent (rw (c.if-ends.true, ← c.bytes.ensures.value) at next.finds) c.close.ensures.writes
-    (omega (arith, stays)))
+    stays)
     (counted_last _ _ _ _ _ _ c.close.result (next.cause ∙ c.loop-output.invariant.source_stays) stays c.close.ensures.writes c.close.ensures.later)
 
 pub returns-in-Err-put : goal.returns-in-Err-put
@@ -53,7 +53,7 @@ returns-in-Err-put g c =
     let cause = c.in-Err-put.ensures.cause in
     ran_by _ _
     (ends_lost _ _ _ _ _ _ c.loop-output.reading c.next_taken.new.reading c.loop-output.reader.lines c.bytes-in-loop-output.result.now puts.0 c.write_failed-in-Err-put.result sent (rw (c.if-ends.false, ← c.bytes-in-loop-output.ensures.value) at next.finds) puts.1
-    c.write_failed-in-Err-put.ensures.status c.write_failed-in-Err-put.ensures.place (rose_since _ _ _ (omega (arith, stays)) cause.failed))
+    c.write_failed-in-Err-put.ensures.status c.write_failed-in-Err-put.ensures.place (rose_since _ _ _ stays cause.failed))
     (counted_write c.write_failed-in-Err-put.result _ c.write_failed-in-Err-put.ensures.status (next.cause ∙ c.loop-output.invariant.source_stays) (omega (arith, stays, cause.later)))
 
 pub loop-output-preserved : goal.loop-output-preserved

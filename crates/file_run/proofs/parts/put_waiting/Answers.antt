@@ -62,6 +62,6 @@ returns-in-Err-clause-kept g c = λ first h log text stood. c.more.ensures.kept 
 pub returns-in-Err-clause-cause : goal.returns-in-Err-clause-cause
 returns-in-Err-clause-cause g c = record {
   later = omega (arith, c.loop-part.invariant.stays, c.in-Err.ensures.cause.later);
-  failed = rose_since _ _ _ (omega (arith, c.loop-part.invariant.stays)) c.in-Err.ensures.cause.failed;
+  failed = rose_since _ _ _ c.loop-part.invariant.stays c.in-Err.ensures.cause.failed;
   stayed = tt;
 }

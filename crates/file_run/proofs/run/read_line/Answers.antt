@@ -14,7 +14,7 @@ returns-in-Err g c =
       ran_by _ _ _
           (ends_unsent (g.M.Machine.reporting first) (g.M.Machine.stands first c.args.run.now.machine c.args.handed.now) _ _ _ _ _ _ _ _ puts.0 c.write_failed.result
           (c.laws.ensures.so_far first c.args.run.now.machine c.args.handed.now) runs.running puts.1
-          c.write_failed.ensures.status c.write_failed.ensures.place (rose_since _ _ _ (omega (arith, runs.sink_stays)) cause.failed))
+          c.write_failed.ensures.status c.write_failed.ensures.place (rose_since _ _ _ runs.sink_stays cause.failed))
           (counted_write c.write_failed.result _ c.write_failed.ensures.status runs.source_stays (omega (arith, runs.sink_stays, cause.later))),
       left_unsent (g.M.Machine.reporting first) (g.M.Machine.stands first c.args.run.now.machine c.args.handed.now) (λ h log text. (v : g.row.M.Denot) × g.M.Machine.stands first v c.args.handed.now h log text) (g.M.Machine.closes first c.args.handed.now) _ _ _ _ _ _ _ _ puts.0 c.write_failed.result runs.running
           (c.laws.ensures.so_far first c.args.run.now.machine c.args.handed.now) (c.args.run.now.machine, runs.running.stood) puts.1 c.write_failed.ensures.status c.write_failed.ensures.place,
@@ -30,7 +30,7 @@ returns-in-Err-next_event g c =
           (ends_halted (g.M.Machine.reporting first) (g.M.Machine.stands first c.args.run.now.machine c.args.handed.now) _ c.is_full-full.result _ _ c.next_event.new.reader.bytes _ _ _ _ _ _ _ c.in-Err-next_event.why c.halt.result
           (c.laws.ensures.so_far first c.args.run.now.machine c.args.handed.now) sent
           (halts_as (g.M.Format.Format.format k) (g.M.Machine.reporting first).format _ c.is_full-full.result c.in-Err-next_event.why _ _ same (next.finds k))
-          (c.is_full-full.ensures.full first) next.goes next.stalls next.most next.cause (omega (arith, runs.source_stays)) c.halt.ensures.writes (omega (arith, stays)))
+          (c.is_full-full.ensures.full first) next.goes next.stalls next.most next.cause runs.source_stays c.halt.ensures.writes stays)
           (counted_halted (Unit {0}) _ _ _ _ _ c.send_before_read.new.output.bytes c.in-Err-next_event.why c.halt.result next.cause next.later runs.source_stays
           (λ some. ap g.S.Source.faults (next.unread (λ is. let none = ap (length {A = ℕ}) (c.in_default.ensures.sent is) in absurd (omega (arith, some, none))))) stays c.halt.ensures.writes c.halt.ensures.later),
       left_halted (g.M.Machine.reporting first) (g.M.Machine.stands first c.args.run.now.machine c.args.handed.now) (λ h log text. (v : g.row.M.Denot) × g.M.Machine.stands first v c.args.handed.now h log text) (g.M.Machine.closes first c.args.handed.now) _ c.is_full-full.result _ _ _ _ _ _ _ _ _ c.in-Err-next_event.why c.halt.result sent

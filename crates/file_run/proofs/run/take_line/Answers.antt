@@ -24,7 +24,7 @@ returns-in_default g c =
       ran_by _ _ _
           (ends_at_end (g.M.Machine.reporting first) (g.M.Machine.stands first c.args.run.now.machine c.args.handed.now) _ _ _ _ c.args.reader.now.bytes _ _ _ _ _ (c.close-ended.new.text ++ g.M.Machine.waits c.close-ended.new.self c.args.handed.now) c.close-ended.result c.close_run.result sent finds
           read.most read.fullness (λ h log text count stood. c.laws.ensures.whole first c.args.handed.now h log _ c.close-ended.result (c.close-ended.ensures.closes first h log text count stood)) (c.close-ended.ensures.ends first)
-          c.close_run.ensures.writes (omega (arith, read.sink_stays)))
+          c.close_run.ensures.writes read.sink_stays)
           (counted_last _ _ _ _ _ c.close-ended.result c.close_run.result read.source_stays read.sink_stays c.close_run.ensures.writes c.close_run.ensures.later),
       left_at_end (g.M.Machine.reporting first) (g.M.Machine.stands first c.args.run.now.machine c.args.handed.now) (λ h log text. (v : g.row.M.Denot) × g.M.Machine.stands first v c.args.handed.now h log text) (g.M.Machine.closes first c.args.handed.now) _ _ _ _ _ _ _ _ _ _ (c.close-ended.new.text ++ g.M.Machine.waits c.close-ended.new.self c.args.handed.now) c.close-ended.result c.close_run.result sent
           (c.laws.ensures.so_far first c.args.run.now.machine c.args.handed.now) (c.args.run.now.machine, sent.stood) finds read.fullness (c.close-ended.ensures.closes first sent.heading sent.log sent.text sent.count sent.stood)
@@ -39,7 +39,7 @@ returns-in-Err g c =
       ran_by _ _ _
           (ends_stopped (g.M.Machine.reporting first) (g.M.Machine.stands first c.args.run.now.machine c.args.handed.now) _ _ _ _ c.args.reader.now.bytes _ _ _ _ _ c.lines.result c.in-Some.event.now c.in-Err.why c.halt.result
           (c.laws.ensures.so_far first c.args.run.now.machine c.args.handed.now) sent finds read.most read.fullness
-          (c.lines.ensures ∙ read.next) (c.in-Err.ensures.stopped first) (rw c.halt_stopped.ensures at c.halt.ensures.writes) (omega (arith, read.sink_stays)))
+          (c.lines.ensures ∙ read.next) (c.in-Err.ensures.stopped first) (rw c.halt_stopped.ensures at c.halt.ensures.writes) read.sink_stays)
           (counted_last _ _ _ _ _ _ c.halt.result read.source_stays read.sink_stays c.halt.ensures.writes c.halt.ensures.later),
       left_stopped (g.M.Machine.reporting first) (g.M.Machine.stands first c.args.run.now.machine c.args.handed.now) (λ h log text. (v : g.row.M.Denot) × g.M.Machine.stands first v c.report.new.handed h log text) (g.M.Machine.closes first c.report.new.handed) _ _ _ _ _ _ _ _ _ _ c.lines.result c.in-Some.event.now c.in-Err.why c.halt.result sent
           (c.laws.ensures.so_far first c.args.run.now.machine c.args.handed.now) (c.report.new.self, c.in-Err.ensures.kept first sent.heading sent.log sent.text sent.stood)
@@ -57,7 +57,7 @@ returns-in-Err-put_text g c =
       ran_by _ _ _
           (ends_lost (g.M.Machine.reporting first) (g.M.Machine.stands first c.args.run.now.machine c.args.handed.now) (g.M.Machine.stands first c.report.new.self c.report.new.handed) _ _ _ _ _ _ _ _ _ _ c.in-Some.event.now (c.report.new.text ++ g.M.Machine.waits c.report.new.self c.report.new.handed) puts.0 c.write_failed.result
           (c.laws.ensures.so_far first c.report.new.self c.report.new.handed) sent finds read.fullness on puts.1 c.write_failed.ensures.status c.write_failed.ensures.place
-          (rose_since _ _ _ (omega (arith, read.sink_stays)) cause.failed))
+          (rose_since _ _ _ read.sink_stays cause.failed))
           (counted_write c.write_failed.result _ c.write_failed.ensures.status read.source_stays (omega (arith, read.sink_stays, cause.later))),
       left_lost (g.M.Machine.reporting first) (g.M.Machine.stands first c.args.run.now.machine c.args.handed.now) (λ h log text. (v : g.row.M.Denot) × g.M.Machine.stands first v c.report.new.handed h log text) (g.M.Machine.closes first c.report.new.handed) _ _ _ _ _ _ _ _ _ _ c.in-Some.event.now (c.report.new.text ++ g.M.Machine.waits c.report.new.self c.report.new.handed) puts.0 c.write_failed.result sent
           (c.laws.ensures.so_far first c.args.run.now.machine c.args.handed.now) finds read.fullness (c.report.new.self, on.takes sent.heading sent.log sent.text (omega (arith, sent.count)) sent.stood) puts.1 c.write_failed.ensures.status c.write_failed.ensures.place,
