@@ -18,6 +18,7 @@ use Rattle.schedule_file.specs.declared.pairs_line.PairsEvent.TheVariants as pai
 use Rattle.schedule_file.specs.declared.header_kind.HeaderKind.TheVariants as kind
 use Rattle.file_run.specs.Ending.{Appended, LinesBefore, ReadLines}
 use Rattle.file_run.specs.Outside.{CountsFaults, Outside, Wrote}
+use Rattle.file_run.specs.Ran.{ReadsWhole}
 use Rattle.file_run.specs.Report.{refused_line}
 use Rattle.file_run.specs.Reporting.{IsPrefix, refused_at}
 use Rattle.file_run.specs.WholeLines.{ReadsUpTo}
@@ -94,9 +95,10 @@ pub record ConvertedToRefused (ended : Ended) (o : Outside) : Type 0 where
   pub read : ReadsUpTo ended.place o.source.before o.source.after
   pub wrote : WroteAll ended o
 
--- the input came to its `end`, and what was written says the same
+-- the input came to its `end`, no more was read, and what was written says the same
 pub record ConvertedToEnd (ended : Ended) (o : Outside) : Type 0 where
   pub place_is : ended.place ≡ 0
+  pub read : ReadsWhole (schedule_format kind.Pair) o.source.before o.source.after
   pub wrote : WroteAll ended o
   pub same : Wrote o SaysTheSame
 

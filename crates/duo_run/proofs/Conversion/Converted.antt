@@ -5,26 +5,28 @@ use Rattle.std.specs.List.{flat_map}
 use Rattle.std.specs.Str.{bytes_eq}
 use Rattle.fsoe_io.specs.declared.status.Ended.{Ended}
 use Rattle.schedule_file.specs.Header.{Heading, heading_after, heading_is_whole, heading_new}
-use Rattle.schedule_file.specs.Input.{AtEnd, InputCause, Line, NoLine, Refused, Stop, TooMany, WholeHeader, event_of, header_in, header_of, header_step, input_by, input_of, is_full, lines_of, said_after, schedule_format, steps, stop_at, stop_by, stop_full, texts, with_room}
+use Rattle.schedule_file.specs.Input.{AtEnd, InputCause, Line, NoLine, Refused, Stop, TooMany, WholeHeader, event_of, header_in, header_of, header_step, input_after, input_by, is_full, lines_of, said_after, schedule_format, steps, stop_at, stop_by, stop_full, texts, with_room}
 use Rattle.schedule_file.specs.declared.event.Event.{Event}
 use Rattle.schedule_file.specs.declared.event.ScheduleLine.{ScheduleLine}
 use Rattle.schedule_file.specs.declared.event.ScheduleLine.TheVariants as said
 use Rattle.schedule_file.specs.declared.header_kind.HeaderKind.TheVariants as kind
 use Rattle.schedule_file.specs.declared.line_cause.LineCause.{LineCause}
+use Rattle.file_run.specs.Ran.{line_of_end}
 use Rattle.file_run.specs.Report.{refused_line}
 use Rattle.file_run.specs.Reporting.{refused_at}
 use Rattle.std.proofs.lemmas.Bool.Decides.{nat_tests}
 use Rattle.std.proofs.lemmas.List.{append-nil, length_push}
-use Rattle.duo_run.specs.Convert.{converted, converted_by, ended_at_stop, event_text, header_text, last_text, line_text, lines_before, title_text}
+use Rattle.duo_run.specs.Convert.{converted_by, ended_at_stop, event_text, header_text, last_text, line_text, title_text}
 use Rattle.duo_run.specs.Converting.{LineTaken, PairRead, end_taken, event_taken, full_taken, header_piece, header_taken, later_taken, line_taken, read_none}
 
 abbrev pub Lines : Type 0
 Lines = List (Result (List ℕ) InputCause)
 
--- a text that is written, and how the run ends that writes it
+-- a text that is written, how the run ends that writes it, and the number of the line that ends it
 pub record Whole : Type 0 where
   pub text : List ℕ
   pub ended : Ended
+  pub line : ℕ
 
 -- the same after a first part
 abbrev pub after_part : List ℕ → Whole → Whole
@@ -32,15 +34,19 @@ after_part part whole = record whole { text = part ++ whole.text }
 
 -- what is written where the line of this number is refused
 abbrev pub refused_whole : ℕ → InputCause → Whole
-refused_whole number why = record { text = refused_line number why; ended = refused_at number }
+refused_whole number why = record { text = refused_line number why; ended = refused_at number; line = number }
 
-abbrev pub ends_or : Bool → List ℕ → Whole → Whole
-ends_or true text later = record { text = text; ended = ended_at_stop AtEnd }
-ends_or false text later = after_part text later
+-- and where it is the last
+abbrev pub end_whole : ℕ → List ℕ → Whole
+end_whole number text = record { text = text; ended = ended_at_stop AtEnd; line = number }
+
+abbrev pub ends_or : ℕ → Bool → List ℕ → Whole → Whole
+ends_or number true text later = end_whole number text
+ends_or number false text later = after_part text later
 
 -- what is written of a line that was taken so, and of those after it
 abbrev pub told_by : ℕ → Result LineTaken InputCause → (PairRead → Whole) → Whole
-told_by number (Ok taken) later = ends_or taken.ends taken.text (later taken.next)
+told_by number (Ok taken) later = ends_or number taken.ends taken.text (later taken.next)
 told_by number (Err why) later = refused_whole number why
 
 -- what is written of lines, of which the first has this number, one by one
@@ -49,9 +55,9 @@ told number r [] = refused_whole number NoLine
 told number r (Err why ∷ rest) = refused_whole number why
 told number r (Ok line ∷ rest) = told_by number (line_taken number r line) (λ next. told (number + 1) next rest)
 
--- what is written after a header, by its events: so many of these lines, and the last
-abbrev later_whole : ℕ → Stop → List (List ℕ) → Whole
-later_whole n stop lines = record { text = flat_map event_text (take n lines) ++ last_text stop; ended = ended_at_stop stop }
+-- what is written after a header, by its events: so many of these lines, and the last, which has this number
+abbrev later_whole : ℕ → ℕ → Stop → List (List ℕ) → Whole
+later_whole n number stop lines = record { text = flat_map event_text (take n lines) ++ last_text stop; ended = ended_at_stop stop; line = number }
 
 -- the events that stand after others in lines, and how these stop the input
 abbrev events_in : Heading → List Event → Lines → List Event
@@ -63,19 +69,19 @@ reading h log = record { heading = h; events = length log }
 -- the same, where these are the events
 abbrev result_of : Heading → ℕ → List Event → Lines → List Event → Whole
 result_of h number log lines es =
-    later_whole (length es) (stop_at (schedule_format kind.Pair) h (number + length es) (is_full (log ++ es)) (slice_get lines (length es))) (texts lines)
+    later_whole (length es) (number + length es) (stop_at (schedule_format kind.Pair) h (number + length es) (is_full (log ++ es)) (slice_get lines (length es))) (texts lines)
 
 -- what is written of the last line alone
-abbrev last_whole : Stop → Whole
-last_whole stop = record { text = last_text stop; ended = ended_at_stop stop }
+abbrev last_whole : ℕ → Stop → Whole
+last_whole number stop = record { text = last_text stop; ended = ended_at_stop stop; line = number }
 
 abbrev stop_line : ℕ → List ℕ → Bool → Result ScheduleLine LineCause → Stop
 stop_line number text full says = if full then stop_full number text else stop_by event_of number says
 
-no_events : (h : Heading) (number : ℕ) (log : List Event) (text : List ℕ) (rest : Lines) → result_of h number log (Ok text ∷ rest) [] ≡ last_whole (stop_line number text (is_full log) (said_after kind.Pair h text))
+no_events : (h : Heading) (number : ℕ) (log : List Event) (text : List ℕ) (rest : Lines) → result_of h number log (Ok text ∷ rest) [] ≡ last_whole number (stop_line number text (is_full log) (said_after kind.Pair h text))
 no_events h number log text rest =
-    ap (λ (n : ℕ). last_whole (stop_line n text (is_full (log ++ [])) (said_after kind.Pair h text))) (add-zero number)
-    ∙ ap (λ (es : List Event). last_whole (stop_line number text (is_full es) (said_after kind.Pair h text))) (append-nil log)
+    ap (λ (n : ℕ). last_whole n (stop_line n text (is_full (log ++ [])) (said_after kind.Pair h text))) (add-zero number)
+    ∙ ap (λ (es : List Event). last_whole number (stop_line number text (is_full es) (said_after kind.Pair h text))) (append-nil log)
 
 -- one event more
 one_event : (h : Heading) (number : ℕ) (log : List Event) (text : List ℕ) (rest : Lines) (event : Event) (es : List Event)
@@ -83,18 +89,19 @@ one_event : (h : Heading) (number : ℕ) (log : List Event) (text : List ℕ) (r
 one_event h number log text rest event es =
     let stop : ℕ → List Event → Stop = λ n all. stop_at (schedule_format kind.Pair) h n (is_full all) (slice_get rest (length es)) in
     let lines : List ℕ = flat_map event_text (take (length es) (texts rest)) in
-    let at : number + 1 + length es ≡ number + length (event ∷ es) = omega arith in
+    let last : ℕ = number + length (event ∷ es) in
+    let at : number + 1 + length es ≡ last = omega arith in
     let all : (log ++ event ∷ []) ++ es ≡ log ++ event ∷ es = append_assoc log (event ∷ []) es in
-    ap (λ (s : Stop). record { text = event_text text ++ (lines ++ last_text s); ended = ended_at_stop s })
-    (ap (λ (n : ℕ). stop n ((log ++ event ∷ []) ++ es)) at ∙ ap (stop (number + length (event ∷ es))) all)
-    ∙ ap (λ (t : List ℕ). record { text = t; ended = ended_at_stop (stop (number + length (event ∷ es)) (log ++ event ∷ es)) })
-    (sym (append_assoc (event_text text) lines (last_text (stop (number + length (event ∷ es)) (log ++ event ∷ es)))))
+    ap (λ (n : ℕ). after_part (event_text text) (later_whole (length es) n (stop n ((log ++ event ∷ []) ++ es)) (texts rest))) at
+    ∙ ap (λ (log : List Event). after_part (event_text text) (later_whole (length es) last (stop last log) (texts rest))) all
+    ∙ ap (λ (t : List ℕ). record { text = t; ended = ended_at_stop (stop last (log ++ event ∷ es)); line = last })
+    (sym (append_assoc (event_text text) lines (last_text (stop last (log ++ event ∷ es)))))
 
 -- what is written of a line after the header
 abbrev of_line : ℕ → PairRead → List ℕ → Lines → Bool → Result ScheduleLine LineCause → Whole
 of_line number r text rest full says = told_by number (if full then full_taken r text else event_taken r text says) (λ next. told (number + 1) next rest)
 
-full_line : (number : ℕ) (r : PairRead) (text : List ℕ) (later : PairRead → Whole) (is_end : Bool) → told_by number (if is_end then Ok (end_taken r) else Err TooMany) later ≡ last_whole (if is_end then AtEnd else Refused number TooMany)
+full_line : (number : ℕ) (r : PairRead) (text : List ℕ) (later : PairRead → Whole) (is_end : Bool) → told_by number (if is_end then Ok (end_taken r) else Err TooMany) later ≡ last_whole number (if is_end then AtEnd else Refused number TooMany)
 full_line number r text later true = refl
 full_line number r text later false = refl
 
@@ -114,18 +121,18 @@ line_told : (h : Heading) (number : ℕ) (log : List Event) (text : List ℕ) (r
     → of_line number (reading h log) text rest full says ≡ result_of h number log (Ok text ∷ rest) (events_by h log rest says)
 line_told h number log text rest later true says e d =
     full_line number (reading h log) text (λ next. told (number + 1) next rest) (bytes_eq text (codes "end"))
-    ∙ ap (λ (b : Bool). last_whole (stop_line number text b (said_after kind.Pair h text))) (sym e) ∙ sym (no_events h number log text rest)
+    ∙ ap (λ (b : Bool). last_whole number (stop_line number text b (said_after kind.Pair h text))) (sym e) ∙ sym (no_events h number log text rest)
     ∙ ap (result_of h number log (Ok text ∷ rest)) (sym (none_when_full h log rest says e))
 line_told h number log text rest later false (Ok (said.Step event)) e d =
     ap (λ (n : ℕ). after_part (event_text text) (told (number + 1) (record { heading = h; events = n }) rest)) (sym (length_push log event))
     ∙ ap (after_part (event_text text)) (later event) ∙ one_event h number log text rest event (events_in h (log ++ event ∷ []) rest)
     ∙ ap (λ (b : Bool). result_of h number log (Ok text ∷ rest) (if b then [] else event ∷ events_in h (log ++ event ∷ []) rest)) (sym e)
 line_told h number log text rest later false (Ok said.End) e d =
-    ap (λ (s : Result ScheduleLine LineCause). last_whole (stop_line number text false s)) (sym d)
-    ∙ ap (λ (b : Bool). last_whole (stop_line number text b (said_after kind.Pair h text))) (sym e) ∙ sym (no_events h number log text rest)
+    ap (λ (s : Result ScheduleLine LineCause). last_whole number (stop_line number text false s)) (sym d)
+    ∙ ap (λ (b : Bool). last_whole number (stop_line number text b (said_after kind.Pair h text))) (sym e) ∙ sym (no_events h number log text rest)
 line_told h number log text rest later false (Err cause) e d =
-    ap (λ (s : Result ScheduleLine LineCause). last_whole (stop_line number text false s)) (sym d)
-    ∙ ap (λ (b : Bool). last_whole (stop_line number text b (said_after kind.Pair h text))) (sym e) ∙ sym (no_events h number log text rest)
+    ap (λ (s : Result ScheduleLine LineCause). last_whole number (stop_line number text false s)) (sym d)
+    ∙ ap (λ (b : Bool). last_whole number (stop_line number text b (said_after kind.Pair h text))) (sym e) ∙ sym (no_events h number log text rest)
 
 told_events : (h : Heading) → heading_is_whole h ≡ true → (number : ℕ) (log : List Event) (lines : Lines) → told number (reading h log) lines ≡ result_of h number log lines (events_in h log lines)
 told_events h whole number log [] = ap (λ (n : ℕ). refused_whole n NoLine) (sym (add-zero number))
@@ -227,11 +234,20 @@ told_header m h (Ok line ∷ rest) open_yet =
     subst (λ (w : Whole). Goes m (Ok line ∷ rest) w (header_in (schedule_format kind.Pair) (m + 1) h (Ok line ∷ rest))) at
     (heading_told m h line rest (λ next e. told_header (m + 1) next rest e) (heading_after h line))
 
--- what an input is converted to, and how the conversion ends
-abbrev pub converted_whole : List ℕ → Whole
-converted_whole bytes = record { text = converted bytes; ended = ended_at_stop (input_of kind.Pair bytes).stop }
+-- the number of the line that ends an input, by its header
+abbrev pub last_number : Result WholeHeader Stop → ℕ
+last_number (Ok headed) = line_of_end (input_after (schedule_format kind.Pair) headed)
+last_number (Err AtEnd) = 1
+last_number (Err (Refused number why)) = number
 
-by_header : (lines : Lines) (whole : Whole) (r : Result WholeHeader Stop) → Goes 0 lines whole r → whole ≡ record { text = converted_by r (texts lines); ended = ended_at_stop (input_by (schedule_format kind.Pair) r).stop }
+-- what an input is converted to, and how the conversion ends
+abbrev whole_by : Result WholeHeader Stop → List (List ℕ) → Whole
+whole_by r lines = record { text = converted_by r lines; ended = ended_at_stop (input_by (schedule_format kind.Pair) r).stop; line = last_number r }
+
+abbrev pub converted_whole : List ℕ → Whole
+converted_whole bytes = whole_by (header_of kind.Pair bytes) (texts (lines_of bytes))
+
+by_header : (lines : Lines) (whole : Whole) (r : Result WholeHeader Stop) → Goes 0 lines whole r → whole ≡ whole_by r (texts lines)
 by_header lines whole (Ok headed) heads =
     let h : Heading = headed.heading in
     let es : List Event = events_in h [] headed.rest in
@@ -239,12 +255,18 @@ by_header lines whole (Ok headed) heads =
     let j : heads.0 ≡ headed.lines = omega (arith, heads.1) in
     heads.3 ∙ ap (after_part (header_text (take heads.0 (texts lines)))) (told_events h heads.2 (headed.lines + 1) [] headed.rest)
     ∙ ap (λ (n : ℕ). after_part (header_text (take n (texts lines))) (result_of h (headed.lines + 1) [] headed.rest es)) j
-    ∙ ap (λ (n : ℕ). after_part (header_text (take headed.lines (texts lines))) (later_whole (length es) (stop_at (schedule_format kind.Pair) h n (is_full es) (slice_get headed.rest (length es))) (texts headed.rest))) at
+    ∙ ap (λ (n : ℕ). after_part (header_text (take headed.lines (texts lines))) (later_whole (length es) n (stop_at (schedule_format kind.Pair) h n (is_full es) (slice_get headed.rest (length es))) (texts headed.rest))) at
 by_header lines whole (Err stop) halts =
     let why : InputCause = halts.1 in
     let before : 0 + halts.0 + 1 - 1 ≡ halts.0 = omega arith in
     halts.3 ∙ ap (λ (n : ℕ). after_part (header_text (take n (texts lines))) (refused_whole (0 + halts.0 + 1) why)) (sym before)
-    ∙ ap (λ (s : Stop). record { text = header_text (take (lines_before s) (texts lines)) ++ last_text s; ended = ended_at_stop s }) (sym halts.2)
+    ∙ ap (λ (s : Stop). whole_by (Err s) (texts lines)) (sym halts.2)
+
+-- by `end` that line is the one after the events
+pub last_is : (r : Result WholeHeader Stop) → (input_by (schedule_format kind.Pair) r).stop ≡ AtEnd → last_number r ≡ line_of_end (input_by (schedule_format kind.Pair) r)
+last_is (Ok headed) e = refl
+last_is (Err AtEnd) e = refl
+last_is (Err (Refused number why)) e = cc
 
 pub told_whole : (bytes : List ℕ) → told 1 read_none (lines_of bytes) ≡ converted_whole bytes
 told_whole bytes = by_header (lines_of bytes) (told 1 read_none (lines_of bytes)) (header_of kind.Pair bytes) (told_header 0 (heading_new kind.Pair) (lines_of bytes) refl)

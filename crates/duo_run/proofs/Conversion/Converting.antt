@@ -20,7 +20,7 @@ use Rattle.param_load.specs.declared.profile.Profile.{Profile}
 use Rattle.param_load.specs.declared.profile.Profiles.{Profiles}
 use Rattle.schedule_file.specs.Event.{profile_of}
 use Rattle.schedule_file.specs.Header.{Heading}
-use Rattle.schedule_file.specs.Input.{AtEnd, InputCause, NoLine, Refused, Stop, heading_profile, input_of, lines_of, own_length, said_after}
+use Rattle.schedule_file.specs.Input.{AtEnd, InputCause, NoLine, Refused, Stop, header_of, heading_profile, input_of, lines_of, own_length, said_after}
 use Rattle.schedule_file.specs.PairEvent.{pair_line}
 use Rattle.schedule_file.proofs.Pairs.{same_ends}
 use Rattle.schedule_file.specs.declared.header_kind.HeaderKind.TheVariants as kind
@@ -30,6 +30,7 @@ use Rattle.file_run.specs.NextLine.{FindsLine}
 use Rattle.file_run.specs.ByTitle.{first_line}
 use Rattle.file_run.specs.Outside.{CountsFaults, Outside, Wrote}
 use Rattle.file_run.specs.Refusal.{input_cause}
+use Rattle.file_run.specs.Ran.{line_of_end}
 use Rattle.file_run.specs.Report.{refused_line}
 use Rattle.file_run.specs.Reporting.{IsPrefix, refused_at}
 use Rattle.file_run.specs.Stop.{halted_by, last_of}
@@ -42,7 +43,7 @@ use Rattle.file_run.proofs.Taken.{halts_after, took_line, took_none}
 use Rattle.file_run.proofs.Unread.{nothing_held}
 use Rattle.duo_run.specs.Convert.{ConvertedAs, ConvertsReadLines, ConvertWrite, RanConvert, SaysTheSame, WroteAll, converted, ended_at_stop}
 use Rattle.duo_run.specs.Converting.{FindsTaken, LineTaken, PairRead, left_to_take, line_taken, read_none, taken_by}
-use Rattle.duo_run.proofs.Conversion.Converted.{Lines, Whole, after_part, converted_whole, refused_whole, told, told_by, told_whole, two_parts}
+use Rattle.duo_run.proofs.Conversion.Converted.{Lines, Whole, after_part, converted_whole, end_whole, last_is, refused_whole, told, told_by, told_whole, two_parts}
 use Rattle.duo_run.proofs.Conversion.SameWorld.{says_the_same}
 
 -- of these bytes, which were taken of the input, this was written so far, and whatever comes after them gives the rest
@@ -181,15 +182,15 @@ ends_lost o b c w1 waiting now r next lines text rest ended k finds p e place ro
     ends_write o ended (k.text ++ text) e (piece_part o.sink.before w1 o.sink.after waiting now k.text text rest ended.place k.sent p place)
     (begins o.source.before c (k.text ++ text) next (lines + 1 + 1) (tells_next o.source.before b c k.text text finds.0 r next (lines + 1) k.tells finds.1 finds.2 finds.3)) rose
 
--- all was converted to this text, and the run ends so
-abbrev IsAll : Option (List ℕ) → List ℕ → Ended → Type 0
-IsAll told text ended = IfSome told (λ input. converted_whole input ≡ record { text = text; ended = ended })
+-- all was converted so
+abbrev IsAll : Option (List ℕ) → Whole → Type 0
+IsAll told whole = IfSome told (λ input. converted_whole input ≡ whole)
 
-all_begins : (told : Option (List ℕ)) (text : List ℕ) (ended : Ended) → IsAll told text ended → Begins told text
-all_begins told text ended all = IfSome_then told all (λ input e. ([], ap (λ (w : Whole). w.text) e ∙ sym (append-nil text)))
+all_begins : (told : Option (List ℕ)) (whole : Whole) → IsAll told whole → Begins told whole.text
+all_begins told whole all = IfSome_then told all (λ input e. ([], ap (λ (w : Whole). w.text) e ∙ sym (append-nil whole.text)))
 
-all_wrote : (o : Outside) (text : List ℕ) (ended : Ended) → IsAll o.source.before text ended → Grew o.sink.before o.sink.after text → WroteAll ended o
-all_wrote o text ended all grew = IfSome_then o.source.before all (λ input e. (text, grew, (sym (ap (λ (w : Whole). w.text) e), sym (ap (λ (w : Whole). w.ended) e))))
+all_wrote : (o : Outside) (whole : Whole) → IsAll o.source.before whole → Grew o.sink.before o.sink.after whole.text → WroteAll whole.ended o
+all_wrote o whole all grew = IfSome_then o.source.before all (λ input e. (whole.text, grew, (sym (ap (λ (w : Whole). w.text) e), sym (ap (λ (w : Whole). w.ended) e))))
 
 -- and where the input came to its end, that says the same
 at_end : (stop : Stop) → ended_at_stop stop ≡ ended_at_stop AtEnd → stop ≡ AtEnd
@@ -198,26 +199,43 @@ at_end (Refused number why) e =
     let never : status.Line ≡ status.Ok = ap (λ (x : Ended). x.status) e in
     absurd (cc)
 
-all_same : (o : Outside) (text : List ℕ) → IsAll o.source.before text (ended_at_stop AtEnd) → Grew o.sink.before o.sink.after text → Wrote o SaysTheSame
-all_same o text all grew =
+-- so many lines were taken
+all_lines : (told : Option (List ℕ)) (number : ℕ) (text : List ℕ) → IsAll told (end_whole number text) → IfSome told (λ input. number ≡ line_of_end (input_of kind.Pair input))
+all_lines told number text all =
+    IfSome_then told all (λ input e. sym (ap (λ (w : Whole). w.line) e) ∙ last_is (header_of kind.Pair input) (at_end (input_of kind.Pair input).stop (ap (λ (w : Whole). w.ended) e)))
+
+all_same : (o : Outside) (number : ℕ) (text : List ℕ) → IsAll o.source.before (end_whole number text) → Grew o.sink.before o.sink.after text → Wrote o SaysTheSame
+all_same o number text all grew =
     IfSome_then o.source.before all
     (λ input e. (text, grew, subst (SaysTheSame input) (ap (λ (w : Whole). w.text) e) (says_the_same input (at_end (input_of kind.Pair input).stop (ap (λ (w : Whole). w.ended) e)))))
 
 -- the last line came
 all_ended : (left0 b c : Option (List ℕ)) (before text line : List ℕ) (r next : PairRead) (number : ℕ) → Tells left0 b before r number → IsLine line → Consumes b c (line ++ 10 ∷ []) → line_taken number r line ≡ Ok (record { next = next; text = text; ends = true })
-    → IsAll left0 (before ++ text) (ended_at_stop AtEnd)
+    → IsAll left0 (end_whole number (before ++ text))
 all_ended None b c before text line r next number tells is goes taken = tt
 all_ended (Some xs) None c before text line r next number tells is goes taken = absurd tells.goes
 all_ended (Some xs) (Some ys) None before text line r next number tells is goes taken = absurd goes
 all_ended (Some xs) (Some ys) (Some zs) before text line r next number tells is goes taken =
     tells_at xs ys before r number tells ∙ ap (after_part before) (told_next number r next line text ys zs true is goes taken)
 
-pub ends_at_end : (o : Outside) (b c w1 : Option (List ℕ)) (faults : ℕ) (waiting : OutputView) (r next : PairRead) (lines : ℕ) (text : List ℕ) (result : Ended) → Converting o.source.before b o.sink.before w1 waiting r lines → FindsTaken (lines + 1) r (Ok true) next text b c
+pub ends_at_end : (o : Outside) (b w1 : Option (List ℕ)) (held : List ℕ) (faults : ℕ) (waiting : OutputView) (r next : PairRead) (lines : ℕ) (text : List ℕ) (result : Ended) → Converting o.source.before b o.sink.before w1 waiting r lines → FindsTaken (lines + 1) r (Ok true) next text b (prepend_known held o.source.after) → length held ≤ most_held
     → Writes waiting.sent (waiting.bytes ++ text) (ended_at_stop AtEnd) result (record { before = w1; after = o.sink.after; faults_before = faults; faults_after = o.sink.faults_after }) → faults ≡ o.sink.faults_before → ConvertedAs result.status result o
-ends_at_end o b c w1 faults waiting r next lines text result k finds writes later =
+ends_at_end o b w1 held faults waiting r next lines text result k finds most writes later =
+    let c = prepend_known held o.source.after in
+    let whole = end_whole (lines + 1) (k.text ++ text) in
     let all = all_ended o.source.before b c k.text text finds.0 r next (lines + 1) k.tells finds.1 finds.2 finds.3 in
-    ends_written o w1 faults waiting k.text text (ended_at_stop AtEnd) result k.sent writes later (all_begins o.source.before (k.text ++ text) (ended_at_stop AtEnd) all)
-    (λ grew. record { place_is = refl; wrote = all_wrote o (k.text ++ text) (ended_at_stop AtEnd) all grew; same = all_same o (k.text ++ text) all grew })
+    ends_written o w1 faults waiting k.text text (ended_at_stop AtEnd) result k.sent writes later (all_begins o.source.before whole all)
+    (λ grew.
+    record {
+      place_is = refl;
+      read = (
+        lines + 1,
+        all_lines o.source.before (lines + 1) (k.text ++ text) all,
+        record { held = held; most = most; took = took_line lines (lines + 1) o.source.before b c finds.0 k.took finds.1 finds.2 refl },
+      );
+      wrote = all_wrote o whole all grew;
+      same = all_same o (lines + 1) (k.text ++ text) all grew;
+    })
 
 -- the next line is refused
 refused_told : (number : ℕ) (r : PairRead) (lines : Lines) (why : InputCause) → taken_by number r (first_line lines) ≡ Err why → told number r lines ≡ refused_whole number why
@@ -230,7 +248,7 @@ refused_told number r (Err other ∷ rest) why e =
 refused_told number r (Ok line ∷ rest) why e = ap (λ (t : Result LineTaken InputCause). told_by number t (λ next. told (number + 1) next rest)) e
 
 all_refused : (left0 b : Option (List ℕ)) (before : List ℕ) (r : PairRead) (number : ℕ) (why : InputCause) → Tells left0 b before r number → IfSome b (λ input. taken_by number r (first_line (lines_of input)) ≡ Err why)
-    → IsAll left0 (before ++ refused_line number why) (refused_at number)
+    → IsAll left0 (after_part before (refused_whole number why))
 all_refused None b before r number why tells refused = tt
 all_refused (Some xs) None before r number why tells refused = absurd tells.goes
 all_refused (Some xs) (Some ys) before r number why tells refused = tells_at xs ys before r number tells ∙ ap (after_part before) (refused_told number r (lines_of ys) why refused)
@@ -243,7 +261,7 @@ read_told : (told left : Option (List ℕ)) (after : Option (List ℕ)) (held te
     → IfSome told (λ input. ConvertsReadLines count input after text)
 read_told None left after held text r lines count k same goes none = tt
 read_told (Some xs) left after held text r lines count k same goes none =
-    let whole : converted_whole k.taken ≡ record { text = text ++ refused_line (count + 1) NoLine; ended = refused_at (count + 1) } =
+    let whole : converted_whole k.taken ≡ after_part text (refused_whole (count + 1) NoLine) =
     ap converted_whole (sym (append-nil k.taken)) ∙ k.says [] ∙ ap (λ (n : ℕ). after_part text (refused_whole (n + 1) NoLine)) (sym same)
     in
     record {
@@ -259,7 +277,7 @@ read_told (Some xs) left after held text r lines count k same goes none =
 -- the input goes no further
 pub ends_halted : (o : Outside) (b w1 : Option (List ℕ)) (held : List ℕ) (source faults : ℕ) (waiting : OutputView) (r next : PairRead) (lines after : ℕ) (text : List ℕ) (why : Halt) (result : Ended) → Converting o.source.before b o.sink.before w1 waiting r lines
     → FindsTaken (lines + 1) r (Err why) next text b (prepend_known held o.source.after) → Goes {T = Bool} (Err why) lines after b (prepend_known held o.source.after) → Stalls {T = Bool} (Err why) held → length held ≤ most_held → Blames {T = Bool} (Err why) source o.source.faults_after
-    → source ≡ o.source.faults_before → Writes waiting.sent (waiting.bytes ++ last_of why) (halted_by why) result (record { before = w1; after = o.sink.after; faults_before = faults; faults_after = o.sink.faults_after }) → o.sink.faults_before ≤ faults
+    → source ≡ o.source.faults_before → Writes waiting.sent (waiting.bytes ++ last_of why) (halted_by why) result (record { before = w1; after = o.sink.after; faults_before = faults; faults_after = o.sink.faults_after }) → faults ≡ o.sink.faults_before
     → ConvertedAs result.status result o
 ends_halted o b w1 held source faults waiting r next lines after text (halt.Read count) result k finds goes stalls most blames earlier writes later =
     let begun = begins o.source.before b k.text r (lines + 1) k.tells in
@@ -273,11 +291,11 @@ ends_halted o b w1 held source faults waiting r next lines after text (halt.Read
     })
 ends_halted o b w1 held source faults waiting r next lines after text halt.Memory result k finds goes stalls most blames earlier writes later = absurd finds
 ends_halted o b w1 held source faults waiting r next lines after text (halt.Refused number why) result k finds goes stalls most blames earlier writes later =
-    let all = subst (λ (n : ℕ). IsAll o.source.before (k.text ++ refused_line n (input_cause why)) (refused_at n)) (sym goes.0) (all_refused o.source.before b k.text r (lines + 1) (input_cause why) k.tells finds) in
+    let whole = after_part k.text (refused_whole number (input_cause why)) in
+    let all = subst (λ (n : ℕ). IsAll o.source.before (after_part k.text (refused_whole n (input_cause why)))) (sym goes.0) (all_refused o.source.before b k.text r (lines + 1) (input_cause why) k.tells finds) in
     let halts = halts_after o.source.before b o.source.after held lines after (halt.Refused number why) k.took goes stalls most in
     ends_written o w1 faults waiting k.text (refused_line number (input_cause why)) (refused_at number) result k.sent writes later
-    (all_begins o.source.before (k.text ++ refused_line number (input_cause why)) (refused_at number) all)
-    (λ grew. record { number = halts.0; read = halts.1; wrote = all_wrote o (k.text ++ refused_line number (input_cause why)) (refused_at number) all grew })
+    (all_begins o.source.before whole all) (λ grew. record { number = halts.0; read = halts.1; wrote = all_wrote o whole all grew })
 
 -- where neither a read nor a write failed, the run ends as the input stops
 stops_so : (s : Status) (ended : Ended) (o : Outside) → ConvertedAs s ended o → (Rose o.source.faults_before o.source.faults_after → ⊥) → (Rose o.sink.faults_before o.sink.faults_after → ⊥)

@@ -40,8 +40,7 @@ returns-then-ends g c =
     let next = c.in-Ok.ensures in
     let stays = c.in_default.ensures.cause.stayed ∙ c.loop-output.invariant.sink_stays in
     ran_by _ _
-    (ends_at_end _ _ _ _ _ _ c.loop-output.reading c.next_taken.new.reading c.loop-output.reader.lines c.bytes.result.now c.close.result sent (rw (c.if-ends.true, ← c.bytes.ensures.value) at next.finds) c.close.ensures.writes
-    stays)
+    (ends_at_end _ _ _ c.next_taken.new.reader.bytes _ _ c.loop-output.reading c.next_taken.new.reading c.loop-output.reader.lines c.bytes.result.now c.close.result sent (rw (c.if-ends.true, ← c.bytes.ensures.value) at next.finds) next.most c.close.ensures.writes stays)
     (counted_last _ _ _ _ _ _ c.close.result (next.cause ∙ c.loop-output.invariant.source_stays) stays c.close.ensures.writes c.close.ensures.later)
 
 pub returns-in-Err-put : goal.returns-in-Err-put
