@@ -19,7 +19,7 @@ use Rattle.file_run.specs.Running.{LeavesDone, IsFullness, Running, Saying, Seen
 use Rattle.file_run.specs.Outside.{Outside}
 use Rattle.file_run.specs.Ran.{EndsWhole}
 use Rattle.file_run.specs.Report.{refused_line}
-use Rattle.file_run.specs.Reporting.{Reporting, input_stopped, refused_at}
+use Rattle.file_run.specs.Reporting.{IsPrefix, Reporting, input_stopped, refused_at}
 use Rattle.file_run.specs.Stop.{halted_by, last_of}
 use Rattle.file_run.specs.declared.halt.Halt.{Halt}
 use Rattle.file_run.specs.declared.refusal.Refusal.{Refusal}
@@ -40,25 +40,26 @@ begun_so {H} {L} {E} f d told left seen =
 
 -- one event at most was done after those that a run had read
 ahead_so : {H L E : Type 0} (r : Reporting H L E) (stands : Standing H E) (says : Saying L) (left0 left w0 w : Option (List ℕ)) (waiting : OutputView) (events lines : ℕ) (k : Running r stands says left0 left w0 w waiting events lines) → Reports r stands
-    → (log ahead : List E) (place : ℕ) → log ≡ k.log ++ ahead → length ahead ≤ 1 → waiting.sent ≤ place → IsOneAhead r k.heading log place
-ahead_so r stands says left0 left w0 w waiting events lines k reports log ahead place are one later = record {
+    → (log ahead : List E) (text : List ℕ) (place : ℕ) → log ≡ k.log ++ ahead → length ahead ≤ 1 → IsPrefix k.text text → waiting.sent ≤ place → IsOneAhead r (record { heading = k.heading; lines = k.header; log = log; text = text }) place
+ahead_so r stands says left0 left w0 w waiting events lines k reports log ahead text place are one begins later = record {
   before = k.log;
   ahead = ahead;
   are = are;
   one = one;
   text = k.text;
   reported = reports k.heading k.log k.text k.stood;
+  begins = begins;
   few = omega (arith, later, k.most, k.sent.count, ap (length {A = ℕ}) k.sent.whole, length-append k.sent.sent waiting.bytes);
 }
 
 -- a write failed
 did_write : {H L E : Type 0} (r : Reporting H L E) (closes : Closing H E) (d : Done H E) (o : Outside) (ended : Ended) (whole : List ℕ) → ended.status ≡ status.Write → MayFailIn r.format closes d whole o.source.before
-    → AppendedPart o.sink.before o.sink.after ended.place whole → IsOneAhead r d.heading d.log ended.place → LeavesAs r closes d ended.status ended o
+    → AppendedPart o.sink.before o.sink.after ended.place whole → IsOneAhead r d ended.place → LeavesAs r closes d ended.status ended o
 did_write r closes d o ended whole e within part ahead = rw e (record { whole = whole; within = within; wrote = part; last = ahead })
 
 -- what holds of a run whose write failed after so many bytes
 abbrev MayBeAhead : {H L E : Type 0} → Reporting H L E → Done H E → ℕ → Type 0
-MayBeAhead r d sent = (place : ℕ) → sent ≤ place → IsOneAhead r d.heading d.log place
+MayBeAhead r d sent = (place : ℕ) → sent ≤ place → IsOneAhead r d place
 
 -- a run ends as it is to, or a write failed at the end
 did_written : {H L E : Type 0} (r : Reporting H L E) (closes : Closing H E) (d : Done H E) (o : Outside) (between : Option (List ℕ)) (faults : ℕ) (waiting : OutputView) (last : List ℕ) (ended result : Ended) → Sent o.sink.before between waiting d.text → MayBeAhead r d waiting.sent
@@ -95,7 +96,7 @@ done_so r stands says left0 left w0 w waiting events lines k = record { heading 
 -- where no event was done after these
 still_so : {H L E : Type 0} (r : Reporting H L E) (stands : Standing H E) (says : Saying L) (left0 left w0 w : Option (List ℕ)) (waiting : OutputView) (events lines : ℕ) (k : Running r stands says left0 left w0 w waiting events lines) → Reports r stands
     → MayBeAhead r (done_so r stands says left0 left w0 w waiting events lines k) waiting.sent
-still_so r stands says left0 left w0 w waiting events lines k reports = λ place later. ahead_so r stands says left0 left w0 w waiting events lines k reports k.log [] place (sym (append-nil k.log)) (omega arith) later
+still_so r stands says left0 left w0 w waiting events lines k reports = λ place later. ahead_so r stands says left0 left w0 w waiting events lines k reports k.log [] k.text place (sym (append-nil k.log)) (omega arith) ([], sym (append-nil k.text)) later
 
 -- a write failed before a line
 pub left_unsent : {H L E : Type 0} (r : Reporting H L E) (stands left : Standing H E) (closes : Closing H E) (says : Saying L) (o : Outside) (b w1 : Option (List ℕ)) (waiting now : OutputView) (events lines : ℕ) (rest : List ℕ) (ended : Ended)
@@ -121,7 +122,7 @@ left_lost {H} {L} {E} r old left closes says full o b c w1 waiting now events li
       stood = stood;
       begun = begun_so r.format d o.source.before c (event_seen r old says full o.source.before b c o.sink.before w1 waiting events lines event k finds fullness);
       ends = did_write r closes d o ended (k.text ++ piece) e (inl refl) (piece_part o.sink.before w1 o.sink.after waiting now k.text piece rest ended.place k.sent p place)
-          (ahead_so r old says o.source.before b o.sink.before w1 waiting events lines k reports (k.log ++ event ∷ []) (event ∷ []) ended.place refl (omega arith) (omega (arith, place, p.passes.sent)));
+          (ahead_so r old says o.source.before b o.sink.before w1 waiting events lines k reports (k.log ++ event ∷ []) (event ∷ []) (k.text ++ piece) ended.place refl (omega arith) (piece, refl) (omega (arith, place, p.passes.sent)));
     }
 
 -- the next line is refused by itself

@@ -11,7 +11,7 @@ use Rattle.schedule_file.specs.Input.{InputCause, InputFormat, NoApp, NoFrame, S
 use Rattle.file_run.specs.Ending.{AppendedPart, Writes}
 use Rattle.file_run.specs.Outside.{Outside}
 use Rattle.file_run.specs.Report.{refused_line}
-use Rattle.file_run.specs.Reporting.{Reporting, ReportsSoFar, TakesMemory, input_stopped}
+use Rattle.file_run.specs.Reporting.{IsPrefix, Reporting, ReportsSoFar, TakesMemory, input_stopped}
 use Rattle.file_run.specs.Stop.{halted_by, last_of}
 use Rattle.file_run.specs.declared.halt.Halt.{Halt}
 use Rattle.file_run.specs.Refusal.{input_cause}
@@ -75,23 +75,26 @@ MayFailIn f closes d whole told =
     ⊎ (((why : InputCause) × (whole ≡ d.text ++ refused_line (line_after d) why) × StopsAfter f d why told)
     ⊎ ((ended : Ended) × closes d.heading d.log whole ended × IsWhole f d told))
 
--- of these events one at most is ahead: the text of those before it is no longer than the bytes that were written and
--- what may have waited then
-pub record IsOneAhead {H L E : Type 0} (r : Reporting H L E) (heading : H) (log : List E) (bytes : ℕ) : Type 0 where
+-- of the events that were done one at most is ahead: those before it may have this text, a first part of the text of
+-- all, and it is no longer than the bytes that were written and what may have waited then
+pub record IsOneAhead {H L E : Type 0} (r : Reporting H L E) (d : Done H E) (bytes : ℕ) : Type 0 where
   pub before : List E
   pub ahead : List E
-  pub are : log ≡ before ++ ahead
+  pub are : d.log ≡ before ++ ahead
   pub one : length ahead ≤ 1
   pub text : List ℕ
-  pub reported : ReportsSoFar r heading before text
+  pub reported : ReportsSoFar r d.heading before text
+  pub begins : IsPrefix text d.text
   pub few : length text ≤ bytes + most_waiting
 
--- a write failed after so many bytes, and no event was done after that
+-- a write failed after so many bytes of a text that was to be written, and one event at most is ahead of what was
+-- written and waited. An event that writes nothing leaves both as they are: whether it was done before that write or
+-- after it isn't said
 pub record LeavesUnwritten {H L E : Type 0} (r : Reporting H L E) (closes : H → List E → List ℕ → Ended → Type 0) (d : Done H E) (bytes : ℕ) (o : Outside) : Type 0 where
   pub whole : List ℕ
   pub within : MayFailIn r.format closes d whole o.source.before
   pub wrote : AppendedPart o.sink.before o.sink.after bytes whole
-  pub last : IsOneAhead r d.heading d.log bytes
+  pub last : IsOneAhead r d bytes
 
 -- what was done and written, by how the run ended
 abbrev pub LeavesAs : {H L E : Type 0} → Reporting H L E → (H → List E → List ℕ → Ended → Type 0) → Done H E → Status → Ended → Outside → Type 0
