@@ -245,20 +245,37 @@ static void frames_that_are_due(void) {
     no_master();
 }
 
-/* A handshake with application parameters, and what both ends tell of it. */
-static void terms_of_a_session(void) {
-    const uint8_t app[3] = {10, 20, 30}, load[4] = {1, 2, 3, 4};
-    uint8_t offer[4] = {0};
+/* Ends that are set so exchange frames until the slave tells its terms. */
+static void handshake(const gp_slave_settings *of_slave, const gp_master_settings *of_master, size_t app_len) {
     unsigned exchanges = 0;
-    ANSWERS(GP_OK, gp_slave_init_exact(&slave, &good_slave, app, sizeof app));
-    ANSWERS(GP_OK, gp_master_init(&master, &good_master, app, sizeof app));
+    ANSWERS(GP_OK, gp_slave_init_exact(&slave, of_slave, data, app_len));
+    ANSWERS(GP_OK, gp_master_init(&master, of_master, data, app_len));
     ANSWERS(GP_OK, gp_master_tick(&master, &frame, &did));
     while (gp_slave_terms(&slave, &terms) == GP_NOT_IN_DATA && exchanges++ < 100) {
         ANSWERS(GP_OK, gp_slave_deliver(&slave, frame.bytes, frame.len, &out, &did));
         ANSWERS(GP_OK, gp_master_deliver(&master, out.bytes, out.len, &frame, &did));
     }
+    MUST(terms.app_len == app_len && memcmp(terms.app, data, app_len) == 0);
+}
+
+/* The longest frames and application parameters fill their arrays. */
+static void greatest_numbers(void) {
+    gp_slave_settings of_slave = good_slave;
+    gp_master_settings of_master = good_master;
+    of_slave.master_len = of_slave.slave_len = of_master.master_len = of_master.slave_len = GP_MOST_DATA;
+    handshake(&of_slave, &of_master, GP_MOST_APP);
+    ANSWERS(GP_OK, gp_slave_deliver(&slave, frame.bytes, frame.len, &out, &did));
+    MUST(did.took == GP_COMMAND_PROCESS_DATA && did.load_len == GP_MOST_DATA && out.len == GP_MOST_FRAME);
+    ANSWERS(GP_OK, gp_slave_end(&slave));
+    ANSWERS(GP_OK, gp_master_end(&master));
+}
+
+/* A handshake with application parameters, and what both ends tell of it. */
+static void terms_of_a_session(void) {
+    const uint8_t load[4] = {1, 2, 3, 4};
+    uint8_t offer[4] = {0};
+    handshake(&good_slave, &good_master, 3);
     MUST(terms.conn == 1 && terms.address == 2 && terms.watchdog == 100 && terms.profile == 1 && terms.word == 0);
-    MUST(terms.app_len == 3 && memcmp(terms.app, app, 3) == 0);
     ANSWERS(GP_OK, gp_slave_state(&slave, &flag));
     MUST(flag == GP_DATA);
     ANSWERS(GP_OK, gp_slave_age(&slave, &age));
@@ -292,6 +309,8 @@ int main(void) {
     bad_calls_of_a_slave();
     nothing_past_the_numbers();
     frames_that_are_due();
+    for (size_t i = 0; i < sizeof data; i++) data[i] = (uint8_t)i;
+    greatest_numbers();
     terms_of_a_session();
     printf("%u answers as they are to be\n", tried);
     return 0;

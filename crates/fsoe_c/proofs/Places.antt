@@ -1,6 +1,6 @@
 -- What holds of a place, and of what is told of the end in it.
 use Rattle.std.proofs.Common.{◌≡◌, ℕ, List, [], Bool, Option, false, sym, subst, ◌∙◌, ap}
-use Rattle.std.specs.Prelude.{Some, None, is_some}
+use Rattle.std.specs.Prelude.{◌≤◌, Some, None, is_some}
 use Rattle.std.proofs.lemmas.Bool.{false≢true}
 use Rattle.fsoe_base.specs.declared.did.Did.{Did}
 use Rattle.param_load.specs.declared.entry.Move.{Move}
@@ -26,18 +26,20 @@ vacuous live o P sound dead v there = absurd (false≢true (sym dead ∙ sound �
 
 -- what shows what a slave did and sent tells its next deed
 pub slave_tells : (v : SlaveView) (event : Move) (d : Did) (sent : List ℕ) (g : GpDid) (f : GpFrame)
-    → slave_core.Answers v event d sent → ShowsDid g d → frame_of f ≡ sent → SlaveTells v event g f
-slave_tells v event d sent g f answers shows is = record {
+    → slave_core.Answers v event d sent → ShowsDid g d → frame_of f ≡ sent → f.len ≤ 255 → SlaveTells v event g f
+slave_tells v event d sent g f answers shows is within = record {
   did = λ settings deeds after. subst (ShowsDid g) (answers.did settings deeds after) shows;
   sent = λ settings deeds after. is ∙ answers.sent settings deeds after;
+  len = within;
 }
 
 -- the same of a master
 pub master_tells : (v : MasterView) (event : Move) (d : Did) (sent : List ℕ) (g : GpDid) (f : GpFrame)
-    → master_core.Answers v event d sent → ShowsDid g d → frame_of f ≡ sent → MasterTells v event g f
-master_tells v event d sent g f answers shows is = record {
+    → master_core.Answers v event d sent → ShowsDid g d → frame_of f ≡ sent → f.len ≤ 255 → MasterTells v event g f
+master_tells v event d sent g f answers shows is within = record {
   did = λ settings deeds after. subst (ShowsDid g) (answers.did settings deeds after) shows;
   sent = λ settings deeds after. is ∙ answers.sent settings deeds after;
+  len = within;
 }
 
 -- what a master did in accepting a frame is told

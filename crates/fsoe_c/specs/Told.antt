@@ -1,5 +1,5 @@
 -- What C code is told, by the fields that it reads.
-use Rattle.std.specs.Prelude.{◌≡◌, ◌==◌, ◌||◌, ℕ, Bool, not, List, [], Option, Some, None, IsSomeAnd, take}
+use Rattle.std.specs.Prelude.{◌≡◌, ◌≤◌, ◌==◌, ◌||◌, ℕ, Bool, not, List, [], Option, Some, None, IsSomeAnd, take}
 use Rattle.fsoe_base.specs.declared.did.Did.{Did}
 use Rattle.fsoe_base.specs.declared.did.Took.{Took}
 use Rattle.param_load.specs.declared.entry.Move.{Move}
@@ -33,6 +33,7 @@ took_load (Some took) = took.load
 pub record ShowsDid (g : GpDid) (d : Did) : Type 0 where
   pub took : g.took ≡ took_number d.took
   pub load : take g.load_len g.load ≡ took_load d.took
+  pub load_len : g.load_len ≤ 126
   pub passed : g.passed ≡ flag d.passed
   pub sent : g.sent ≡ flag d.sent
   pub reset : g.reset ≡ reset_number d.reset
@@ -45,6 +46,7 @@ pub record ShowsTerms (g : GpTerms) (t : Terms) : Type 0 where
   pub address : g.address ≡ t.address
   pub watchdog : g.watchdog ≡ t.watchdog
   pub app : take g.app_len g.app ≡ t.app
+  pub app_len : g.app_len ≤ 512
   pub profile : g.profile ≡ profile_number t.profile
   pub word : g.word ≡ word_number t.profile
 
@@ -52,11 +54,13 @@ pub record ShowsTerms (g : GpTerms) (t : Terms) : Type 0 where
 pub record SlaveTells (old : SlaveView) (event : Move) (g : GpDid) (f : GpFrame) : Type 0 where
   pub did : (settings : SlaveSettings) (deeds : List Deed) → SlaveIsAfter settings old deeds → ShowsDid g (step (OfSlave settings) deeds event).did
   pub sent : (settings : SlaveSettings) (deeds : List Deed) → SlaveIsAfter settings old deeds → frame_of f ≡ (step (OfSlave settings) deeds event).sent
+  pub len : f.len ≤ 255
 
 -- the fields and the frame are those of the next deed of a master
 pub record MasterTells (old : MasterView) (event : Move) (g : GpDid) (f : GpFrame) : Type 0 where
   pub did : (settings : MasterSettings) (deeds : List Deed) → MasterIsAfter settings old deeds → ShowsDid g (step (OfMaster settings) deeds event).did
   pub sent : (settings : MasterSettings) (deeds : List Deed) → MasterIsAfter settings old deeds → frame_of f ≡ (step (OfMaster settings) deeds event).sent
+  pub len : f.len ≤ 255
 
 -- a master accepted these bytes, and the fields say what it did
 pub record AcceptsTelling (old : MasterView) (bytes : List ℕ) (g : GpDid) (new : MasterView) : Type 0 where

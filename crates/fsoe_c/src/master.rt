@@ -183,6 +183,7 @@ pub extern "C" fn gp_master_reply(master: &mut GpMaster, out: &mut GpFrame) -> u
     ensures due { result ≡ OK → HasDue master.old.place.master }
     ensures rest { result ≡ OK → IsAtRest master.new.place.master }
     ensures replies { result ≡ OK → Between master.old.place.master master.new.place.master (λ old new. Replies old new (frame_of out.new)) }
+    ensures len { result ≡ OK → out.new.len ≤ 255 }
     ensures past_out { drop out.new.len out.new.bytes ≡ drop out.new.len out.old.bytes }
     ensures refused { result ≢ OK → (master.new ≡ master.old) × (out.new ≡ out.old) }
 {

@@ -1,5 +1,5 @@
 //! A master, with room for the results of its steps.
-ghost use Rattle.std.specs.Prelude.{◌≡◌, [], IsTrue, false, drop, length};
+ghost use Rattle.std.specs.Prelude.{◌≡◌, ◌≤◌, [], IsTrue, false, drop, length};
 ghost use Rattle.param_load.specs.Profile.{allows_id};
 ghost use Rattle.param_load.specs.declared.entry.Move.TheVariants as event;
 ghost use Rattle.end_model.specs.Setup.{OfMaster, sends};
@@ -87,6 +87,7 @@ impl MasterRoom {
     pub(crate) fn reply(&mut self, out: &mut GpFrame)
         requires { IsTrue (is_due self.old.state) }
         ensures replies { Replies self.old self.new (frame_of out.new) }
+        ensures len { out.new.len ≤ 255 }
         ensures rest { is_due self.new.state ≡ false }
         ensures past_out { drop out.new.len out.new.bytes ≡ drop out.new.len out.old.bytes }
     {

@@ -1,5 +1,5 @@
 //! What C code gets: frames, what a step did, and the terms of a session.
-ghost use Rattle.std.specs.Prelude.{◌≡◌, ◌≢◌, IsTrue, IsSomeAnd, None, false, drop, length, option_copied};
+ghost use Rattle.std.specs.Prelude.{◌≡◌, ◌≢◌, ◌≤◌, IsTrue, IsSomeAnd, None, false, drop, length, option_copied};
 ghost use Rattle.fsoe_c.specs.Told.{frame_of, ShowsDid, ShowsTerms};
 
 use crate::numbers::flag;
@@ -58,6 +58,7 @@ impl GpFrame {
     /// Has these bytes from now on. Those behind them stay.
     pub(crate) fn set(&mut self, frame: &FrameBuf)
         ensures bytes { frame_of self.new ≡ frame.now }
+        ensures len { self.new.len ≤ 255 }
         ensures past { drop self.new.len self.new.bytes ≡ drop self.new.len self.old.bytes }
     {
         let len = frame.len();
@@ -77,6 +78,7 @@ impl GpDid {
     fn set_took(&mut self, took: &Option<Took>)
         ensures took { self.new.took ≡ took_number took.now }
         ensures load { take self.new.load_len self.new.load ≡ took_load took.now }
+        ensures load_len { self.new.load_len ≤ 126 }
         ensures past { drop self.new.load_len self.new.load ≡ drop self.new.load_len self.old.load }
     {
         match took {
