@@ -19,7 +19,7 @@
  *     }
  *
  *     switch_off();
- *     if (gp_slave_size() != sizeof memory || gp_slave_init(&slave, &settings, 0) != GP_OK) fail();
+ *     if (gp_version() != GP_VERSION || gp_slave_init(&slave, &settings, 0) != GP_OK) fail();
  *     for (;;) {
  *         if (a frame came) {
  *             if (gp_slave_deliver(&slave, frame, frame_len, &out, &did) != GP_OK) fail();
@@ -35,8 +35,8 @@
  * session. examples/drive.c and examples/controller.c are whole loops, with fresh ids, terms and counted resets.
  *
  * Answers
- *     Each call returns a number of enum gp_answer, except gp_.._size and gp_.._align, which return bytes. GP_OK says that
- *     the call was done. Every other number says why it was refused. A refused call changed nothing: neither the end, nor
+ *     Each call returns a number of enum gp_answer, except gp_version, gp_.._size and gp_.._align. GP_OK says that the call
+ *     was done. Every other number says why it was refused. A refused call changed nothing: neither the end, nor
  *     what the pointers lead to, so `out` still has the frame of the step before. If there are several reasons, GP_NO_END
  *     and GP_BUSY come first, then GP_FRAME_DUE.
  *
@@ -56,7 +56,7 @@
  *     4. No two calls with the same handle overlap, also not those of readers: none is made in an interrupt or a signal
  *        handler that interrupted another. Calls with different handles may run in different threads.
  *     5. A bool is true or false.
- *     6. Header and archive are of one version: compare gp_.._size() with the size of the memory, as above.
+ *     6. Header and archive are of one version: compare gp_version() with GP_VERSION, as above.
  *     Any number, length and byte may be passed at any time. What a machine needs besides is in docs/duties.md.
  *
  *     Not proved, but believed, since the library keeps nothing of a thread: another thread may go on with a handle, if the
@@ -93,6 +93,9 @@ extern "C" {
 #else
 #define GP_CHECKED
 #endif
+
+/* The version of this header: one more with each change of a call, a number, a size or a struct in it. */
+#define GP_VERSION 1
 
 /* The memory of an end. gp_slave_size() and gp_master_size() return the same numbers. */
 #define GP_SLAVE_SIZE 2872
@@ -248,6 +251,9 @@ typedef struct gp_master {
 
 #define GP_SLAVE_IN(memory) {(memory), false}
 #define GP_MASTER_IN(memory) {(memory), false}
+
+/* Returns the version of the archive. */
+uint32_t gp_version(void);
 
 /* ---- A slave ---- */
 

@@ -141,7 +141,7 @@ static void start(void) {
                                          .profile = 1,
                                          .nonce = fresh_id()};
     static const uint8_t app[1]; /* no application parameters: none of these bytes */
-    if (gp_master_size() != sizeof memory) stop("header and archive are of two versions");
+    if (gp_version() != GP_VERSION) stop("header and archive are of two versions");
     if (gp_master_init(&master, &settings, app, 0) != GP_OK) stop("the settings are refused");
 }
 

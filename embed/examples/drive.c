@@ -139,7 +139,7 @@ static void start(void) {
                                         .most = 100, /* old data may stay on for nearly twice as long */
                                         .profile = 1,
                                         .nonce = fresh_id()};
-    if (gp_slave_size() != sizeof memory) stop("header and archive are of two versions");
+    if (gp_version() != GP_VERSION) stop("header and archive are of two versions");
     if (gp_slave_init(&slave, &settings, 0) != GP_OK) stop("the settings are refused");
 }
 

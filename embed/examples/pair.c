@@ -62,6 +62,7 @@ int main(void) {
         .master_len = LEN, .slave_len = LEN, .address = 7, .hand = WATCHDOG, .most = WATCHDOG, .profile = 2, .nonce = slave_id, .word = 5};
     const gp_master_settings master_settings = {
         .master_len = LEN, .slave_len = LEN, .conn = 1, .address = 7, .watchdog = WATCHDOG, .profile = 2, .nonce = master_id, .word = 5};
+    must(gp_version() == GP_VERSION, "the version of the archive");
     must(gp_slave_init_ranges(&slave, &slave_settings, low, sizeof low, high, sizeof high) == GP_OK, "the slave's settings");
     must(gp_master_init(&master, &master_settings, app, sizeof app) == GP_OK, "the master's settings");
     for (uint32_t now = 0; now < MILLISECONDS; now++) {

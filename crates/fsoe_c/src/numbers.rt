@@ -1,10 +1,18 @@
-//! The statuses that C code gets. `embed/gatepast.h` has the same as `GP_OK` and so on.
+//! The version, and the statuses that C code gets. `embed/gatepast.h` has the same as `GP_VERSION`, `GP_OK` and so on.
 ghost use Rattle.std.specs.Prelude.{◌≡◌};
-ghost use Rattle.fsoe_c.specs.Numbers.{state_number, flag};
+ghost use Rattle.fsoe_c.specs.Numbers.{state_number, flag, version};
 ghost use Rattle.fsoe_c.specs.Settings.{bad_number};
 
 use fsoe_base::State;
 use param_load::BadSetting;
+
+/// The version of the library, by which a program sees that header and archive belong together.
+#[unsafe(no_mangle)]
+pub extern "C" fn gp_version() -> u32
+    ensures { result ≡ version }
+{
+    1
+}
 
 /// The call was done.
 pub const OK: u8 = 0;

@@ -7,6 +7,7 @@ pub const OK: u8 = 0;
 pub const FRAME_DUE: u8 = 11;
 pub const NOT_IN_DATA: u8 = 13;
 
+pub const VERSION: u32 = 1;
 pub const SLAVE_SIZE: usize = 2872;
 pub const MASTER_SIZE: usize = 2320;
 
@@ -107,6 +108,8 @@ const _: () = {
 };
 
 extern "C" {
+    pub fn gp_version() -> u32;
+
     pub fn gp_slave_size() -> usize;
     pub fn gp_slave_align() -> usize;
     pub fn gp_slave_init(slave: *mut Handle, set: *const SlaveSettings, app_len: u16) -> u8;

@@ -52,6 +52,17 @@ const fn is_length(len: usize) -> bool {
     len == 1 || (len >= 2 && len <= 126 && len % 2 == 0)
 }
 
+/// Panics if the archive isn't of this package's version, or its ends need other memory.
+fn check_archive() {
+    // SAFETY: the calls take nothing.
+    let fits = unsafe {
+        ffi::gp_version() == ffi::VERSION
+            && (ffi::gp_slave_size(), ffi::gp_master_size()) == SIZES
+            && (ffi::gp_slave_align(), ffi::gp_master_align()) == (8, 8)
+    };
+    assert!(fits, "gatepast: the archive is not the one of this package");
+}
+
 /// The library refused a call that the types allow, so the archive isn't the one that this package was written for.
 #[cold]
 fn other_archive(answer: u8) -> ! {

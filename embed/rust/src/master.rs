@@ -8,7 +8,7 @@ use crate::step::{
     bytes_of, dropped, reset, state, took, Cause, Dropped, State, Step, Terms, Took, NOTHING,
     NO_FRAME, NO_TERMS,
 };
-use crate::{done, ffi, is_length};
+use crate::{check_archive, done, ffi, is_length};
 
 /// Memory for a master.
 #[repr(C, align(8))]
@@ -51,10 +51,7 @@ impl<'m, P: Profile, const M: usize, const S: usize> Master<'m, P, M, S> {
     /// first tick sends the first frame.
     pub fn new(memory: &'m mut MasterMemory, settings: &MasterSettings<'_, P>) -> Self {
         let () = Self::LENGTHS;
-        // SAFETY: both calls take nothing.
-        let fits =
-            unsafe { ffi::gp_master_size() == ffi::MASTER_SIZE && ffi::gp_master_align() == 8 };
-        assert!(fits, "gatepast: the archive is not the one of this package");
+        check_archive();
         let mut master = Master {
             handle: ffi::Handle {
                 memory: memory.0.as_mut_ptr().cast(),

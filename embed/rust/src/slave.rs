@@ -5,7 +5,7 @@ use core::mem::MaybeUninit;
 
 use crate::settings::{Kind, Profile, Rule, SlaveSettings};
 use crate::step::{state, State, Step, Terms, NOTHING, NO_FRAME, NO_TERMS};
-use crate::{done, ffi, is_length};
+use crate::{check_archive, done, ffi, is_length};
 
 /// Memory for a slave.
 #[repr(C, align(8))]
@@ -47,9 +47,7 @@ impl<'m, P: Profile, const M: usize, const S: usize> Slave<'m, P, M, S> {
     /// Creates a slave in this memory, in state Reset, with offer and outputs of zeros, and fail-safe data off.
     pub fn new(memory: &'m mut SlaveMemory, settings: &SlaveSettings<P>, rule: Rule<'_>) -> Self {
         let () = Self::LENGTHS;
-        // SAFETY: both calls take nothing.
-        let fits = unsafe { ffi::gp_slave_size() == ffi::SLAVE_SIZE && ffi::gp_slave_align() == 8 };
-        assert!(fits, "gatepast: the archive is not the one of this package");
+        check_archive();
         let mut slave = Slave {
             handle: ffi::Handle {
                 memory: memory.0.as_mut_ptr().cast(),
