@@ -1,41 +1,13 @@
 -- `lend` lends the slave, and the place follows it.
-use Rattle.std.proofs.Common.{◌≡◌, ℕ, List, [], ◌∷◌, refl, sym, ap, ◌∙◌}
-use Rattle.std.specs.Prelude.{Option, Some, IsSome}
-use Rattle.std.proofs.raw_atomic.Walks.{proved}
-use base.Fraction.{full_share}
-use base.Logic.{ent, sep, id⊢}
-use base.Fml.{Fml, GName, ftrue, fsep, flft}
-use mir.Syntax.{named}
-use mir.Val.{Val, vptr}
-use contract.Monad.{fact}
-use contract.Running.{tables}
-use types.Logic.{Logic, sem}
-use types.Kit.{‵, raw, ◌⊛◌, some, later, at_ret, ◌$◌, ◌∵◌, !, qed, done, move, keep, use1, split, join, pick, await, split3, fsplit, fsplit3, fjoin, fpack, rewrite, suffices, frame, group}
-use types.Run.{enter, of_opd, addr, load, stop, fld, first, blocks, exec, returns}
-use types.ByLocal.{alloc_all, pass_all, free_all, look_at, get, through, sets, sets_last, env}
-use types.Part.{whole, sub, look_in}
-use denote.Exit.{no}
-use denote.Follow.{follows, Part, lends_Part}
-use denote.Laws.{shows}
-use denote.Memory.{cell_at, mem, part_at, part_of}
-use denote.RawPtr.{Ptr, block_ptr, lies_at, in_a_block}
-use denote.Ref.{MutRef, mut_vals, mut_Tells}
-use denote.Signature.{plain, mut_ref_to}
-use denote.Steps.{nothing, opens, peeks, heard}
-use denote.Struct.Owning.{shape}
-use denote.Struct.Struct.{Struct}
-use denote.Triple.Walked.{Stays, walk_of, stay_dropped, Goes-spent_ref, ends_at, says}
-use Rattle.std.proofs.VecSteps.Shapes.{after}
+use Rattle.fsoe_c.proofs.Steps.{◌≡◌, ℕ, List, [], ◌∷◌, refl, sym, ap, ◌∙◌, Option, Some, IsSome, proved, full_share, ent, sep, id⊢, Fml, GName, ftrue, fsep, flft, named, Val, vptr, fact, tables, Logic, sem, ‵, raw, ◌⊛◌, some, later, at_ret, ◌$◌, ◌∵◌, !, qed, done, move, keep, use1, split, join, pick, await, split3, fsplit, fsplit3, fjoin, fpack, rewrite, suffices, frame, group, enter, of_opd, addr, load, stop, fld, first, blocks, exec, returns, alloc_all, pass_all, free_all, look_at, get, through, sets, sets_last, env, whole, sub, look_in, no, follows, Part, lends_Part, shows, cell_at, mem, part_at, part_of, Ptr, block_ptr, lies_at, in_a_block, MutRef, mut_vals, mut_Tells, plain, mut_ref_to, nothing, opens, peeks, heard, shape, Struct, Stays, walk_of, stay_dropped, Goes-spent_ref, ends_at, says, after, found, Ura}
 use Rattle.fsoe_c.specs.contracts.master_room.MasterRoom.{the_row as F}
 use Rattle.fsoe_c.specs.Place.{place_owns}
 use Rattle.fsoe_c.specs.declared.master_place.MasterPlace.{MasterPlace}
-use Rattle.fsoe_c.proofs.Steps.{found}
 use Rattle.fsoe_c.specs.contracts.master_place.MasterPlace.lend as f
 use Rattle.fsoe_c.proofs.master_place.MasterPlace.lend.Statement.{statement}
 use Rattle.fsoe_c.proofs.master_place.MasterPlace.lend.Code as code
 use Rattle.fsoe_c.specs.contracts.master_place.MasterPlace.{the_row as R, the_type as R-type}
 use Rattle.fsoe_c.proofs.master_place.MasterPlace.TheLaws.{lowers}
-use seplogic.Ra.Ura.{Ura}
 
 abbrev stayed : Stays f.ended.signature.params f.ended.kept
 stayed = (stay_dropped (mut_ref_to (0 ∷ []) tt (plain (λ _. R))) no, tt)

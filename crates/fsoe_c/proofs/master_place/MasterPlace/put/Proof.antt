@@ -1,30 +1,5 @@
 -- `put` moves a value into its place.
-use Rattle.std.proofs.Common.{◌≡◌, List, [], ◌∷◌, ◌++◌, refl, sym, ap, ◌∙◌, subst}
-use Rattle.std.specs.Prelude.{Option, Some, None}
-use Rattle.std.proofs.raw_atomic.Walks.{proved_at}
-use Rattle.std.proofs.alloc.Calls.{Al, handle_tells}
-use base.Fraction.{full_share}
-use base.Logic.{SProp, ent, id⊢}
-use base.Fml.{ftrue, flft}
-use mir.Syntax.{named, impl, tnil, dnil}
-use mir.Val.{Val, vunit}
-use contract.Monad.{fact}
-use contract.Running.{tables}
-use prog.Wp.{WpFn}
-use types.Kit.{‵, raw, ◌⊛◌, at_ret, ◌$◌, ◌∵◌, !, qed, done, move, keep, use2, split, split3, join, fsplit, fsplit3, fjoin, feq_i, rewrite, suffices, frame, group}
-use types.Run.{enter, of_opd, unit_lit, load, init, stop, fld, assigns_last, first, blocks, exec, returns}
-use types.ByLocal.{alloc_all, pass_all, free_all, look_at, get, through, sets, env}
-use types.Part.{whole, sub, look_in}
-use borrow.Table.OneValue.{part_in}
-use denote.Exit.{yes}
-use denote.Laws.{shows}
-use denote.Memory.{cell_at, part_at}
-use denote.RawPtr.{Ptr, lies_at, room_at, in_a_block}
-use denote.Ref.{MutRef, mut_vals, mut_Tells}
-use denote.Signature.{plain}
-use denote.Steps.{nothing, opens, closes, peeks, heard}
-use denote.Triple.Walked.{Stays, walk_of, stay_ref, stay_dropped, Goes-ref, Goes-dropped, ends_at, says}
-use Rattle.std.proofs.VecSteps.Shapes.{after}
+use Rattle.fsoe_c.proofs.Steps.{◌≡◌, List, [], ◌∷◌, ◌++◌, refl, sym, ap, ◌∙◌, subst, Option, Some, None, proved_at, Al, handle_tells, full_share, SProp, ent, id⊢, ftrue, flft, named, impl, tnil, dnil, Val, vunit, fact, tables, WpFn, ‵, raw, ◌⊛◌, at_ret, ◌$◌, ◌∵◌, !, qed, done, move, keep, use2, split, split3, join, fsplit, fsplit3, fjoin, feq_i, rewrite, suffices, frame, group, enter, of_opd, unit_lit, load, init, stop, fld, assigns_last, first, blocks, exec, returns, alloc_all, pass_all, free_all, look_at, get, through, sets, env, whole, sub, look_in, part_in, yes, shows, cell_at, part_at, Ptr, lies_at, room_at, in_a_block, MutRef, mut_vals, mut_Tells, plain, nothing, opens, closes, peeks, heard, Stays, walk_of, stay_ref, stay_dropped, Goes-ref, Goes-dropped, ends_at, says, after}
 use Rattle.fsoe_c.specs.contracts.master_room.MasterRoom.{the_row as F}
 use Rattle.fsoe_c.proofs.master_room.MasterRoom.TheLaws.{the_row_laws as F-laws}
 use Rattle.fsoe_c.specs.Place.{place_owns}

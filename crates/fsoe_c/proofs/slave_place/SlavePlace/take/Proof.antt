@@ -1,31 +1,8 @@
 -- `take` moves the value out of its place.
-use Rattle.std.proofs.Common.{List, [], ◌∷◌, refl, sym, ap, ◌∙◌}
-use Rattle.std.specs.Prelude.{Option, None, IsSome}
-use Rattle.std.proofs.raw_atomic.Walks.{proved}
-use base.Fraction.{full_share}
-use base.Logic.{id⊢}
-use base.Fml.{ftrue, fat, flft, froom}
-use mir.Syntax.{Ty, named}
-use mir.Val.{Val}
-use contract.Monad.{fact}
-use contract.Running.{tables}
-use types.Kit.{‵, raw, ◌⊛◌, some, at_ret, ◌$◌, ◌∵◌, !, qed, done, move, keep, use1, split, join, pick, fsplit, fsplit3, fjoin, rewrite, suffices, frame, group}
-use types.Run.{enter, of_opd, load, look, stop, fld, first, blocks, exec, returns}
-use types.ByLocal.{alloc_all, pass_all, free_all, look_at, get, through, sets, sets_last, env}
-use types.Part.{whole, sub, look_in}
-use borrow.Table.OneValue.{part_out}
-use denote.Laws.{Is, shows}
-use denote.Memory.{cell_at, lone}
-use denote.RawPtr.{Ptr, lies_at, room_at, in_a_block}
-use denote.Ref.{MutRef, mut_vals, mut_Tells}
-use denote.Signature.{plain}
-use denote.Steps.{nothing, opens, closes, peeks, heard}
-use denote.Triple.Walked.{Stays, walk_of, stay_ref, Goes-ref, ends_at, says}
-use Rattle.std.proofs.VecSteps.Shapes.{after}
+use Rattle.fsoe_c.proofs.Steps.{List, [], ◌∷◌, refl, sym, ap, ◌∙◌, Option, None, IsSome, proved, full_share, id⊢, ftrue, fat, flft, froom, Ty, named, Val, fact, tables, ‵, raw, ◌⊛◌, some, at_ret, ◌$◌, ◌∵◌, !, qed, done, move, keep, use1, split, join, pick, fsplit, fsplit3, fjoin, rewrite, suffices, frame, group, enter, of_opd, load, look, stop, fld, first, blocks, exec, returns, alloc_all, pass_all, free_all, look_at, get, through, sets, sets_last, env, whole, sub, look_in, part_out, Is, shows, cell_at, lone, Ptr, lies_at, room_at, in_a_block, MutRef, mut_vals, mut_Tells, plain, nothing, opens, closes, peeks, heard, Stays, walk_of, stay_ref, Goes-ref, ends_at, says, after, found}
 use Rattle.fsoe_c.specs.contracts.slave_room.SlaveRoom.{the_row as F}
 use Rattle.fsoe_c.proofs.slave_room.SlaveRoom.TheLaws.{the_row_laws as F-laws}
 use Rattle.fsoe_c.specs.Place.{place_owns}
-use Rattle.fsoe_c.proofs.Steps.{found}
 use Rattle.fsoe_c.specs.contracts.slave_place.SlavePlace.take as f
 use Rattle.fsoe_c.proofs.slave_place.SlavePlace.take.Statement.{statement}
 use Rattle.fsoe_c.proofs.slave_place.SlavePlace.take.Code as code
