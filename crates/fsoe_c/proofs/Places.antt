@@ -1,6 +1,6 @@
 -- What holds of a place, and of what is told of the end in it.
 use Rattle.std.proofs.Common.{◌≡◌, ℕ, List, [], Bool, Option, false, sym, subst, ◌∙◌, ap}
-use Rattle.std.specs.Prelude.{◌≤◌, Some, None, is_some}
+use Rattle.std.specs.Prelude.{◌≤◌, Some, None, is_some, drop}
 use Rattle.std.proofs.lemmas.Bool.{false≢true}
 use Rattle.fsoe_base.specs.declared.did.Did.{Did}
 use Rattle.param_load.specs.declared.entry.Move.{Move}
@@ -25,21 +25,27 @@ pub vacuous : {V : Type 0} (live : Bool) (o : Option V) (P : V → Type 0) → l
 vacuous live o P sound dead v there = absurd (false≢true (sym dead ∙ sound ∙ ap is_some there))
 
 -- what shows what a slave did and sent tells its next deed
-pub slave_tells : (v : SlaveView) (event : Move) (d : Did) (sent : List ℕ) (g : GpDid) (f : GpFrame)
-    → slave_core.Answers v event d sent → ShowsDid g d → frame_of f ≡ sent → f.len ≤ 255 → SlaveTells v event g f
-slave_tells v event d sent g f answers shows is within = record {
+pub slave_tells : (v : SlaveView) (event : Move) (d : Did) (sent : List ℕ) (was g : GpDid) (had f : GpFrame)
+    → slave_core.Answers v event d sent → ShowsDid g d → frame_of f ≡ sent → f.len ≤ 255
+    → drop g.load_len g.load ≡ drop g.load_len was.load → drop f.len f.bytes ≡ drop f.len had.bytes → SlaveTells v event was g had f
+slave_tells v event d sent was g had f answers shows is within past_load past_out = record {
   did = λ settings deeds after. subst (ShowsDid g) (answers.did settings deeds after) shows;
   sent = λ settings deeds after. is ∙ answers.sent settings deeds after;
   len = within;
+  past_load = past_load;
+  past_out = past_out;
 }
 
 -- the same of a master
-pub master_tells : (v : MasterView) (event : Move) (d : Did) (sent : List ℕ) (g : GpDid) (f : GpFrame)
-    → master_core.Answers v event d sent → ShowsDid g d → frame_of f ≡ sent → f.len ≤ 255 → MasterTells v event g f
-master_tells v event d sent g f answers shows is within = record {
+pub master_tells : (v : MasterView) (event : Move) (d : Did) (sent : List ℕ) (was g : GpDid) (had f : GpFrame)
+    → master_core.Answers v event d sent → ShowsDid g d → frame_of f ≡ sent → f.len ≤ 255
+    → drop g.load_len g.load ≡ drop g.load_len was.load → drop f.len f.bytes ≡ drop f.len had.bytes → MasterTells v event was g had f
+master_tells v event d sent was g had f answers shows is within past_load past_out = record {
   did = λ settings deeds after. subst (ShowsDid g) (answers.did settings deeds after) shows;
   sent = λ settings deeds after. is ∙ answers.sent settings deeds after;
   len = within;
+  past_load = past_load;
+  past_out = past_out;
 }
 
 -- what a master did in accepting a frame is told

@@ -1,5 +1,5 @@
 -- What C code is told, by the fields that it reads.
-use Rattle.std.specs.Prelude.{◌≡◌, ◌≤◌, ◌==◌, ◌||◌, ℕ, Bool, not, List, [], Option, Some, None, IsSomeAnd, take}
+use Rattle.std.specs.Prelude.{◌≡◌, ◌≤◌, ◌==◌, ◌||◌, ℕ, Bool, not, List, [], Option, Some, None, IsSomeAnd, take, drop}
 use Rattle.fsoe_base.specs.declared.did.Did.{Did}
 use Rattle.fsoe_base.specs.declared.did.Took.{Took}
 use Rattle.param_load.specs.declared.entry.Move.{Move}
@@ -50,17 +50,21 @@ pub record ShowsTerms (g : GpTerms) (t : Terms) : Type 0 where
   pub profile : g.profile ≡ profile_number t.profile
   pub word : g.word ≡ word_number t.profile
 
--- the fields and the frame are those of the next deed of a slave
-pub record SlaveTells (old : SlaveView) (event : Move) (g : GpDid) (f : GpFrame) : Type 0 where
+-- the fields and the frame are those of the next deed of a slave, and what lay behind the data and the frame is still there
+pub record SlaveTells (old : SlaveView) (event : Move) (was g : GpDid) (had f : GpFrame) : Type 0 where
   pub did : (settings : SlaveSettings) (deeds : List Deed) → SlaveIsAfter settings old deeds → ShowsDid g (step (OfSlave settings) deeds event).did
   pub sent : (settings : SlaveSettings) (deeds : List Deed) → SlaveIsAfter settings old deeds → frame_of f ≡ (step (OfSlave settings) deeds event).sent
   pub len : f.len ≤ 255
+  pub past_load : drop g.load_len g.load ≡ drop g.load_len was.load
+  pub past_out : drop f.len f.bytes ≡ drop f.len had.bytes
 
--- the fields and the frame are those of the next deed of a master
-pub record MasterTells (old : MasterView) (event : Move) (g : GpDid) (f : GpFrame) : Type 0 where
+-- the same of a master
+pub record MasterTells (old : MasterView) (event : Move) (was g : GpDid) (had f : GpFrame) : Type 0 where
   pub did : (settings : MasterSettings) (deeds : List Deed) → MasterIsAfter settings old deeds → ShowsDid g (step (OfMaster settings) deeds event).did
   pub sent : (settings : MasterSettings) (deeds : List Deed) → MasterIsAfter settings old deeds → frame_of f ≡ (step (OfMaster settings) deeds event).sent
   pub len : f.len ≤ 255
+  pub past_load : drop g.load_len g.load ≡ drop g.load_len was.load
+  pub past_out : drop f.len f.bytes ≡ drop f.len had.bytes
 
 -- a master accepted these bytes, and the fields say what it did
 pub record AcceptsTelling (old : MasterView) (bytes : List ℕ) (g : GpDid) (new : MasterView) : Type 0 where

@@ -109,9 +109,7 @@ pub extern "C" fn gp_master_deliver(
     ensures rested { result ≡ OK → IsAtRest master.old.place.master }
     ensures rest { result ≡ OK → IsAtRest master.new.place.master }
     ensures follows { result ≡ OK → Between master.old.place.master master.new.place.master (λ old new. Follows old (event.Deliver frame.now) new) }
-    ensures tells { result ≡ OK → IfThere master.old.place.master (λ old. MasterTells old (event.Deliver frame.now) did.new out.new) }
-    ensures past_out { drop out.new.len out.new.bytes ≡ drop out.new.len out.old.bytes }
-    ensures past_load { drop did.new.load_len did.new.load ≡ drop did.new.load_len did.old.load }
+    ensures tells { result ≡ OK → IfThere master.old.place.master (λ old. MasterTells old (event.Deliver frame.now) did.old did.new out.old out.new) }
     ensures refused { result ≢ OK → (master.new ≡ master.old) × (out.new ≡ out.old) × (did.new ≡ did.old) }
 {
     if !master.live {
@@ -210,9 +208,7 @@ pub extern "C" fn gp_master_tick(master: &mut GpMaster, out: &mut GpFrame, did: 
     ensures rested { result ≡ OK → IsAtRest master.old.place.master }
     ensures rest { result ≡ OK → IsAtRest master.new.place.master }
     ensures follows { result ≡ OK → Between master.old.place.master master.new.place.master (λ old new. Follows old event.Tick new) }
-    ensures tells { result ≡ OK → IfThere master.old.place.master (λ old. MasterTells old event.Tick did.new out.new) }
-    ensures past_out { drop out.new.len out.new.bytes ≡ drop out.new.len out.old.bytes }
-    ensures past_load { drop did.new.load_len did.new.load ≡ drop did.new.load_len did.old.load }
+    ensures tells { result ≡ OK → IfThere master.old.place.master (λ old. MasterTells old event.Tick did.old did.new out.old out.new) }
     ensures refused { result ≢ OK → (master.new ≡ master.old) × (out.new ≡ out.old) × (did.new ≡ did.old) }
 {
     if !master.live {
@@ -238,9 +234,7 @@ pub extern "C" fn gp_master_reset(master: &mut GpMaster, out: &mut GpFrame, did:
     ensures rested { result ≡ OK → IsAtRest master.old.place.master }
     ensures rest { result ≡ OK → IsAtRest master.new.place.master }
     ensures follows { result ≡ OK → Between master.old.place.master master.new.place.master (λ old new. Follows old event.Local new) }
-    ensures tells { result ≡ OK → IfThere master.old.place.master (λ old. MasterTells old event.Local did.new out.new) }
-    ensures past_out { drop out.new.len out.new.bytes ≡ drop out.new.len out.old.bytes }
-    ensures past_load { drop did.new.load_len did.new.load ≡ drop did.new.load_len did.old.load }
+    ensures tells { result ≡ OK → IfThere master.old.place.master (λ old. MasterTells old event.Local did.old did.new out.old out.new) }
     ensures refused { result ≢ OK → (master.new ≡ master.old) × (out.new ≡ out.old) × (did.new ≡ did.old) }
 {
     if !master.live {

@@ -59,9 +59,7 @@ impl MasterRoom {
     pub(crate) fn deliver(&mut self, frame: &[u8], out: &mut GpFrame, did: &mut GpDid)
         requires { is_due self.old.state ≡ false }
         ensures follows { Follows self.old (event.Deliver frame.now) self.new }
-        ensures tells { MasterTells self.old (event.Deliver frame.now) did.new out.new }
-        ensures past_out { drop out.new.len out.new.bytes ≡ drop out.new.len out.old.bytes }
-        ensures past_load { drop did.new.load_len did.new.load ≡ drop did.new.load_len did.old.load }
+        ensures tells { MasterTells self.old (event.Deliver frame.now) did.old did.new out.old out.new }
         ensures rest { is_due self.new.state ≡ false }
     {
         self.master
@@ -100,9 +98,7 @@ impl MasterRoom {
     pub(crate) fn tick(&mut self, out: &mut GpFrame, did: &mut GpDid)
         requires { is_due self.old.state ≡ false }
         ensures follows { Follows self.old event.Tick self.new }
-        ensures tells { MasterTells self.old event.Tick did.new out.new }
-        ensures past_out { drop out.new.len out.new.bytes ≡ drop out.new.len out.old.bytes }
-        ensures past_load { drop did.new.load_len did.new.load ≡ drop did.new.load_len did.old.load }
+        ensures tells { MasterTells self.old event.Tick did.old did.new out.old out.new }
         ensures rest { is_due self.new.state ≡ false }
     {
         self.master.tick_into(&mut self.ticked, &mut self.sent);
@@ -115,9 +111,7 @@ impl MasterRoom {
     pub(crate) fn reset(&mut self, out: &mut GpFrame, did: &mut GpDid)
         requires { is_due self.old.state ≡ false }
         ensures follows { Follows self.old event.Local self.new }
-        ensures tells { MasterTells self.old event.Local did.new out.new }
-        ensures past_out { drop out.new.len out.new.bytes ≡ drop out.new.len out.old.bytes }
-        ensures past_load { drop did.new.load_len did.new.load ≡ drop did.new.load_len did.old.load }
+        ensures tells { MasterTells self.old event.Local did.old did.new out.old out.new }
         ensures rest { is_due self.new.state ≡ false }
     {
         let done = self.master.reset(&mut self.sent);

@@ -1,5 +1,5 @@
 //! The calls that C code makes of a slave.
-ghost use Rattle.std.specs.Prelude.{◌≡◌, ◌≢◌, ◌<◌, ◌≤◌, ◌==◌, ◌||◌, IsTrue, true, false, drop, length};
+ghost use Rattle.std.specs.Prelude.{◌≡◌, ◌≢◌, ◌<◌, ◌≤◌, ◌==◌, ◌||◌, IsTrue, true, false, length};
 ghost use Rattle.param_load.specs.Profile.{allows_id};
 ghost use Rattle.param_load.specs.declared.app_rule.AppRule.TheVariants as rule;
 ghost use Rattle.param_load.specs.declared.entry.Move.TheVariants as event;
@@ -164,9 +164,7 @@ pub extern "C" fn gp_slave_deliver(
     ensures done { slave.old.live ≡ true → result ≡ OK }
     ensures none { slave.old.live ≡ false → result ≡ NO_END }
     ensures follows { result ≡ OK → Between slave.old.place.slave slave.new.place.slave (λ old new. Follows old (event.Deliver frame.now) new) }
-    ensures tells { result ≡ OK → IfThere slave.old.place.slave (λ old. SlaveTells old (event.Deliver frame.now) did.new out.new) }
-    ensures past_out { drop out.new.len out.new.bytes ≡ drop out.new.len out.old.bytes }
-    ensures past_load { drop did.new.load_len did.new.load ≡ drop did.new.load_len did.old.load }
+    ensures tells { result ≡ OK → IfThere slave.old.place.slave (λ old. SlaveTells old (event.Deliver frame.now) did.old did.new out.old out.new) }
     ensures refused { result ≢ OK → (slave.new ≡ slave.old) × (out.new ≡ out.old) × (did.new ≡ did.old) }
 {
     if !slave.live {
@@ -186,9 +184,7 @@ pub extern "C" fn gp_slave_tick(slave: &mut GpSlave, out: &mut GpFrame, did: &mu
     ensures done { slave.old.live ≡ true → result ≡ OK }
     ensures none { slave.old.live ≡ false → result ≡ NO_END }
     ensures follows { result ≡ OK → Between slave.old.place.slave slave.new.place.slave (λ old new. Follows old event.Tick new) }
-    ensures tells { result ≡ OK → IfThere slave.old.place.slave (λ old. SlaveTells old event.Tick did.new out.new) }
-    ensures past_out { drop out.new.len out.new.bytes ≡ drop out.new.len out.old.bytes }
-    ensures past_load { drop did.new.load_len did.new.load ≡ drop did.new.load_len did.old.load }
+    ensures tells { result ≡ OK → IfThere slave.old.place.slave (λ old. SlaveTells old event.Tick did.old did.new out.old out.new) }
     ensures refused { result ≢ OK → (slave.new ≡ slave.old) × (out.new ≡ out.old) × (did.new ≡ did.old) }
 {
     if !slave.live {
@@ -208,9 +204,7 @@ pub extern "C" fn gp_slave_reset(slave: &mut GpSlave, out: &mut GpFrame, did: &m
     ensures done { slave.old.live ≡ true → result ≡ OK }
     ensures none { slave.old.live ≡ false → result ≡ NO_END }
     ensures follows { result ≡ OK → Between slave.old.place.slave slave.new.place.slave (λ old new. Follows old event.Local new) }
-    ensures tells { result ≡ OK → IfThere slave.old.place.slave (λ old. SlaveTells old event.Local did.new out.new) }
-    ensures past_out { drop out.new.len out.new.bytes ≡ drop out.new.len out.old.bytes }
-    ensures past_load { drop did.new.load_len did.new.load ≡ drop did.new.load_len did.old.load }
+    ensures tells { result ≡ OK → IfThere slave.old.place.slave (λ old. SlaveTells old event.Local did.old did.new out.old out.new) }
     ensures refused { result ≢ OK → (slave.new ≡ slave.old) × (out.new ≡ out.old) × (did.new ≡ did.old) }
 {
     if !slave.live {

@@ -1,5 +1,5 @@
 //! A slave, with room for the results of its steps.
-ghost use Rattle.std.specs.Prelude.{◌≡◌, [], IsTrue, drop, length};
+ghost use Rattle.std.specs.Prelude.{◌≡◌, [], IsTrue, length};
 ghost use Rattle.param_load.specs.Profile.{allows_id};
 ghost use Rattle.param_load.specs.declared.entry.Move.TheVariants as event;
 ghost use Rattle.end_model.specs.Setup.{OfSlave, sends};
@@ -55,9 +55,7 @@ impl SlaveRoom {
     #[tactic(auto, using(crate::proofs::Places::slave_tells))]
     pub(crate) fn deliver(&mut self, frame: &[u8], out: &mut GpFrame, did: &mut GpDid)
         ensures follows { Follows self.old (event.Deliver frame.now) self.new }
-        ensures tells { SlaveTells self.old (event.Deliver frame.now) did.new out.new }
-        ensures past_out { drop out.new.len out.new.bytes ≡ drop out.new.len out.old.bytes }
-        ensures past_load { drop did.new.load_len did.new.load ≡ drop did.new.load_len did.old.load }
+        ensures tells { SlaveTells self.old (event.Deliver frame.now) did.old did.new out.old out.new }
     {
         self.slave
             .deliver_into(frame, &mut self.heard, &mut self.sent);
@@ -69,9 +67,7 @@ impl SlaveRoom {
     #[tactic(auto, using(crate::proofs::Places::slave_tells))]
     pub(crate) fn tick(&mut self, out: &mut GpFrame, did: &mut GpDid)
         ensures follows { Follows self.old event.Tick self.new }
-        ensures tells { SlaveTells self.old event.Tick did.new out.new }
-        ensures past_out { drop out.new.len out.new.bytes ≡ drop out.new.len out.old.bytes }
-        ensures past_load { drop did.new.load_len did.new.load ≡ drop did.new.load_len did.old.load }
+        ensures tells { SlaveTells self.old event.Tick did.old did.new out.old out.new }
     {
         self.slave.tick_into(&mut self.ticked, &mut self.sent);
         out.set(&self.sent);
@@ -82,9 +78,7 @@ impl SlaveRoom {
     #[tactic(auto, using(crate::proofs::Places::slave_tells))]
     pub(crate) fn reset(&mut self, out: &mut GpFrame, did: &mut GpDid)
         ensures follows { Follows self.old event.Local self.new }
-        ensures tells { SlaveTells self.old event.Local did.new out.new }
-        ensures past_out { drop out.new.len out.new.bytes ≡ drop out.new.len out.old.bytes }
-        ensures past_load { drop did.new.load_len did.new.load ≡ drop did.new.load_len did.old.load }
+        ensures tells { SlaveTells self.old event.Local did.old did.new out.old out.new }
     {
         let done = self.slave.reset(&mut self.sent);
         out.set(&self.sent);
