@@ -1,7 +1,8 @@
 //! Texts under names, as files are.
-ghost use Rattle.std.specs.Prelude.{◌≡◌, ◌≢◌, ◌≤◌, ◌<◌, List, ℕ, length, IfOk, IfSome};
+ghost use Rattle.std.specs.Prelude.{◌≡◌, ◌≢◌, ◌≤◌, ◌<◌, List, ℕ, false, length, IfOk, IfSome};
 ghost use Rattle.std.specs.declared.option.Option.{Option};
 ghost use Rattle.std.specs.Io.KnownBytes.{Keeps};
+ghost use Rattle.fsoe_io.specs.Desk.{has_failed};
 ghost use Rattle.fsoe_io.specs.Faults.{Rose};
 
 /// Why a text wasn't loaded.
@@ -24,7 +25,8 @@ pub trait Desk {
     ghost faults: { Self → List ℕ → ℕ };
 
     /// Returns the bytes under the name. `TooLong` if and only if loading didn't fail and they are more than `limit`.
-    /// `Failed` only if the count of this name rose by one or is 2^64 - 1. `Memory` if there is none for the bytes.
+    /// The count of this name rises by one with `Failed`, unless it is 2^64 - 1, and stays else. `Memory` if there is
+    /// none for the bytes.
     fn load(&mut self, name: &str, limit: usize) -> Result<Vec<u8>, LoadFault>
         ensures bytes { IfOk result (λ text. IfSome (holds self.old name.now) (λ held. text.items ≡ held)) }
         ensures within { IfOk result (λ text. length text.items ≤ limit) }
@@ -32,5 +34,6 @@ pub trait Desk {
         ensures told { (any : List ℕ) → Keeps (holds self.old any) (holds self.new any) }
         ensures later { faults self.old name.now ≤ faults self.new name.now }
         ensures others { (other : List ℕ) → other ≢ name.now → faults self.new other ≡ faults self.old other }
-        ensures cause { result ≡ Err LoadFault.Failed → Rose (faults self.old name.now) (faults self.new name.now) };
+        ensures cause { result ≡ Err LoadFault.Failed → Rose (faults self.old name.now) (faults self.new name.now) }
+        ensures stayed { has_failed result ≡ false → faults self.new name.now ≡ faults self.old name.now };
 }

@@ -1,5 +1,5 @@
 //! The files of the system as a desk: the trusted edge.
-ghost use Rattle.std.specs.Prelude.{◌≡◌, ◌≢◌, ◌≤◌, ◌<◌, ℕ, List, None, [], ◌∷◌, ◌++◌, length, IfOk, IfSome, if◌then◌else◌};
+ghost use Rattle.std.specs.Prelude.{◌≡◌, ◌≢◌, ◌≤◌, ◌<◌, ℕ, List, None, false, [], ◌∷◌, ◌++◌, length, IfOk, IfSome, if◌then◌else◌};
 ghost use Rattle.fsoe_io.specs.Desk.{failed_loads, has_failed};
 ghost use Rattle.fsoe_io.specs.Faults.{Rose};
 
@@ -78,6 +78,7 @@ impl<R: Files + AllocGlobal> Desk for FileDesk<R> {
         ensures later { failed_loads self.old.failed.names name.now ≤ failed_loads self.new.failed.names name.now }
         ensures others { (other : List ℕ) → other ≢ name.now → failed_loads self.new.failed.names other ≡ failed_loads self.old.failed.names other }
         ensures cause { result ≡ Err LoadFault.Failed → Rose (failed_loads self.old.failed.names name.now) (failed_loads self.new.failed.names name.now) }
+        ensures stayed { has_failed result ≡ false → failed_loads self.new.failed.names name.now ≡ failed_loads self.old.failed.names name.now }
         // A load that fails, and no other, is recorded.
         ensures noted { self.new.failed.names ≡ (if has_failed result then self.old.failed.names ++ name.now ∷ [] else self.old.failed.names) }
     {

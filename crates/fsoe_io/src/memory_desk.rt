@@ -1,6 +1,6 @@
 //! Desks in memory.
 ghost use Rattle.std.specs.Io.KnownBytes.{Keeps};
-ghost use Rattle.std.specs.Prelude.{◌≡◌, ◌≢◌, ◌≤◌, ◌<◌, ◌+◌, ◌⊎◌, Some, List, ℕ, [], ◌∷◌, ◌++◌, if◌then◌else◌, length, map, IsSome, IsNone, IfOk, IfSome, option_map, find, bytes_eq, string_bytes};
+ghost use Rattle.std.specs.Prelude.{◌≡◌, ◌≢◌, ◌≤◌, ◌<◌, ◌+◌, ◌⊎◌, false, Some, List, ℕ, [], ◌∷◌, ◌++◌, if◌then◌else◌, length, map, IsSome, IsNone, IfOk, IfSome, option_map, find, bytes_eq, string_bytes};
 ghost use Rattle.fsoe_io.specs.Desk.{named, text_under, failed_loads, has_failed};
 ghost use Rattle.fsoe_io.specs.Faults.{Rose};
 ghost use Rattle.fsoe_io.specs.Planned.{is_next_listed, with_one_more};
@@ -125,6 +125,7 @@ impl Desk for MemDesk {
         ensures later { failed_loads self.old.failed name.now ≤ failed_loads self.new.failed name.now }
         ensures others { (other : List ℕ) → other ≢ name.now → failed_loads self.new.failed other ≡ failed_loads self.old.failed other }
         ensures cause { result ≡ Err LoadFault.Failed → Rose (failed_loads self.old.failed name.now) (failed_loads self.new.failed name.now) }
+        ensures stayed { has_failed result ≡ false → failed_loads self.new.failed name.now ≡ failed_loads self.old.failed name.now }
         // It fails exactly at the listed calls and where the name is absent, unless memory runs out.
         ensures fails { IsSome (text_under self.old.files name.now) → result ≢ Err LoadFault.Memory → has_failed result ≡ is_next_listed self.old.planned }
         ensures absent { IsNone (text_under self.old.files name.now) → (result ≡ Err LoadFault.Failed) ⊎ (result ≡ Err LoadFault.Memory) }

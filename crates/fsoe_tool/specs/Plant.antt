@@ -89,13 +89,17 @@ RanText text ended o h = (said : Result ConfView ConfFault) × Says text said ×
 abbrev pub max_config : ℕ
 max_config = 262144
 
+-- no load of this name failed
+abbrev pub NoneFailed : DeskTold → Type 0
+NoneFailed desk = desk.faults_after ≡ desk.faults_before
+
 -- what may be answered to a load of a configuration: where the desk tells it, the text under the name; that it is too
--- long, only where it is; and a failure, only where the desk's count of failed loads of this name rose
+-- long, only where it is; and a failure, exactly where the desk's count of failed loads of this name rose
 abbrev pub MayAnswer : DeskTold → Result (List ℕ) LoadFault → Type 0
-MayAnswer desk (Ok text) = IfSome desk.text (λ held. text ≡ held) × (length text ≤ max_config)
+MayAnswer desk (Ok text) = IfSome desk.text (λ held. text ≡ held) × (length text ≤ max_config) × NoneFailed desk
 MayAnswer desk (Err load.Failed) = Rose desk.faults_before desk.faults_after
-MayAnswer desk (Err load.TooLong) = IfSome desk.text (λ held. max_config < length held)
-MayAnswer desk (Err load.Memory) = Unit {0}
+MayAnswer desk (Err load.TooLong) = IfSome desk.text (λ held. max_config < length held) × NoneFailed desk
+MayAnswer desk (Err load.Memory) = NoneFailed desk
 
 -- what comes of an answer
 abbrev pub RanAnswer : {C : Type 0} → Result (List ℕ) LoadFault → Ended → Outside → Handed C → Type 0

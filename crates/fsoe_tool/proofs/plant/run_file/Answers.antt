@@ -7,7 +7,7 @@ pub returns-in-Ok : goal.returns-in-Ok
 returns-in-Ok g c = record {
   ran = record {
     answer = Ok c.in-Ok.text.items;
-    may = (c.in-Ok.ensures.bytes, c.in-Ok.ensures.within);
+    may = (c.in-Ok.ensures.bytes, c.in-Ok.ensures.within, c.in-Ok.ensures.stayed refl);
     ran = rw c.as_slice.ensures.value at c.run_text.ensures.ran;
     later = c.in-Ok.ensures.later;
   };
@@ -37,7 +37,7 @@ returns-in-Err-TooLong g c =
     record {
       ran = record {
         answer = Err load.TooLong;
-        may = told.too_long refl;
+        may = (told.too_long refl, told.stayed refl);
         ran = record {
           nothing = record { left = refl; faults = refl; channels = refl; journal = c.requires.empty };
           wrote = c.refuse.ensures.writes;
@@ -49,17 +49,19 @@ returns-in-Err-TooLong g c =
     }
 
 pub returns : goal.returns
-returns g c = record {
-  ran = record {
-    answer = Err load.Memory;
-    may = tt;
-    ran = record {
-      nothing = record { left = refl; faults = refl; channels = refl; journal = c.requires.empty };
-      ended_is = refl;
-      written = refl;
-      faults = refl;
-    };
-    later = c.in-Err-Memory.ensures.later;
-  };
-  others = c.in-Err-Memory.ensures.others;
-}
+returns g c =
+    let told = rw c.in-Err-Memory.field-0-is at c.in-Err-Memory.ensures in
+    record {
+      ran = record {
+        answer = Err load.Memory;
+        may = told.stayed refl;
+        ran = record {
+          nothing = record { left = refl; faults = refl; channels = refl; journal = c.requires.empty };
+          ended_is = refl;
+          written = refl;
+          faults = refl;
+        };
+        later = told.later;
+      };
+      others = told.others;
+    }
