@@ -74,4 +74,5 @@ new_stands settings app v h a i c = record {
   app_is = a;
   inputs_are = i ∙ new-inputs settings v.masters h;
   changed_are = c;
+  sound = tt;
 }

@@ -15,9 +15,9 @@ use Rattle.master_core.specs.MasterView.{MasterView}
 use Rattle.master_core.specs.Now.{is_due}
 use Rattle.master_core.specs.Waiting.{Accepts, Replies, ShowsDue}
 use Rattle.multi_master.specs.Connection.{Connection, setup, next_deed, with_event, outputs_at, offer_at, offer_len, with_offers}
-use Rattle.multi_master.specs.Calls.{AppView, Call, Deliver, Meant, IsGuarded, event_at, answer, is_heard, cycle_in, with_cycle, after, meant}
+use Rattle.multi_master.specs.Calls.{AppView, Call, Deliver, Meant, IsSound, event_at, answer, is_heard, cycle_in, with_cycle, after, meant}
 use Rattle.multi_master.specs.Puts.{own_len, PutsEach, RunsCycle}
-use Rattle.multi_master.specs.Standing.{MultiView, settings_in, IsWhere, StandsFor, Follows, Offers, Guards, AnswersFrame, newest_at}
+use Rattle.multi_master.specs.Standing.{MultiView, settings_in, IsWhere, StandsFor, Follows, AnswersFrame, newest_at}
 use Rattle.multi_master.proofs.Following.{own_lens, cycle_answers, guards_alike}
 use Rattle.multi_master.proofs.Hearing.{replied}
 use Rattle.multi_master.proofs.Places.{at_place, map_set, set_there}
@@ -79,31 +79,11 @@ drop_follows old new link place bytes did n d = record {
   stands = λ settings app calls h.
       let m : Meant = meant settings app calls in
       let x = dropped settings app old new calls place bytes did h d in
+      let none : cycle_in (Deliver link bytes) m ≡ None = ap (λ (k : ℕ). cycle_in (Deliver k bytes) m) n ∙ cycle-is m place x.there bytes false x.is x.none in
       let is : after (Deliver link bytes) m ≡ event_at (suc place) (move.Deliver bytes) m =
-      ap (λ (k : ℕ). after (Deliver k bytes) m) n
-      ∙ ap (λ (o : Option Answer). event_at (suc place) (move.Deliver bytes) (with_cycle o m)) (cycle-is m place x.there bytes false x.is x.none)
-      in
-      quiet_stands settings app old new calls (Deliver link bytes) place (move.Deliver bytes) x.there d.last h is
+      ap₂ (λ (k : ℕ) (o : Option Answer). event_at k (move.Deliver bytes) (with_cycle o m)) n none in
+      quiet_stands settings app old new calls (Deliver link bytes) place (move.Deliver bytes) x.there d.last h none is
       (record { is = x.is; offer = refl; outputs = quiet_frame (setup x.there) x.there.deeds bytes x.none }) x.holds d.masters_are d.app_is d.inputs_are d.changed_are;
-}
-
-pub drop_offers : (old new : MultiView) (link place : ℕ) (bytes : List ℕ) (did : Did) → link ≡ suc place → Drops old place bytes did new → Offers old (Deliver link bytes)
-drop_offers old new link place bytes did n d = record {
-  offers = λ settings app calls h.
-      let m : Meant = meant settings app calls in
-      let x = dropped settings app old new calls place bytes did h d in
-      let none : cycle_in (Deliver link bytes) m ≡ None = ap (λ (k : ℕ). cycle_in (Deliver k bytes) m) n ∙ cycle-is m place x.there bytes false x.is x.none in
-      subst (λ (o : Option Answer). IfSome o (λ a. map offer_at (meant settings app (Deliver link bytes ∷ calls)).connections ≡ a.outputs)) (sym none) tt;
-}
-
-pub drop_guards : (old new : MultiView) (link place : ℕ) (bytes : List ℕ) (did : Did) → link ≡ suc place → Drops old place bytes did new → Guards old (Deliver link bytes)
-drop_guards old new link place bytes did n d = record {
-  guards = λ settings app calls h.
-      let m : Meant = meant settings app calls in
-      let x = dropped settings app old new calls place bytes did h d in
-      let none : cycle_in (Deliver link bytes) m ≡ None = ap (λ (k : ℕ). cycle_in (Deliver k bytes) m) n ∙ cycle-is m place x.there bytes false x.is x.none in
-      let later : Meant = meant settings app (Deliver link bytes ∷ calls) in
-      subst (λ (o : Option Answer). IfSome o (IsGuarded later)) (sym none) tt;
 }
 
 pub drop_answers : (old new : MultiView) (link place : ℕ) (bytes : List ℕ) (did : Did) (frame : List ℕ) → link ≡ suc place → frame ≡ [] → Drops old place bytes did new
@@ -151,8 +131,7 @@ record Heard (m : Meant) (place : ℕ) (bytes : List ℕ) (did : Did) (new : Mul
   pub cycle_is : cycle_in (Deliver (suc place) bytes) m ≡ Some cycle
   pub after_is : after (Deliver (suc place) bytes) m ≡ later
   pub stands : StandsIn m later new
-  pub offers_are : map offer_at later.connections ≡ cycle.outputs
-  pub guarded : IsGuarded later cycle
+  pub sound : IsSound later cycle
   pub is : slice_get later.connections place ≡ Some (with_event (move.Deliver bytes) there)
   pub deed_is : next_deed (move.Deliver bytes) there ≡ deed (move.Deliver bytes) (record did { sent = true }) frame
 
@@ -208,8 +187,10 @@ heard settings app old new calls place bytes did frame h t =
         inputs_are = inputs_after;
         changed_are = puts.changed_are ∙ sym (puts_told 1 cs puts.steps r.shown) ∙ sym (told_set 1 cs (with_offers loads cs) place r.there e r.is refl);
       };
-      offers_are = map_set offer_at (with_offers loads cs) place r.there e r.is refl ∙ offers_put cs puts.steps r.shown ∙ load;
-      guarded = guards_alike old.app.guards m.app.guards new.inputs _ t.cycle.answers _ (ap (λ (app : AppView). app.guards) h.app_is) inputs_after said.0 t.cycle.cycle.guarded;
+      sound = record {
+        answered = map_set offer_at (with_offers loads cs) place r.there e r.is refl ∙ offers_put cs puts.steps r.shown ∙ load;
+        guarded = guards_alike old.app.guards m.app.guards new.inputs _ t.cycle.answers _ (ap (λ (app : AppView). app.guards) h.app_is) inputs_after said.0 t.cycle.cycle.guarded;
+      };
       is = set_there (with_offers loads cs) place r.there e r.is;
       deed_is = same_deed (move.Deliver bytes) _ _ _ _ same_did (sym r.sent_is);
     }
@@ -217,31 +198,10 @@ heard settings app old new calls place bytes did frame h t =
 pub hear_follows : (old new : MultiView) (link place : ℕ) (bytes : List ℕ) (did : Did) (frame : List ℕ) → link ≡ suc place → Hears old place bytes did new frame → Follows old (Deliver link bytes) new
 hear_follows old new link place bytes did frame n t = record {
   stands = λ settings app calls h.
-      let x = heard settings app old new calls place bytes did frame h t in
-      stands_so settings app new calls (Deliver link bytes) x.later (ap (λ (k : ℕ). after (Deliver k bytes) (meant settings app calls)) n ∙ x.after_is) x.stands;
-}
-
-pub hear_offers : (old new : MultiView) (link place : ℕ) (bytes : List ℕ) (did : Did) (frame : List ℕ) → link ≡ suc place → Hears old place bytes did new frame → Offers old (Deliver link bytes)
-hear_offers old new link place bytes did frame n t = record {
-  offers = λ settings app calls h.
       let m : Meant = meant settings app calls in
       let x = heard settings app old new calls place bytes did frame h t in
-      let some : cycle_in (Deliver link bytes) m ≡ Some x.cycle = ap (λ (k : ℕ). cycle_in (Deliver k bytes) m) n ∙ x.cycle_is in
-      let is : after (Deliver link bytes) m ≡ x.later = ap (λ (k : ℕ). after (Deliver k bytes) m) n ∙ x.after_is in
-      subst (λ (o : Option Answer). IfSome o (λ a. map offer_at (meant settings app (Deliver link bytes ∷ calls)).connections ≡ a.outputs)) (sym some)
-      (ap (λ (y : Meant). map offer_at y.connections) is ∙ x.offers_are);
-}
-
-pub hear_guards : (old new : MultiView) (link place : ℕ) (bytes : List ℕ) (did : Did) (frame : List ℕ) → link ≡ suc place → Hears old place bytes did new frame → Guards old (Deliver link bytes)
-hear_guards old new link place bytes did frame n t = record {
-  guards = λ settings app calls h.
-      let m : Meant = meant settings app calls in
-      let x = heard settings app old new calls place bytes did frame h t in
-      let some : cycle_in (Deliver link bytes) m ≡ Some x.cycle = ap (λ (k : ℕ). cycle_in (Deliver k bytes) m) n ∙ x.cycle_is in
-      let is : after (Deliver link bytes) m ≡ x.later = ap (λ (k : ℕ). after (Deliver k bytes) m) n ∙ x.after_is in
-      let later : Meant = meant settings app (Deliver link bytes ∷ calls) in
-      subst (λ (o : Option Answer). IfSome o (IsGuarded later)) (sym some)
-      (subst (λ (y : Meant). IsGuarded y x.cycle) (sym is) x.guarded);
+      stands_so settings app old new calls (Deliver link bytes) x.later h (ap (λ (k : ℕ). after (Deliver k bytes) m) n ∙ x.after_is)
+      (subst (λ (o : Option Answer). IfSome o (IsSound x.later)) (sym (ap (λ (k : ℕ). cycle_in (Deliver k bytes) m) n ∙ x.cycle_is)) x.sound) x.stands;
 }
 
 pub hear_answers : (old new : MultiView) (link place : ℕ) (bytes : List ℕ) (did : Did) (frame : List ℕ) → link ≡ suc place → Hears old place bytes did new frame

@@ -7,9 +7,9 @@ use Rattle.failsafe_io.specs.Application.{Answer, GuardsBy}
 use Rattle.param_load.specs.declared.master_settings.MasterSettings.{MasterSettings}
 use Rattle.master_core.specs.MasterView.{MasterView}
 use Rattle.multi_master.specs.Connection.{Connection, outputs_at, offer_at, offer_len, with_offers}
-use Rattle.multi_master.specs.Calls.{AppView, Call, Tick, ChangeApp, Meant, IsGuarded, all_tick, answer, with_cycle, meant, changed_from}
+use Rattle.multi_master.specs.Calls.{AppView, Call, Tick, ChangeApp, Meant, IsSound, all_tick, answer, with_cycle, meant, changed_from}
 use Rattle.multi_master.specs.Puts.{own_len, PutsEach, Cycles, RunsCycle, TicksEach}
-use Rattle.multi_master.specs.Standing.{MultiView, IsWhere, StandsFor, Follows, Offers, Guards, AnswersTick}
+use Rattle.multi_master.specs.Standing.{MultiView, IsWhere, StandsFor, Follows, AnswersTick}
 use Rattle.multi_master.proofs.Putting.{puts_where, all_shown, offers_put, all_outputs_put, puts_told}
 use Rattle.multi_master.proofs.Ticking.{ticks_where, ticks_read, ticks_did, ticks_sent, told_ticked}
 
@@ -47,8 +47,7 @@ pub record CycleDone (m : Meant) (ticked : Bool) (masters : List MasterView) (ap
   pub app_is : app ≡ (with_cycle (Some (answer ticked m)) m).app
   pub inputs_are : inputs ≡ map outputs_at (with_cycle (Some (answer ticked m)) m).connections
   pub told_are : told ≡ changed_from 1 m.connections (with_cycle (Some (answer ticked m)) m).connections
-  pub offers_are : map offer_at (with_cycle (Some (answer ticked m)) m).connections ≡ (answer ticked m).outputs
-  pub guarded : IsGuarded (with_cycle (Some (answer ticked m)) m) (answer ticked m)
+  pub sound : IsSound (with_cycle (Some (answer ticked m)) m) (answer ticked m)
 
 pub cycle_done : (m : Meant) (old new : AppView) (ticked : Bool) (inputs : List (List ℕ)) (middle masters : List MasterView) (told : List ℕ) → old ≡ m.app
     → inputs ≡ map outputs_at m.connections → AllZip IsWhere m.connections middle → RunsCycle old ticked inputs middle new masters told
@@ -67,8 +66,10 @@ cycle_done m old new ticked inputs middle masters told a i w r =
       app_is = both.1;
       inputs_are = inputs_after;
       told_are = p.changed_are ∙ sym (puts_told 1 m.connections p.steps shown) ∙ ap (λ (loads : List (List ℕ)). changed_from 1 m.connections (with_offers loads m.connections)) load;
-      offers_are = ap (λ (loads : List (List ℕ)). map offer_at (with_offers loads m.connections)) (sym load) ∙ offers_put m.connections p.steps shown ∙ load;
-      guarded = guards_alike old.guards m.app.guards inputs _ r.answers _ (ap (λ (app : AppView). app.guards) a) inputs_after both.0 r.cycle.guarded;
+      sound = record {
+        answered = ap (λ (loads : List (List ℕ)). map offer_at (with_offers loads m.connections)) (sym load) ∙ offers_put m.connections p.steps shown ∙ load;
+        guarded = guards_alike old.guards m.app.guards inputs _ r.answers _ (ap (λ (app : AppView). app.guards) a) inputs_after both.0 r.cycle.guarded;
+      };
     }
 
 -- a tick of all connections
@@ -100,14 +101,9 @@ tick_follows old new dids frames t = record {
         app_is = d.app_is;
         inputs_are = d.inputs_are;
         changed_are = d.told_are ∙ told_ticked 1 (meant settings app calls).connections _;
+        sound = (d.sound, h.sound);
       };
 }
-
-pub tick_offers : (old new : MultiView) (dids : List Did) (frames : List (List ℕ)) → Ticks old new dids frames → Offers old Tick
-tick_offers old new dids frames t = record { offers = λ settings app calls h. (tick-done settings app old new dids frames calls h t).offers_are }
-
-pub tick_guards : (old new : MultiView) (dids : List Did) (frames : List (List ℕ)) → Ticks old new dids frames → Guards old Tick
-tick_guards old new dids frames t = record { guards = λ settings app calls h. (tick-done settings app old new dids frames calls h t).guarded }
 
 pub tick_answers : (old new : MultiView) (dids : List Did) (frames : List (List ℕ)) → Ticks old new dids frames → AnswersTick old dids frames
 tick_answers old new dids frames t = record {
@@ -122,23 +118,12 @@ pub record Changes (old : MultiView) (app : AppView) (new : MultiView) : Type 0 
   pub cycle : RunsCycle app false old.inputs old.masters new.app new.masters new.changed
   pub inputs_are : new.inputs ≡ old.inputs
 
-change-done : (settings : List MasterSettings) (first app : AppView) (old new : MultiView) (calls : List Call) → StandsFor settings first old calls → Changes old app new
-    → CycleDone (record (meant settings first calls) { app = app }) false new.masters new.app old.inputs new.changed
-change-done settings first app old new calls h t =
-    cycle_done (record (meant settings first calls) { app = app }) app new.app false old.inputs old.masters new.masters new.changed refl h.inputs_are h.masters t.cycle
-
 pub change_follows : (old new : MultiView) (app : AppView) → Changes old app new → Follows old (ChangeApp app) new
 change_follows old new app t = record {
   stands = λ settings first calls h.
-      let d = change-done settings first app old new calls h t in
-      record { masters = d.masters_are; app_is = d.app_is; inputs_are = t.inputs_are ∙ d.inputs_are; changed_are = d.told_are };
+      let d = cycle_done (record (meant settings first calls) { app = app }) app new.app false old.inputs old.masters new.masters new.changed refl h.inputs_are h.masters t.cycle in
+      record { masters = d.masters_are; app_is = d.app_is; inputs_are = t.inputs_are ∙ d.inputs_are; changed_are = d.told_are; sound = (d.sound, h.sound) };
 }
-
-pub change_offers : (old new : MultiView) (app : AppView) → Changes old app new → Offers old (ChangeApp app)
-change_offers old new app t = record { offers = λ settings first calls h. (change-done settings first app old new calls h t).offers_are }
-
-pub change_guards : (old new : MultiView) (app : AppView) → Changes old app new → Guards old (ChangeApp app)
-change_guards old new app t = record { guards = λ settings first calls h. (change-done settings first app old new calls h t).guarded }
 
 -- a cycle over lists that are the same
 pub runs_alike : (old new : AppView) (ticked : Bool) (inputs inputs' : List (List ℕ)) (before before' put put' : List MasterView) (told : List ℕ) → RunsCycle old ticked inputs before new put told

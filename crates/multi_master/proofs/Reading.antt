@@ -1,6 +1,7 @@
 -- What is shown of one connection, and an event at one.
-use Rattle.std.proofs.Common.{◌≡◌, ℕ, suc, ◌-◌, List, [], ◌∷◌, map, slice_get, slice_set, Some, refl, sym, ap, subst, ◌∙◌, arith}
+use Rattle.std.proofs.Common.{◌≡◌, ℕ, suc, ◌-◌, List, [], ◌∷◌, map, slice_get, slice_set, Option, Some, None, IfSome, refl, sym, ap, subst, ◌∙◌, arith}
 use Rattle.std.specs.List.{AllZip}
+use Rattle.failsafe_io.specs.Application.{Answer}
 use Rattle.param_load.specs.declared.entry.Move.{Move}
 use Rattle.param_load.specs.declared.entry.Move.TheVariants as move
 use Rattle.param_load.specs.declared.master_settings.MasterSettings.{MasterSettings}
@@ -9,7 +10,7 @@ use Rattle.end_model.specs.Setup.{Setup}
 use Rattle.master_core.specs.MasterView.{MasterView}
 use Rattle.master_core.specs.Standing as core
 use Rattle.multi_master.specs.Connection.{Connection, setup, with_event, outputs_at, offer_at}
-use Rattle.multi_master.specs.Calls.{AppView, Call, Nonce, Meant, event_at, after, meant, changed_from}
+use Rattle.multi_master.specs.Calls.{AppView, Call, Nonce, Meant, IsSound, event_at, cycle_in, after, meant, changed_from}
 use Rattle.multi_master.specs.Standing.{MultiView, IsWhere, StandsFor, Follows, ShowsAt}
 use Rattle.multi_master.proofs.Places.{at_place, zip_set, map_set}
 use Rattle.multi_master.proofs.Quiet.{none_told}
@@ -37,11 +38,17 @@ pub record StandsIn (before after_it : Meant) (v : MultiView) : Type 0 where
   pub inputs_are : v.inputs ≡ map outputs_at after_it.connections
   pub changed_are : v.changed ≡ changed_from 1 before.connections after_it.connections
 
-pub stands_so : (settings : List MasterSettings) (app : AppView) (v : MultiView) (calls : List Call) (call : Call) (after_it : Meant) → after call (meant settings app calls) ≡ after_it
-    → StandsIn (meant settings app calls) after_it v → StandsFor settings app v (call ∷ calls)
-stands_so settings app v calls call after_it e s =
+pub stands_so : (settings : List MasterSettings) (app : AppView) (old v : MultiView) (calls : List Call) (call : Call) (after_it : Meant) → StandsFor settings app old calls → after call (meant settings app calls) ≡ after_it
+    → IfSome (cycle_in call (meant settings app calls)) (IsSound after_it) → StandsIn (meant settings app calls) after_it v → StandsFor settings app v (call ∷ calls)
+stands_so settings app old v calls call after_it h e one s =
     let t : StandsIn (meant settings app calls) (after call (meant settings app calls)) v = subst (λ (m : Meant). StandsIn (meant settings app calls) m v) (sym e) s in
-    record { masters = t.masters; app_is = t.app_is; inputs_are = t.inputs_are; changed_are = t.changed_are }
+    record {
+      masters = t.masters;
+      app_is = t.app_is;
+      inputs_are = t.inputs_are;
+      changed_are = t.changed_are;
+      sound = (subst (λ (m : Meant). IfSome (cycle_in call (meant settings app calls)) (IsSound m)) (sym e) one, h.sound);
+    }
 
 -- an event at one master that changes no offer and no outputs
 pub record Quiets (m : Meant) (place : ℕ) (what : Move) (c : Connection) : Type 0 where
@@ -50,12 +57,13 @@ pub record Quiets (m : Meant) (place : ℕ) (what : Move) (c : Connection) : Typ
   pub outputs : outputs_at (with_event what c) ≡ outputs_at c
 
 pub quiet_stands : (settings : List MasterSettings) (app : AppView) (old new : MultiView) (calls : List Call) (call : Call) (place : ℕ) (what : Move) (c : Connection) (last : MasterView)
-    → StandsFor settings app old calls → after call (meant settings app calls) ≡ event_at (suc place) what (meant settings app calls)
+    → StandsFor settings app old calls → cycle_in call (meant settings app calls) ≡ None → after call (meant settings app calls) ≡ event_at (suc place) what (meant settings app calls)
     → Quiets (meant settings app calls) place what c → IsWhere (with_event what c) last → new.masters ≡ slice_set old.masters place last → new.app ≡ old.app → new.inputs ≡ old.inputs → new.changed ≡ []
     → StandsFor settings app new (call ∷ calls)
-quiet_stands settings app old new calls call place what c last h a q w nm na ni nc =
+quiet_stands settings app old new calls call place what c last h none a q w nm na ni nc =
     let m : Meant = meant settings app calls in
-    stands_so settings app new calls call (record m { connections = slice_set m.connections place (with_event what c) }) (a ∙ event_is m place c what q.is)
+    let later : Meant = record m { connections = slice_set m.connections place (with_event what c) } in
+    stands_so settings app old new calls call later h (a ∙ event_is m place c what q.is) (subst (λ (o : Option Answer). IfSome o (IsSound later)) (sym none) tt)
     (record {
       masters = rw nm (zip_set IsWhere m.connections old.masters place (with_event what c) last h.masters w);
       app_is = na ∙ h.app_is;
@@ -70,6 +78,6 @@ nonce_follows old new link place id m last n at f nm na ni nc = record {
   stands = λ settings app calls h.
       let p = at_place IsWhere (meant settings app calls).connections old.masters place m h.masters at in
       let c : Connection = p.there in
-      quiet_stands settings app old new calls (Nonce link id) place (move.Nonce id) c last h (ap (λ k. event_at k (move.Nonce id) (meant settings app calls)) n)
+      quiet_stands settings app old new calls (Nonce link id) place (move.Nonce id) c last h refl (ap (λ k. event_at k (move.Nonce id) (meant settings app calls)) n)
       (record { is = p.is; offer = refl; outputs = refl }) (f.is_after c.settings c.deeds p.holds) nm na ni nc;
 }

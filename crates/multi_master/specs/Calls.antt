@@ -1,6 +1,6 @@
 -- What the calls of a master of many connections mean, newest first: what each connection's master did, and the
 -- application that runs.
-use Rattle.std.specs.Prelude.{ℕ, zero, suc, ◌-◌, Bool, true, false, List, [], ◌∷◌, map, slice_get, slice_set, Option, Some, None, option_map, if◌then◌else◌}
+use Rattle.std.specs.Prelude.{◌≡◌, ℕ, zero, suc, ◌-◌, Bool, true, false, List, [], ◌∷◌, map, slice_get, slice_set, Option, Some, None, option_map, if◌then◌else◌}
 use Rattle.failsafe_io.specs.declared.bit.Bit.{Bit}
 use Rattle.failsafe_io.specs.Application.{Answer, GuardsBy}
 use Rattle.param_load.specs.declared.entry.Move.{Move}
@@ -68,9 +68,11 @@ cycle_in Tick m = Some (answer true (all_tick m))
 cycle_in (Nonce link id) m = None
 cycle_in (ChangeApp app) m = Some (answer false (record m { app = app }))
 
--- each output bit of an answer is 0 that the application that runs guards by an input bit that is 0
-abbrev pub IsGuarded : Meant → Answer → Type 0
-IsGuarded m a = GuardsBy m.app.guards (map outputs_at m.connections) a.outputs
+-- after a cycle with this answer all offers are it, and each of its output bits is 0 that the application that runs
+-- guards by an input bit that is 0
+pub record IsSound (m : Meant) (a : Answer) : Type 0 where
+  pub answered : map offer_at m.connections ≡ a.outputs
+  pub guarded : GuardsBy m.app.guards (map outputs_at m.connections) a.outputs
 
 -- the answers of a cycle, if one is run, are put as all connections' offers, and the application holds then what its
 -- answer says

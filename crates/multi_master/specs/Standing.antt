@@ -9,9 +9,9 @@ use Rattle.param_load.specs.declared.master_settings.MasterSettings.{MasterSetti
 use Rattle.end_model.specs.Deed.{Deed}
 use Rattle.master_core.specs.MasterView.{MasterView}
 use Rattle.master_core.specs.Standing.{MasterIsAfter}
-use Rattle.multi_master.specs.Connection.{Connection, next_deed, outputs_at, offer_at}
+use Rattle.multi_master.specs.Connection.{Connection, next_deed, outputs_at}
 use Rattle.multi_master.specs.Puts.{own_len, due_in}
-use Rattle.multi_master.specs.Calls.{Rule, AppView, Call, Deliver, Meant, IsGuarded, connection, cycle_in, meant, changed}
+use Rattle.multi_master.specs.Calls.{Rule, AppView, Call, Deliver, Meant, IsSound, connection, cycle_in, meant, changed}
 
 -- what a master of many connections is, with an application of any type: the masters in the order of the connections,
 -- the application that runs, the inputs that it reads in a cycle, and the connections whose offers the last call
@@ -77,29 +77,26 @@ pub record IsMulti (masters : List MasterView) (inputs answers : List (List ℕ)
 abbrev pub IsWhere : Connection → MasterView → Type 0
 IsWhere c m = MasterIsAfter c.settings m c.deeds
 
+-- the answer of each of these calls that ran a cycle is sound
+abbrev pub AllSound : List MasterSettings → AppView → List Call → Type 0
+AllSound settings app [] = Unit {0}
+AllSound settings app (call ∷ calls) =
+    IfSome (cycle_in call (meant settings app calls)) (IsSound (meant settings app (call ∷ calls))) × AllSound settings app calls
+
 -- it was made with these settings and this application, and stands for these calls: each master is where the deeds of
--- its connection leave it, the application is that which runs, its inputs are the masters' outputs, and the changed
--- offers are told
+-- its connection leave it, the application is that which runs, its inputs are the masters' outputs, the changed offers
+-- are told, and each cycle's answer was sound
 pub record StandsFor (settings : List MasterSettings) (app : AppView) (v : MultiView) (calls : List Call) : Type 0 where
   pub masters : AllZip IsWhere (meant settings app calls).connections v.masters
   pub app_is : v.app ≡ (meant settings app calls).app
   pub inputs_are : v.inputs ≡ map outputs_at (meant settings app calls).connections
   pub changed_are : v.changed ≡ changed settings app calls
+  pub sound : AllSound settings app calls
 
 -- what stood for some calls stands for these and this one
 pub record Follows (old : MultiView) (call : Call) (new : MultiView) : Type 0 where
   pub stands : (settings : List MasterSettings) (app : AppView) (calls : List Call) → StandsFor settings app old calls
       → StandsFor settings app new (call ∷ calls)
-
--- where a call runs a cycle, its answers are the offers of all connections after it
-pub record Offers (old : MultiView) (call : Call) : Type 0 where
-  pub offers : (settings : List MasterSettings) (app : AppView) (calls : List Call) → StandsFor settings app old calls
-      → IfSome (cycle_in call (meant settings app calls)) (λ a. map offer_at (meant settings app (call ∷ calls)).connections ≡ a.outputs)
-
--- where a call runs a cycle, its answer keeps off what is guarded, by the application and the outputs after it
-pub record Guards (old : MultiView) (call : Call) : Type 0 where
-  pub guards : (settings : List MasterSettings) (app : AppView) (calls : List Call) → StandsFor settings app old calls
-      → IfSome (cycle_in call (meant settings app calls)) (IsGuarded (meant settings app (call ∷ calls)))
 
 -- the deeds of the connection with this number, none where there is no such connection
 abbrev pub deeds_at : ℕ → Meant → List Deed

@@ -48,7 +48,7 @@ impl<A: Application> MultiMaster<A> {
     ghost use Rattle.multi_master.specs.Connection.{setup, outputs_at, offer_at};
     ghost use Rattle.multi_master.specs.Calls.{AppView, Deliver, Tick, Nonce, ChangeApp};
     ghost use Rattle.multi_master.specs.New.{first_fault};
-    ghost use Rattle.multi_master.specs.Standing.{app_view, seen, links, HasLink, StandsFor, Follows, Offers, Guards, AnswersFrame, AnswersTick, ShowsAt, ShowsApp, ShowsChanged, AreNumbers, settings_of};
+    ghost use Rattle.multi_master.specs.Standing.{app_view, seen, links, HasLink, StandsFor, Follows, AnswersFrame, AnswersTick, ShowsAt, ShowsApp, ShowsChanged, AreNumbers, settings_of};
 
     /// Creates the masters of connections with these settings, in this order, each in state Reset, and this
     /// application. No cycle is run: the offers are zeros until the first one. There may be no connection. The first
@@ -111,8 +111,6 @@ impl<A: Application> MultiMaster<A> {
     pub fn deliver(&mut self, link: u16, frame: &[u8], out: &mut FrameBuf) -> Did
         requires { HasLink self.old link }
         ensures follows { let seen = seen A.rule A.holds A.guards in Follows (seen self.old) (Deliver link frame.now) (seen self.new) }
-        ensures offers { Offers (seen A.rule A.holds A.guards self.old) (Deliver link frame.now) }
-        ensures guarded { Guards (seen A.rule A.holds A.guards self.old) (Deliver link frame.now) }
         ensures answers { AnswersFrame (seen A.rule A.holds A.guards self.old) link frame.now result out.new }
         ensures settings { settings_of self.new ≡ settings_of self.old }
         ensures links { links self.new ≡ links self.old }
@@ -126,8 +124,6 @@ impl<A: Application> MultiMaster<A> {
     pub fn deliver_into(&mut self, link: u16, frame: &[u8], did: &mut Did, out: &mut FrameBuf)
         requires { HasLink self.old link }
         ensures follows { let seen = seen A.rule A.holds A.guards in Follows (seen self.old) (Deliver link frame.now) (seen self.new) }
-        ensures offers { Offers (seen A.rule A.holds A.guards self.old) (Deliver link frame.now) }
-        ensures guarded { Guards (seen A.rule A.holds A.guards self.old) (Deliver link frame.now) }
         ensures answers { AnswersFrame (seen A.rule A.holds A.guards self.old) link frame.now did.new out.new }
         ensures settings { settings_of self.new ≡ settings_of self.old }
         ensures links { links self.new ≡ links self.old }
@@ -159,8 +155,6 @@ impl<A: Application> MultiMaster<A> {
         requires outs { length outs.old ≡ links self.old }
         requires dids { length dids.old ≡ links self.old }
         ensures follows { let seen = seen A.rule A.holds A.guards in Follows (seen self.old) Tick (seen self.new) }
-        ensures offers { Offers (seen A.rule A.holds A.guards self.old) Tick }
-        ensures guarded { Guards (seen A.rule A.holds A.guards self.old) Tick }
         ensures answers { AnswersTick (seen A.rule A.holds A.guards self.old) dids.new outs.new }
         ensures settings { settings_of self.new ≡ settings_of self.old }
         ensures links { links self.new ≡ links self.old }
@@ -185,8 +179,6 @@ impl<A: Application> MultiMaster<A> {
     /// results become the offers of all connections. No frame is built in between, so none carries an older offer.
     pub fn first_cycle(&mut self)
         ensures follows { let seen = seen A.rule A.holds A.guards in (other : AppView) → Follows (record (seen self.old) { app = other }) (ChangeApp (seen self.old).app) (seen self.new) }
-        ensures offers { let seen = seen A.rule A.holds A.guards in (other : AppView) → Offers (record (seen self.old) { app = other }) (ChangeApp (seen self.old).app) }
-        ensures guarded { let seen = seen A.rule A.holds A.guards in (other : AppView) → Guards (record (seen self.old) { app = other }) (ChangeApp (seen self.old).app) }
         ensures settings { settings_of self.new ≡ settings_of self.old }
         ensures links { links self.new ≡ links self.old }
     {
@@ -203,8 +195,6 @@ impl<A: Application> MultiMaster<A> {
     /// Replaces the running application with `app`, and runs its first cycle at once, as `first_cycle` does.
     pub fn change_app(&mut self, app: A)
         ensures follows { let seen = seen A.rule A.holds A.guards in Follows (seen self.old) (ChangeApp (app_view A.rule A.holds A.guards app)) (seen self.new) }
-        ensures offers { Offers (seen A.rule A.holds A.guards self.old) (ChangeApp (app_view A.rule A.holds A.guards app)) }
-        ensures guarded { Guards (seen A.rule A.holds A.guards self.old) (ChangeApp (app_view A.rule A.holds A.guards app)) }
         ensures settings { settings_of self.new ≡ settings_of self.old }
         ensures links { links self.new ≡ links self.old }
     {

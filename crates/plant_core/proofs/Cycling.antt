@@ -1,7 +1,7 @@
 -- Acts that run a cycle: the offers that it changed are noted with them.
 use Rattle.std.proofs.Common.{false, ◌≡◌, ℕ, suc, Bool, List, [], ◌∷◌, ◌++◌, map, slice_get, slice_set, Option, Some, option_map, if◌then◌else◌, refl, sym, ap, ap₂, subst, ◌∙◌, append_assoc}
 use Rattle.std.specs.Option.{option_map_or}
-use Rattle.std.specs.Prelude.{IfSome, option_to_list, option_and_then}
+use Rattle.std.specs.Prelude.{option_to_list}
 use Rattle.std.proofs.lemmas.Option.{slice_get-map}
 use Rattle.fsoe_base.specs.declared.command.End.{End}
 use Rattle.fsoe_base.specs.declared.command.End.TheVariants as side
@@ -18,8 +18,8 @@ use Rattle.end_model.specs.Step.{step as next_step}
 use Rattle.exchange_model.specs.Ends.{peer}
 use Rattle.exchange_model.specs.Monitor.{HasParts}
 use Rattle.exchange_model.specs.World.{deeds, deed_in, frames_of}
-use Rattle.multi_master.specs.Calls.{AppView, Call, Deliver, Tick, ChangeApp, Meant, IsGuarded, connection, cycle_in, meant, changed}
-use Rattle.multi_master.specs.Connection.{Connection, next_deed, offer_at}
+use Rattle.multi_master.specs.Calls.{AppView, Call, Deliver, Tick, ChangeApp, Meant, connection, meant, changed}
+use Rattle.multi_master.specs.Connection.{Connection, next_deed}
 use Rattle.multi_master.specs.Standing as multi
 use Rattle.multi_master.specs.Standing.{MultiView, StandsFor, AnswersFrame, AnswersTick, newest_at}
 use Rattle.plant_model.specs.declared.event.PlantEvent.TheVariants as event
@@ -31,7 +31,6 @@ use Rattle.plant_model.specs.Gifts.{place_of, sent_uses}
 use Rattle.plant_model.specs.Pair.{next_of, pair, link_at, pairs_by}
 use Rattle.plant_core.specs.Doing.{next_uses, one_each, frames_pushed, SlavesTick, HaveParts, MastersNoted, MasterActs, OffersNoted, GoesOn, Delivers}
 use Rattle.plant_core.specs.Link.{LinkView, LinkStands}
-use Rattle.plant_model.specs.Promises.{OffersAnswer, GuardsAnswer}
 use Rattle.plant_core.specs.Standing.{PlantView, LinkIs, LinksAre}
 use Rattle.plant_core.proofs.Acting.{trace_append}
 use Rattle.plant_model.proofs.Growing.{IsOne, pair_more, pair_own, pushes_each, no_entry}
@@ -61,8 +60,6 @@ pub record TickChange (old new : PlantView) (before after : Told) : Type 0 where
   pub follows : multi.Follows old.master Tick new.master
   pub answers : AnswersTick old.master dids frames
   pub masters : MastersNoted dids frames mid late between after
-  pub cycles : multi.Offers old.master Tick
-  pub guards : multi.Guards old.master Tick
   pub offers : OffersNoted new.master late new.links (old.journal ++ step.Script event.Tick ∷ []) new.journal
 
 some_same : {X Y : Type 0} (f : X → Y) (xs : List X) (place : ℕ) (x : X) (y : Y) (ys : List Y) → ys ≡ map f xs → slice_get xs place ≡ Some x → slice_get ys place ≡ Some y → y ≡ f x
@@ -129,8 +126,6 @@ tick_goes old new before after c = record {
           master = stands;
           links = subst (λ (js : List JournalStep). LinksAre b.links cut (pairs_by js) new.links) (sym c.offers.steps) (c.offers.links b.links cut (steps ++ s ∷ []) both);
           journal_is = journal_is;
-          answered = (c.cycles.offers (settings b) b.app (calls b done) h.master, h.answered);
-          guarded = (c.guards.guards (settings b) b.app (calls b done) h.master, h.guarded);
         };
         channel = subst (λ (us : List Use). Trace us before after) (sym uses)
             (trace_append (frames_pushed side.Master (slave_next steps) cut b.links) (frames_pushed side.Slave (master_next steps) cut b.links) before c.between after slaves.channel masters.channel);
@@ -140,8 +135,6 @@ tick_goes old new before after c = record {
 -- what changes with another application
 pub record AppChange (old new : PlantView) (app : AppView) : Type 0 where
   pub follows : multi.Follows old.master (ChangeApp app) new.master
-  pub cycles : multi.Offers old.master (ChangeApp app)
-  pub guards : multi.Guards old.master (ChangeApp app)
   pub offers : OffersNoted new.master old.links new.links (old.journal ++ step.App ∷ []) new.journal
 
 pub app_goes : (old new : PlantView) (app : AppView) (t : Told) → AppChange old new app → GoesOn old (Happen (App app) ∷ []) new t t
@@ -171,8 +164,6 @@ app_goes old new app t c = record {
           master = stands;
           links = subst (λ (js : List JournalStep). LinksAre b.links cut (pairs_by js) new.links) (sym c.offers.steps) (c.offers.links b.links cut (steps ++ s ∷ []) same);
           journal_is = journal_is;
-          answered = (c.cycles.offers (settings b) b.app (calls b done) h.master, h.answered);
-          guarded = (c.guards.guards (settings b) b.app (calls b done) h.master, h.guarded);
         };
         channel = subst (λ (us : List Use). Trace us t t) (sym uses) refl;
       };
@@ -190,8 +181,6 @@ pub record FrameChange (old new : PlantView) (n : ℕ) (frame : List ℕ) (befor
   pub is : LinkView
   pub follows : multi.Follows old.master (Deliver n frame) new.master
   pub answers : AnswersFrame old.master n frame did sent
-  pub cycles : multi.Offers old.master (Deliver n frame)
-  pub guards : multi.Guards old.master (Deliver n frame)
   pub offers : OffersNoted new.master old.links mid old.journal js
   pub at : slice_get mid place ≡ Some was
   pub acts : MasterActs n false frame did sent was is before after
@@ -228,16 +217,6 @@ master_call b n frame link is = ap (λ (o : Option LinkConf). delivery_call o si
 -- calls and journal of an act that makes this call
 called : (b : Beginning) (act : Act) (done : List Act) (call : Call) (m : MultiView) → call_of b act ≡ Some call → StandsFor (settings b) b.app m (call ∷ calls b done) → StandsFor (settings b) b.app m (calls b (act ∷ done))
 called b act done call m e h = subst (λ (o : Option Call). StandsFor (settings b) b.app m (option_to_list o ++ calls b done)) (sym e) h
-
-called_answered : (b : Beginning) (act : Act) (done : List Act) (call : Call) → call_of b act ≡ Some call
-    → IfSome (cycle_in call (masters b done)) (λ a. map offer_at (meant (settings b) b.app (call ∷ calls b done)).connections ≡ a.outputs) → OffersAnswer b act done
-called_answered b act done call e h =
-    subst (λ (o : Option Call). IfSome (option_and_then (λ call. cycle_in call (masters b done)) o) (λ a. map offer_at (meant (settings b) b.app (option_to_list o ++ calls b done)).connections ≡ a.outputs)) (sym e) h
-
-called_guarded : (b : Beginning) (act : Act) (done : List Act) (call : Call) → call_of b act ≡ Some call
-    → IfSome (cycle_in call (masters b done)) (IsGuarded (meant (settings b) b.app (call ∷ calls b done))) → GuardsAnswer b act done
-called_guarded b act done call e h =
-    subst (λ (o : Option Call). IfSome (option_and_then (λ call. cycle_in call (masters b done)) o) (IsGuarded (meant (settings b) b.app (option_to_list o ++ calls b done)))) (sym e) h
 
 -- the entry of the master has the parts that its call told
 frame_parts : (b : Beginning) (done : List Act) (old : MultiView) (n place : ℕ) (frame : List ℕ) (did : Did) (sent : List ℕ) (link : LinkConf) (steps : List JournalStep) → n ≡ suc place → slice_get b.links place ≡ Some link
@@ -302,8 +281,6 @@ frame_goes old new n frame before after c = record {
                 c.acts.stands l (pair l n (steps ++ offers)) (next_of side.Master (move.Deliver frame) l (pair l n (steps ++ offers))) held
                 (record { parts = frame_parts b done old.master n c.place frame c.did c.sent l (steps ++ offers) c.number is calls_it h.master c.answers (sym journal_is ∙ new_is); tick_is = refl })) c.cut));
             journal_is = journal_is;
-            answered = (called_answered b act done call calls_it (c.cycles.offers (settings b) b.app (calls b done) h.master), h.answered);
-            guarded = (called_guarded b act done call calls_it (c.guards.guards (settings b) b.app (calls b done) h.master), h.guarded);
           };
           channel = (before, pulled, subst (λ (us : List Use). Trace us before after) (sym (uses ∙ sent_is)) c.acts.channel);
         };

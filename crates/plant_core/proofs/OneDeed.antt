@@ -1,6 +1,6 @@
 -- Acts in which one end of one connection does something, and no cycle is run.
 use Rattle.std.proofs.Common.{◌≡◌, ◌≢◌, ◌≤◌, length, ℕ, zero, suc, ◌-◌, ◌==◌, Bool, true, false, List, [], ◌∷◌, ◌++◌, map, slice_get, slice_set, Option, Some, None, option_map, if◌then◌else◌, refl, sym, ap, ap₂, subst, ◌∙◌, arith}
-use Rattle.std.specs.Prelude.{IfSome, IsTrue, option_to_list, option_and_then}
+use Rattle.std.specs.Prelude.{IfSome, IsTrue, option_to_list}
 use Rattle.std.proofs.lemmas.Bool.{eq-eqb, le-leb}
 use Rattle.std.proofs.lemmas.List.{append-nil}
 use Rattle.fsoe_base.specs.Did.{nothing}
@@ -19,7 +19,7 @@ use Rattle.black_channel.specs.declared.channel.Parcel.{Parcel}
 use Rattle.plant_conf.specs.declared.conf.LinkConf.{LinkConf}
 use Rattle.exchange_model.specs.Ends.{peer, same_end}
 use Rattle.exchange_model.specs.World.{frames_of}
-use Rattle.multi_master.specs.Calls.{Call, Nonce, Meant, IsGuarded, connection, replaced, event_at, cycle_in, meant}
+use Rattle.multi_master.specs.Calls.{Call, Nonce, Meant, connection, replaced, event_at, meant}
 use Rattle.multi_master.specs.Connection.{Connection, with_event, offer_at}
 use Rattle.multi_master.specs.Standing as multi
 use Rattle.multi_master.specs.Standing.{MultiView, StandsFor}
@@ -29,14 +29,13 @@ use Rattle.plant_model.specs.declared.event.PlantEvent.{PlantEvent}
 use Rattle.plant_model.specs.declared.event.PlantEvent.TheVariants as event
 use Rattle.plant_model.specs.declared.journal.JournalStep.{JournalStep}
 use Rattle.plant_model.specs.declared.journal.JournalStep.TheVariants as step
-use Rattle.plant_model.specs.Acts.{Beginning, Event, Act, Happen, PullFrom, settings, event_call, delivery_call, call_of, calls, offer_step, offers_by, steps_of, journal, cut_after, is_cut, pushes_of, all_pushes, masters}
+use Rattle.plant_model.specs.Acts.{Beginning, Event, Act, Happen, PullFrom, settings, event_call, delivery_call, call_of, calls, offer_step, offers_by, steps_of, journal, cut_after, is_cut, pushes_of, all_pushes}
 use Rattle.plant_model.specs.Uses.{Use, Trace}
 use Rattle.plant_model.specs.Gifts.{place_of, sent_uses}
 use Rattle.plant_model.specs.FairPairs.{Fits}
 use Rattle.plant_model.specs.Pair.{next_of, pair, link_at, pairs_by}
 use Rattle.plant_core.specs.Doing.{next_uses, slave_move, SlaveActs, GoesOn, Delivers}
 use Rattle.plant_core.specs.Link.{LinkView, LinkStands, MasterNoted}
-use Rattle.plant_model.specs.Promises.{OffersAnswer, GuardsAnswer}
 use Rattle.plant_core.specs.Standing.{PlantView, LinkIs, LinksAre, HasDone, lengths_kept}
 use Rattle.plant_model.proofs.Growing.{no_entry, IsOne, pair_one, pair_own, pair_other, with_frame, sent_in, frames_next, pushes_each, each_none, each_one}
 use Rattle.plant_core.proofs.Acting.{Placed, kept_fits}
@@ -118,15 +117,6 @@ quiet_calls b act done m none h = subst (λ (o : Option Call). StandsFor (settin
 pub quiet_journal : (b : Beginning) (act : Act) (done : List Act) → call_of b act ≡ None → journal b (act ∷ done) ≡ journal b done ++ steps_of act []
 quiet_journal b act done none = ap (λ (o : Option Call). journal b done ++ steps_of act (offers_by b o (calls b done))) none
 
--- an act that makes no call runs no cycle
-pub quiet_answered : (b : Beginning) (act : Act) (done : List Act) → call_of b act ≡ None → OffersAnswer b act done
-quiet_answered b act done none =
-    subst (λ (o : Option Call). IfSome (option_and_then (λ call. cycle_in call (masters b done)) o) (λ a. map offer_at (masters b (act ∷ done)).connections ≡ a.outputs)) (sym none) tt
-
-pub quiet_guarded : (b : Beginning) (act : Act) (done : List Act) → call_of b act ≡ None → GuardsAnswer b act done
-quiet_guarded b act done none =
-    subst (λ (o : Option Call). IfSome (option_and_then (λ call. cycle_in call (masters b done)) o) (IsGuarded (masters b (act ∷ done)))) (sym none) tt
-
 -- an act in which this happens to the slave of connection n
 pub record IsAtSlave (b : Beginning) (act : Act) (s : JournalStep) (n : ℕ) (what : Move) : Type 0 where
   pub call : call_of b act ≡ None
@@ -174,8 +164,6 @@ slave_acted b act done old new s n what before after a c h =
             (one_links b.links cut steps s n side.Slave what c.place old.links c.was c.is links c.at c.number a.one
             (λ link is stands. (c.acts.acts link (pair link n steps) stands).stands) c.cut));
         journal_is = journal_is;
-        answered = (quiet_answered b act done a.call, h.answered);
-        guarded = (quiet_guarded b act done a.call, h.guarded);
       };
       pushed = subst (λ (us : List Use). Trace us before after) (sym uses) (c.acts.acts beside.link (pair beside.link n steps) beside.holds.stands).channel;
     }
@@ -285,8 +273,6 @@ master_nonce old new n id t c = record {
               (one_links b.links cut steps s n side.Master (move.Nonce id) c.place old.links c.was c.is h.links c.at c.number one
               (λ link is stands. c.noted.stands link (pair link n steps) (next_of side.Master (move.Nonce id) link (pair link n steps)) stands (record { parts = record { end_is = refl; came_is = refl; did_is = refl; sent_is = refl }; tick_is = refl })) c.cut));
           journal_is = journal_is;
-          answered = (tt, h.answered);
-          guarded = (tt, h.guarded);
         };
         channel = subst (λ (us : List Use). Trace us t t) (sym uses) refl;
       };
@@ -336,8 +322,6 @@ cut_event old new n cut t c = record {
                 cut = p.cut ∙ ap (λ (z : Bool). if z then cut else is_cut k done) (sym (not_same n k (λ e. other (sym e))));
               })));
           journal_is = journal_is;
-          answered = (tt, h.answered);
-          guarded = (tt, h.guarded);
         };
         channel = subst (λ (us : List Use). Trace us t t) (sym uses) refl;
       };

@@ -40,7 +40,7 @@ use Rattle.plant_core.proofs.Made.{made_stand}
 use Rattle.plant_model.proofs.Growing.{IsOne, pair_other, sent_in, pushes_each}
 use Rattle.plant_core.proofs.Linking.{each_count, each_from}
 use Rattle.plant_core.proofs.Offering.{offers_send}
-use Rattle.plant_core.proofs.OneDeed.{frame_in, one_frames, apart, quiet_answered, quiet_guarded, quiet_calls, quiet_journal, quiet_pushes}
+use Rattle.plant_core.proofs.OneDeed.{frame_in, one_frames, apart, quiet_calls, quiet_journal, quiet_pushes}
 
 -- acts after others
 more_acts : (more some done : List Act) → (more ++ some) ++ done ≡ more ++ (some ++ done)
@@ -74,7 +74,7 @@ none_pulled v before after p = record {
       let uses : all_pushes b.links (λ k. is_cut k done) (journal b done) (journal b (act ∷ done)) ≡ [] =
       quiet_pushes b.links (λ k. is_cut k done) (journal b done) (journal b (act ∷ done)) (λ at k link. ap (λ (js : List JournalStep). frames_of at (pair link k js)) journal_is) in
       record {
-        has_done = record { master = h.master; links = h.links; journal_is = h.journal_is ∙ sym journal_is; answered = (tt, h.answered); guarded = (tt, h.guarded) };
+        has_done = record { master = h.master; links = h.links; journal_is = h.journal_is ∙ sym journal_is };
         channel = (after, p, subst (λ (us : List Use). Trace us after after) (sym uses) refl);
       };
 }
@@ -137,8 +137,6 @@ nowhere_delivered old new parcel t far same_master same_links written = record {
                   cut = p.cut;
                 })));
             journal_is = journal_is;
-            answered = (quiet_answered b act done none, h.answered);
-            guarded = (quiet_guarded b act done none, h.guarded);
           };
           channel = (t, pulled, subst (λ (us : List Use). Trace us t t) (sym uses) refl);
         };
@@ -223,8 +221,6 @@ pub record StartChange (b : Beginning) (new : PlantView) (before after : Told) :
   pub follows : multi.Follows old (ChangeApp b.app) new.master
   pub bounds : List BoundSpec
   pub offers : OffersNoted new.master (links_made 1 bounds b.links) new.links [] new.journal
-  pub cycles : multi.Offers old (ChangeApp b.app)
-  pub guards : multi.Guards old (ChangeApp b.app)
   pub begins : Begins b.seed before after
 
 pub starts : (b : Beginning) (new : PlantView) (before after : Told) → StartChange b new before after → Starts b new before after
@@ -240,8 +236,6 @@ starts b new before after c =
           master = stands;
           links = subst (λ (js : List JournalStep). LinksAre b.links (λ k. false) (pairs_by js) new.links) (sym c.offers.steps) (c.offers.links b.links (λ k. false) [] (made_stand 1 c.bounds b.links));
           journal_is = c.offers.steps ∙ c.offers.offers_are (settings b) b.app calls stands;
-          answered = (c.cycles.offers (settings b) b.app [] c.stands, tt);
-          guarded = (c.guards.guards (settings b) b.app [] c.stands, tt);
         };
       };
       channel = (after, c.begins, subst (λ (us : List Use). Trace us after after) (sym none) refl);

@@ -19,6 +19,7 @@ use Rattle.plant_model.specs.FairPairs.{PairsAreFair}
 use Rattle.plant_model.specs.Pair.{pair, pairs_by}
 use Rattle.plant_core.specs.Standing.{PlantView, LinkIs, PlantStands}
 use Rattle.plant_model.specs.Turns.{Turn, acts}
+use Rattle.plant_model.proofs.Cycled.{sound_acts}
 use Rattle.plant_model.proofs.Masters.{mastered}
 use Rattle.plant_core.proofs.Linking.{kept_at}
 use Rattle.plant_model.proofs.FairPlant.{AreWorlds, world_of_runs, worlds_are_fair}
@@ -26,7 +27,7 @@ use Rattle.plant_model.proofs.Reacting.{worlds_react}
 use Rattle.plant_model.proofs.Broken.{worlds_broken}
 use Rattle.plant_model.specs.Bound.{Reacts}
 use Rattle.plant_model.specs.Broken.{BrokenByOther}
-use Rattle.plant_model.specs.Promises.{AllAnswered, AllGuarded}
+use Rattle.plant_model.specs.Promises.{AllSound}
 use Rattle.plant_model.specs.Acts.{journal}
 
 -- what stands beside a place of the first list
@@ -54,14 +55,11 @@ by_acts b v turns h same = subst (λ (steps : List JournalStep). AreWorlds b.lin
 pub plants_are_fair : (b : Beginning) (v : PlantView) (turns : List Turn) → PlantStands b v turns → All HasSameLengths b.links → PairsAreFair b.links v.journal
 plants_are_fair b v turns h same = worlds_are_fair b.links v.journal (worlds b v turns h same)
 
-pub answered : (b : Beginning) (v : PlantView) (turns : List Turn) → PlantStands b v turns → AllAnswered b (acts turns)
-answered b v turns h = h.has_done.answered
-
-pub guarded : (b : Beginning) (v : PlantView) (turns : List Turn) → PlantStands b v turns → AllGuarded b (acts turns)
-guarded b v turns h = h.has_done.guarded
+pub sound : (b : Beginning) (v : PlantView) (turns : List Turn) → PlantStands b v turns → AllSound b (acts turns)
+sound b v turns h = sound_acts b (acts turns) h.has_done.master.sound
 
 pub reacts : (b : Beginning) (v : PlantView) (turns : List Turn) → PlantStands b v turns → All HasSameLengths b.links → Reacts b (acts turns)
 reacts b v turns h same = worlds_react b (acts turns) (by_acts b v turns h same)
 
 pub broken_by_other : (b : Beginning) (v : PlantView) (turns : List Turn) → PlantStands b v turns → All HasSameLengths b.links → BrokenByOther b turns
-broken_by_other b v turns h same = worlds_broken b turns (by_acts b v turns h same) h.has_done.guarded h.has_done.answered
+broken_by_other b v turns h same = worlds_broken b turns (by_acts b v turns h same) (sound b v turns h)

@@ -15,7 +15,6 @@ use Rattle.plant_model.specs.declared.journal.JournalStep.{JournalStep}
 use Rattle.plant_model.specs.Acts.{Beginning, Said, Act, Start, settings, calls, journal, is_cut, uses, uses_after}
 use Rattle.plant_core.specs.Link.{Fixed, LinkView, LinkStands, fixed_of}
 use Rattle.plant_model.specs.Pair.{pair, link_at, lowest_other, outputs_at, pairs_by}
-use Rattle.plant_model.specs.Promises.{AllAnswered, AllGuarded}
 use Rattle.plant_model.specs.Turns.{Turn, acts, turn_acts, IsTurn}
 use Rattle.plant_model.specs.Uses.{Trace}
 use Rattle.std.specs.Option.{option_map_or}
@@ -91,14 +90,11 @@ abbrev pub LinksAre : List LinkConf → (ℕ → Bool) → (ℕ → LinkConf →
 LinksAre links cut done vs = EachLink (LinkIs cut done) 1 links vs
 
 -- a plant that began so has done these acts: its master stands for their calls, what it keeps of each connection for
--- its pair in the journal, and the journal is that of the acts; and after each that ran a cycle all offers were the
--- answer, in which what is guarded is kept off
+-- its pair in the journal, and the journal is that of the acts
 pub record HasDone (b : Beginning) (v : PlantView) (done : List Act) : Type 0 where
   pub master : StandsFor (settings b) b.app v.master (calls b done)
   pub links : LinksAre b.links (λ k. is_cut k done) (pairs_by v.journal) v.links
   pub journal_is : v.journal ≡ journal b done
-  pub answered : AllAnswered b done
-  pub guarded : AllGuarded b done
 
 -- a plant that began so stands for these turns
 pub record PlantStands (b : Beginning) (v : PlantView) (turns : List Turn) : Type 0 where

@@ -351,8 +351,6 @@ impl<A: Application> Ends<A> {
         requires ready { IsPlant self.old.master self.old.links.items self.old.dids.items self.old.outs.items (vec_len steps.old) }
         requires room { vec_len steps.old + vec_len self.old.links ≤ vec_capacity steps.old }
         ensures follows { let seen = multi.seen A.rule A.holds A.guards in multi.Follows (seen self.old.master) (ChangeApp (seen self.old.master).app) (seen self.new.master) }
-        ensures cycles { let seen = multi.seen A.rule A.holds A.guards in multi.Offers (seen self.old.master) (ChangeApp (seen self.old.master).app) }
-        ensures guards { let seen = multi.seen A.rule A.holds A.guards in multi.Guards (seen self.old.master) (ChangeApp (seen self.old.master).app) }
         ensures offers { OffersNoted (multi.seen A.rule A.holds A.guards self.new.master) self.old.links.items self.new.links.items steps.old.items steps.new.items }
         ensures ready { IsPlant self.new.master self.new.links.items self.new.dids.items self.new.outs.items (vec_len steps.new) }
         ensures fixed { fixed_in self.new.links.items ≡ fixed_in self.old.links.items }

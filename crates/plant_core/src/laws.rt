@@ -6,7 +6,7 @@ ghost use Rattle.plant_model.specs.Acts.{Beginning};
 ghost use Rattle.plant_model.specs.Bound.{Reacts};
 ghost use Rattle.plant_model.specs.Broken.{BrokenByOther};
 ghost use Rattle.plant_model.specs.FairPairs.{PairsAreFair};
-ghost use Rattle.plant_model.specs.Promises.{AllAnswered, AllGuarded};
+ghost use Rattle.plant_model.specs.Promises.{AllSound};
 ghost use Rattle.plant_model.specs.Turns.{Turn, acts};
 ghost use Rattle.plant_core.specs.Standing.{PlantView, PlantStands};
 
@@ -17,16 +17,11 @@ pub fn fair()
     ensures { (b : Beginning) (v : PlantView) (turns : List Turn) → PlantStands b v turns → All HasSameLengths b.links → PairsAreFair b.links v.journal }
 {}
 
-/// After each act that ran a cycle the offers of all connections are the results of the application.
-#[tactic(auto, using(crate::proofs::Worlds::answered))]
+/// After each act that ran a cycle the offers of all connections are the results of the application. They have 0 in
+/// each output bit that the application guards by a 0 input bit.
+#[tactic(auto, using(crate::proofs::Worlds::sound))]
 pub fn answers()
-    ensures { (b : Beginning) (v : PlantView) (turns : List Turn) → PlantStands b v turns → AllAnswered b (acts turns) }
-{}
-
-/// After each act that ran a cycle, the result has 0 in each output bit that the application guards by a 0 input bit.
-#[tactic(auto, using(crate::proofs::Worlds::guarded))]
-pub fn guards()
-    ensures { (b : Beginning) (v : PlantView) (turns : List Turn) → PlantStands b v turns → AllGuarded b (acts turns) }
+    ensures { (b : Beginning) (v : PlantView) (turns : List Turn) → PlantStands b v turns → AllSound b (acts turns) }
 {}
 
 /// The reaction bound. Let an e-stop be off from some acts on, and let each later cycle that reads its bit as 0 keep

@@ -1,6 +1,6 @@
--- Which acts run a cycle, and that the offers are then the answer.
+-- Which acts run a cycle, and that its answer is sound.
 use Rattle.std.proofs.Common.{◌≡◌, ℕ, zero, suc, ◌==◌, Bool, true, false, List, [], ◌∷◌, ◌++◌, map, slice_get, Option, Some, None, if◌then◌else◌, refl, sym, ap, ap₂, ◌∙◌, append_assoc}
-use Rattle.std.specs.Prelude.{is_some, option_and_then}
+use Rattle.std.specs.Prelude.{is_some, option_and_then, option_to_list, IfSome}
 use Rattle.std.specs.Option.{option_map_or}
 use Rattle.std.proofs.lemmas.List.{append-nil}
 use Rattle.fsoe_base.specs.Did.{nothing}
@@ -17,15 +17,17 @@ use Rattle.end_model.specs.Setup.{OfMaster}
 use Rattle.end_model.specs.Step.{did_on}
 use Rattle.exchange_model.specs.World.{deeds}
 use Rattle.master_core.specs.Calls.{tells_due}
-use Rattle.multi_master.specs.Calls.{Call, Deliver, Meant, connection, is_heard, cycle_in, meant, changed}
+use Rattle.multi_master.specs.Calls.{Call, Deliver, Meant, IsSound, connection, is_heard, cycle_in, meant, changed}
+use Rattle.multi_master.specs.Standing as multi
 use Rattle.multi_master.specs.Connection.{offer_at}
 use Rattle.plant_model.specs.declared.event.PlantEvent.TheVariants as event
 use Rattle.plant_model.specs.declared.journal.JournalStep.{JournalStep}
 use Rattle.plant_model.specs.declared.journal.JournalStep.TheVariants as step
-use Rattle.plant_model.specs.Acts.{Beginning, Event, App, Act, Start, Happen, PullFrom, settings, delivery_call, calls, masters, offer_step, offers_by, journal}
+use Rattle.plant_model.specs.Acts.{Beginning, Event, App, Act, Start, Happen, PullFrom, settings, delivery_call, call_of, calls, masters, offer_step, offers_by, journal}
 use Rattle.plant_model.specs.Gifts.{place_of}
 use Rattle.plant_model.specs.Pair.{next_of, pair, link_at}
 use Rattle.plant_model.specs.JournalLaws.{tells_hearing, master_hears, Cycles}
+use Rattle.plant_model.specs.Promises.{AllSound}
 use Rattle.plant_model.proofs.Growing.{pair_own, pair_one}
 use Rattle.plant_model.proofs.Masters.{mastered}
 
@@ -92,3 +94,15 @@ cycles b (Happen (Event (event.Cut link cut))) done = refl
 cycles b (Happen (App app)) done = refl
 cycles b (PullFrom None) done = refl
 cycles b (PullFrom (Some parcel)) done = parcel_cycles b done parcel.to.link parcel.to.end parcel.frame (link_at b.links parcel.to.link) refl
+
+-- calls with sound answers were made by acts with sound answers
+sound-act : (b : Beginning) (acts : List Act) (o : Option Call) → multi.AllSound (settings b) b.app (option_to_list o ++ calls b acts)
+    → IfSome (option_and_then (λ call. cycle_in call (masters b acts)) o) (IsSound (meant (settings b) b.app (option_to_list o ++ calls b acts))) × multi.AllSound (settings b) b.app (calls b acts)
+sound-act b acts None h = (tt, h)
+sound-act b acts (Some call) h = h
+
+pub sound_acts : (b : Beginning) (acts : List Act) → multi.AllSound (settings b) b.app (calls b acts) → AllSound b acts
+sound_acts b [] h = tt
+sound_acts b (act ∷ acts) h =
+    let one = sound-act b acts (call_of b act) h in
+    (one.0, sound_acts b acts one.1)

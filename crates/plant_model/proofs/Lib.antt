@@ -1,6 +1,6 @@
 pub mod Broken
 pub mod ByNet
-mod Cycled
+pub mod Cycled
 pub mod FairPlant
 mod Given
 pub mod Growing

@@ -7,7 +7,7 @@ use Rattle.std.specs.Option.{option_map_or}
 use Rattle.std.proofs.lemmas.List.{append-nil}
 use Rattle.fsoe_base.specs.declared.command.End.{End}
 use Rattle.fsoe_base.specs.declared.command.End.TheVariants as side
-use Rattle.failsafe_io.specs.Application.{Answer, GuardsBy}
+use Rattle.failsafe_io.specs.Application.{Answer}
 use Rattle.failsafe_io.specs.declared.bit.Bit.{Bit}
 use Rattle.failsafe_io.specs.Bits.{bit_at}
 use Rattle.black_channel.specs.declared.channel.Parcel.{Parcel}
@@ -19,26 +19,23 @@ use Rattle.plant_conf.specs.declared.conf.LinkConf.{LinkConf}
 use Rattle.exchange_model.specs.Ends.{of_end}
 use Rattle.exchange_model.specs.Items.{Offered, Unset, next_offered}
 use Rattle.exchange_model.specs.Fair.{offers_bit}
-use Rattle.multi_master.specs.Calls.{AppView, Call, Deliver, Tick, Meant, connection, replaced, cycle_in, with_cycle, after, meant, changed}
-use Rattle.multi_master.specs.Connection.{Connection, with_event}
+use Rattle.multi_master.specs.Calls.{AppView, Call, Deliver, Tick, Meant, IsSound, connection, replaced, cycle_in, with_cycle, after, meant, changed}
+use Rattle.multi_master.specs.Connection.{Connection, with_event, outputs_at, offer_at}
 use Rattle.plant_model.specs.declared.event.PlantEvent.TheVariants as event
 use Rattle.plant_model.specs.declared.journal.JournalStep.{JournalStep}
 use Rattle.plant_model.specs.declared.journal.JournalStep.TheVariants as step
 use Rattle.plant_model.specs.Acts.{Beginning, Event, App, Act, Start, Happen, PullFrom, settings, delivery_call, call_of, calls, masters, cycle_of, offer_step, offers_by, offers, journal}
-use Rattle.plant_model.specs.Bound.{is_off, is_guarded, is_still, inputs_after, offers_after, KeepsOff, Quiet}
+use Rattle.plant_model.specs.Bound.{is_off, is_guarded, is_still, Quiet}
 use Rattle.plant_model.specs.Pair.{next_of, pair, link_at}
-use Rattle.plant_model.specs.Promises.{OffersAnswer, AllAnswered, GuardsAnswer, AllGuarded}
+use Rattle.plant_model.specs.Promises.{AllSound}
 use Rattle.plant_model.specs.Turns.{turn_acts}
 use Rattle.plant_model.proofs.Growing.{IsOne, pair_more, pair_one}
 
 -- a cycle keeps off what is guarded
-keeps_by : (guards : Bit → Bit → Bool) (ins outs : List (List ℕ)) (bound : BoundSpec) (o : Option Answer) → IfSome o (λ a. GuardsBy guards ins a.outputs) → IfSome o (λ a. outs ≡ a.outputs) → guards bound.drive bound.estop ≡ true
-    → IfSome o (λ a. bit_at ins bound.estop ≡ false → bit_at outs bound.drive ≡ false)
-keeps_by guards ins outs bound None g a on = tt
-keeps_by guards ins outs bound (Some x) g a on = λ is_zero. ap (λ (images : List (List ℕ)). bit_at images bound.drive) a ∙ g bound.drive bound.estop on is_zero
-
-pub guarded_keeps : (b : Beginning) (bound : BoundSpec) (act : Act) (done : List Act) → GuardsAnswer b act done → OffersAnswer b act done → is_guarded b bound (act ∷ done) ≡ true → KeepsOff b bound act done
-guarded_keeps b bound act done g a on = keeps_by (masters b (act ∷ done)).app.guards (inputs_after b (act ∷ done)) (offers_after b (act ∷ done)) bound (cycle_of b act done) g a on
+keeps_by : (m : Meant) (bound : BoundSpec) (o : Option Answer) → IfSome o (IsSound m) → m.app.guards bound.drive bound.estop ≡ true
+    → IfSome o (λ a. bit_at (map outputs_at m.connections) bound.estop ≡ false → bit_at (map offer_at m.connections) bound.drive ≡ false)
+keeps_by m bound None s on = tt
+keeps_by m bound (Some x) s on = λ is_zero. ap (λ (images : List (List ℕ)). bit_at images bound.drive) s.answered ∙ s.guarded bound.drive bound.estop on is_zero
 
 -- what is true of both
 pub both_first : (x y : Bool) → (x && y) ≡ true → x ≡ true
@@ -51,12 +48,12 @@ both_second false true h = refl
 both_second false false h = h
 
 -- an act after which a bound is still goes on with what was quiet
-pub quiet_on : (b : Beginning) (bound : BoundSpec) (act : Act) (later earlier : List Act) → AllGuarded b (act ∷ later ++ earlier) → AllAnswered b (act ∷ later ++ earlier) → is_still b bound (act ∷ later ++ earlier) ≡ true
+pub quiet_on : (b : Beginning) (bound : BoundSpec) (act : Act) (later earlier : List Act) → AllSound b (act ∷ later ++ earlier) → is_still b bound (act ∷ later ++ earlier) ≡ true
     → Quiet b bound later earlier → Quiet b bound (act ∷ later) earlier
-quiet_on b bound act later earlier g a still q =
+quiet_on b bound act later earlier s still q =
     let done : List Act = act ∷ later ++ earlier in (
       both_first (is_off b bound.estop done) (is_guarded b bound done) still,
-      guarded_keeps b bound act (later ++ earlier) g.0 a.0 (both_second (is_off b bound.estop done) (is_guarded b bound done) still),
+      keeps_by (masters b done) bound (cycle_of b act (later ++ earlier)) s.0 (both_second (is_off b bound.estop done) (is_guarded b bound done) still),
       q,
     )
 
@@ -199,10 +196,10 @@ pub record StaysQuiet (b : Beginning) (bound : BoundSpec) (later earlier : List 
   pub still : is_still b bound (later ++ earlier) ≡ true
   pub quiet : Quiet b bound later earlier
 
-pub ticked_quiet : (b : Beginning) (bound : BoundSpec) (more later earlier : List Act) → AreOfTick more → AllGuarded b ((more ++ later) ++ earlier) → AllAnswered b ((more ++ later) ++ earlier)
+pub ticked_quiet : (b : Beginning) (bound : BoundSpec) (more later earlier : List Act) → AreOfTick more → AllSound b ((more ++ later) ++ earlier)
     → StaysQuiet b bound later earlier → StaysQuiet b bound (more ++ later) earlier
-ticked_quiet b bound [] later earlier h g a q = q
-ticked_quiet b bound (act ∷ more) later earlier h g a q =
-    let before = ticked_quiet b bound more later earlier h.1 g.1 a.1 q in
+ticked_quiet b bound [] later earlier h s q = q
+ticked_quiet b bound (act ∷ more) later earlier h s q =
+    let before = ticked_quiet b bound more later earlier h.1 s.1 q in
     let still : is_still b bound (act ∷ (more ++ later) ++ earlier) ≡ true = stays_still b bound act ((more ++ later) ++ earlier) h.0 ∙ before.still in
-    record { still = still; quiet = quiet_on b bound act (more ++ later) earlier g a still before.quiet }
+    record { still = still; quiet = quiet_on b bound act (more ++ later) earlier s still before.quiet }

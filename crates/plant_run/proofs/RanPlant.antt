@@ -30,9 +30,7 @@ use Rattle.plant_core.specs.Standing.{PlantView}
 use Rattle.plant_model.specs.Turns.{Turn, acts, said, said_by_turns}
 use Rattle.plant_run.specs.Watching.{reactions_after}
 use Rattle.plant_model.specs.declared.event.PlantLine.{PlantLine}
-use Rattle.plant_core.proofs.Worlds.{broken_by_other}
-use Rattle.plant_core.proofs.Worlds.{plants_are_fair}
-use Rattle.plant_core.proofs.Worlds.{reacts}
+use Rattle.plant_core.proofs.Worlds.{broken_by_other, plants_are_fair, reacts, sound}
 
 -- a relation of a header, its events, their text and an end
 abbrev Closing : Type 1
@@ -99,8 +97,7 @@ ran_plant view t v ended o before after reactions left unbegun stands closes ran
               done = d;
               said_are = sym (ap (said t.spare) (sym (append-nil d.log)) ∙ s.says [] ∙ append-nil (said_by_turns s.turns));
               whole = s.whole;
-              answered = s.stands.has_done.answered;
-              guarded = s.stands.has_done.guarded;
+              sound = sound t.begins v s.turns s.stands;
               reacts = reacts t.begins v s.turns s.stands k.same_lengths;
               broken = broken_by_other t.begins v s.turns s.stands k.same_lengths;
               text_is = s.text_is;

@@ -13,7 +13,7 @@ use Rattle.plant_model.specs.Broken.{BrokenByOther}
 use Rattle.plant_model.specs.BoundLines.{bound_lines}
 use Rattle.plant_model.specs.FairPairs.{PairsAreFair}
 use Rattle.plant_model.specs.PlantReport.{report_end, report_text, ticks_text}
-use Rattle.plant_model.specs.Promises.{AllAnswered, AllGuarded}
+use Rattle.plant_model.specs.Promises.{AllSound}
 use Rattle.plant_run.specs.Reporting.{Terms, plant_reporting}
 use Rattle.plant_run.specs.Script.{ScriptHeading}
 use Rattle.plant_model.specs.Turns.{IsTurn, Turn, acts, said, said_by_turns}
@@ -27,16 +27,15 @@ IsReportOf t turns steps h log text ended =
     (text ≡ report_text t.begins.links steps (bound_lines t.begins turns t.bounds) AtEnd) × (ended ≡ report_end t.begins.links steps AtEnd)
 
 -- these turns were done, one for each of the first lines after the script's title; what was written is the report of
--- the journal as far as the run came; after each act that ran a cycle all offers were the answer, in which what is
--- guarded is kept off; and drives react in time, so that a bound is broken only where a pair has an other entry
+-- the journal as far as the run came; the answer of each act that ran a cycle is sound; and drives react in time, so that
+-- a bound is broken only where a pair has an other entry
 pub record DidTurns (t : Terms) (turns : List Turn) (steps : List JournalStep) (ended : Ended) (o : Outside) : Type 0 where
   pub turns_are : All (IsTurn t.begins.links) turns
   pub journal_is : steps ≡ journal t.begins (acts turns)
   pub done : Done ScriptHeading PlantLine
   pub said_are : said_by_turns turns ≡ said t.spare done.log
   pub whole : length turns ≡ length done.log
-  pub answered : AllAnswered t.begins (acts turns)
-  pub guarded : AllGuarded t.begins (acts turns)
+  pub sound : AllSound t.begins (acts turns)
   pub reacts : Reacts t.begins (acts turns)
   pub broken : BrokenByOther t.begins turns
   pub text_is : done.text ≡ ticks_text t.begins.links steps

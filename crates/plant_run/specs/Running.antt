@@ -3,7 +3,6 @@ use Rattle.std.specs.Prelude.{◌≡◌, ℕ, List, ◌++◌, length, map, Match
 use Rattle.plant_model.specs.FairPairs.{lengths_in, Fits}
 use Rattle.fsoe_io.specs.declared.status.Ended.{Ended}
 use Rattle.schedule_file.specs.Input.{AtEnd}
-use Rattle.schedule_file.specs.declared.line_cause.LineCause.TheVariants as cause
 use Rattle.schedule_file.specs.declared.line_cause.LineCause.{LineCause}
 use Rattle.schedule_file.specs.Limits.{max_line}
 use Rattle.plant_model.specs.BoundLines.{bound_lines}
@@ -14,9 +13,7 @@ use Rattle.plant_core.specs.Standing.{PlantStands, PlantView}
 use Rattle.plant_model.specs.Turns.{Named, Turn, said, said_by_turns}
 use Rattle.plant_model.specs.declared.event.PlantLine.{PlantLine}
 use Rattle.plant_model.specs.declared.event.PlantLine.TheVariants as line
-use Rattle.plant_model.specs.declared.event.PlantEvent.TheVariants as event
 use denote.Ref.{Bor}
-use Rattle.fsoe_base.specs.declared.command.End.{End}
 use Rattle.fsoe_base.specs.declared.lengths.Lengths.{Lengths}
 
 -- a plant that is run with these terms stands for a turn for each of these lines, of which this text has the lines of

@@ -7,7 +7,7 @@ use Rattle.master_core.specs.Now.{is_due}
 use Rattle.master_core.specs.Waiting.{ShowsDue}
 use Rattle.multi_master.specs.Puts.{own_len, due_in}
 use Rattle.multi_master.specs.Standing.{MultiView, seen, settings_in}
-use Rattle.multi_master.proofs.Delivering.{Drops, Hears, drop_follows, drop_offers, drop_guards, drop_answers, hear_follows, hear_offers, hear_guards, hear_answers}
+use Rattle.multi_master.proofs.Delivering.{Drops, Hears, drop_follows, drop_answers, hear_follows, hear_answers}
 use Rattle.multi_master.proofs.Following.{runs_alike}
 use Rattle.multi_master.proofs.Keeping.{multi_set, one_rest, written_back}
 use Rattle.multi_master.proofs.Places.{all_at, map_set, read_back, same_at, same_length, set_there}
@@ -75,14 +75,6 @@ invariant_of-self g c =
 pub returns-then-not-due-clause-follows : goal.returns-then-not-due-clause-follows
 returns-then-not-due-clause-follows g c =
     rw (← c.self.view_is) (drop_follows _ _ _ _ _ _ (heard g (goal.at.returns-then-not-due-clause-follows g c).After-index).number (drops g c))
-
-pub returns-then-not-due-clause-offers : goal.returns-then-not-due-clause-offers
-returns-then-not-due-clause-offers g c =
-    rw (← c.self.view_is) (drop_offers _ _ _ _ _ _ (heard g (goal.at.returns-then-not-due-clause-offers g c).After-index).number (drops g c))
-
-pub returns-then-not-due-clause-guarded : goal.returns-then-not-due-clause-guarded
-returns-then-not-due-clause-guarded g c =
-    rw (← c.self.view_is) (drop_guards _ _ _ _ _ _ (heard g (goal.at.returns-then-not-due-clause-guarded g c).After-index).number (drops g c))
 
 pub returns-then-not-due-clause-answers : goal.returns-then-not-due-clause-answers
 returns-then-not-due-clause-answers g c =
@@ -188,14 +180,6 @@ hears g c =
 pub returns-clause-follows : goal.returns-clause-follows
 returns-clause-follows g c =
     rw (← c.self.view_is, (readied g (goal.at.returns-clause-follows g c).After-reply-arg-1).is_back) (hear_follows _ _ _ _ _ _ _ (heard g (goal.at.returns-clause-follows g c).After-index).number (hears g c))
-
-pub returns-clause-offers : goal.returns-clause-offers
-returns-clause-offers g c =
-    rw (← c.self.view_is) (hear_offers _ _ _ _ _ _ _ (heard g (goal.at.returns-clause-offers g c).After-index).number (hears g c))
-
-pub returns-clause-guarded : goal.returns-clause-guarded
-returns-clause-guarded g c =
-    rw (← c.self.view_is) (hear_guards _ _ _ _ _ _ _ (heard g (goal.at.returns-clause-guarded g c).After-index).number (hears g c))
 
 pub returns-clause-answers : goal.returns-clause-answers
 returns-clause-answers g c =

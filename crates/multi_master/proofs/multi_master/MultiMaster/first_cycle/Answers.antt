@@ -1,6 +1,6 @@
 use Rattle.std.proofs.Common.{List, refl, sym, ◌∙◌, arith}
 use Rattle.master_core.specs.MasterView.{MasterView}
-use Rattle.multi_master.proofs.Following.{runs_alike, change_follows, change_offers, change_guards}
+use Rattle.multi_master.proofs.Following.{runs_alike, change_follows}
 use Rattle.multi_master.proofs.Keeping.{written_back, all_rest}
 use Rattle.multi_master.proofs.multi_master.MultiMaster.first_cycle.Goals as goal
 
@@ -22,21 +22,5 @@ returns-clause-follows g c = λ other.
     rw (← c.self.view_is)
     (change_follows _ _ _ (record {
       cycle = runs_alike _ _ _ _ _ _ _ _ _ _ c.run_cycle.ensures.runs c.as_slice.ensures.value c.as_mut_slice-2.ensures.value (sym (written_back c.run_cycle.new.masters c.self.inside.masters.items c.self.inside.masters.len (cc) (cc)));
-      inputs_are = refl;
-    }))
-
-pub returns-clause-offers : goal.returns-clause-offers
-returns-clause-offers g c = λ other.
-    rw (← c.self.view_is)
-    (change_offers _ _ _ (record {
-      cycle = runs_alike _ _ _ _ _ _ _ _ _ _ c.run_cycle.ensures.runs c.as_slice.ensures.value c.as_mut_slice-2.ensures.value refl;
-      inputs_are = refl;
-    }))
-
-pub returns-clause-guarded : goal.returns-clause-guarded
-returns-clause-guarded g c = λ other.
-    rw (← c.self.view_is)
-    (change_guards _ _ _ (record {
-      cycle = runs_alike _ _ _ _ _ _ _ _ _ _ c.run_cycle.ensures.runs c.as_slice.ensures.value c.as_mut_slice-2.ensures.value refl;
       inputs_are = refl;
     }))

@@ -1,7 +1,7 @@
 use Rattle.std.proofs.Common.{◌≡◌, map, length, refl, sym, ap, ◌∙◌, arith}
 use Rattle.multi_master.specs.Puts.{own_len, due_in}
 use Rattle.multi_master.specs.Standing.{settings_in}
-use Rattle.multi_master.proofs.Following.{runs_alike, ticks_alike, tick_follows, tick_offers, tick_guards, tick_answers}
+use Rattle.multi_master.proofs.Following.{runs_alike, ticks_alike, tick_follows, tick_answers}
 use Rattle.multi_master.proofs.Keeping.{written_back, all_rest, same_lens, ticks_settings, ticks_rest}
 use Rattle.multi_master.proofs.Places.{same_length}
 use Rattle.multi_master.proofs.multi_master.MultiMaster.tick.Goals as goal
@@ -42,32 +42,6 @@ returns-clause-follows g c =
     let inputs = written_back c.tick_all.new.inputs c.self.inside.inputs.items c.self.inside.inputs.len (cc) (cc) in
     rw (← c.self.view_is, first, back, inputs)
     (tick_follows _ _ _ _ (record {
-      middle = c.tick_all.new.masters;
-      ticks = ticks_alike _ _ _ _ _ _ _ _ _ _ c.tick_all.ensures c.as_mut_slice.ensures.value c.as_mut_slice-2.ensures.value refl refl;
-      cycle = runs_alike _ _ _ _ _ _ _ _ _ _ c.run_cycle.ensures.runs (c.as_slice.ensures.value ∙ inputs) ticked refl;
-    }))
-
-pub returns-clause-offers : goal.returns-clause-offers
-returns-clause-offers g c =
-    let ticked : c.as_mut_slice-4.result.now ≡ c.tick_all.new.masters =
-    c.as_mut_slice-4.ensures.value ∙ written_back c.tick_all.new.masters c.self.inside.masters.items c.self.inside.masters.len (cc) (cc)
-    in
-    let inputs = written_back c.tick_all.new.inputs c.self.inside.inputs.items c.self.inside.inputs.len (cc) (cc) in
-    rw (← c.self.view_is)
-    (tick_offers _ _ _ _ (record {
-      middle = c.tick_all.new.masters;
-      ticks = ticks_alike _ _ _ _ _ _ _ _ _ _ c.tick_all.ensures c.as_mut_slice.ensures.value c.as_mut_slice-2.ensures.value refl refl;
-      cycle = runs_alike _ _ _ _ _ _ _ _ _ _ c.run_cycle.ensures.runs (c.as_slice.ensures.value ∙ inputs) ticked refl;
-    }))
-
-pub returns-clause-guarded : goal.returns-clause-guarded
-returns-clause-guarded g c =
-    let ticked : c.as_mut_slice-4.result.now ≡ c.tick_all.new.masters =
-    c.as_mut_slice-4.ensures.value ∙ written_back c.tick_all.new.masters c.self.inside.masters.items c.self.inside.masters.len (cc) (cc)
-    in
-    let inputs = written_back c.tick_all.new.inputs c.self.inside.inputs.items c.self.inside.inputs.len (cc) (cc) in
-    rw (← c.self.view_is)
-    (tick_guards _ _ _ _ (record {
       middle = c.tick_all.new.masters;
       ticks = ticks_alike _ _ _ _ _ _ _ _ _ _ c.tick_all.ensures c.as_mut_slice.ensures.value c.as_mut_slice-2.ensures.value refl refl;
       cycle = runs_alike _ _ _ _ _ _ _ _ _ _ c.run_cycle.ensures.runs (c.as_slice.ensures.value ∙ inputs) ticked refl;

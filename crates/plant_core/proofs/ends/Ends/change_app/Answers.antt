@@ -11,4 +11,4 @@ returns-clause-goes g c =
     let count : length c.note_offers.new.links ≡ length links.items = same_count c.note_offers.new.links links.items (c.note_offers.ensures.fixed ∙ ap fixed_in c.as_mut_slice.ensures.value) in
     let back = written_back c.note_offers.new.links links.items links.len links.ok.0 count in
     let offers = rw (c.note.ensures.noted, c.as_mut_slice.ensures.value) at c.note_offers.ensures.offers in
-    λ told. rw back (app_goes _ _ _ told (record { follows = c.change_app.ensures.follows; cycles = c.change_app.ensures.offers; guards = c.change_app.ensures.guarded; offers = offers }))
+    λ told. rw back (app_goes _ _ _ told (record { follows = c.change_app.ensures.follows; offers = offers }))

@@ -66,8 +66,6 @@ returns-clause-goes g c =
       follows = c.tick.ensures.follows;
       answers = c.tick.ensures.answers;
       masters = masters;
-      cycles = c.tick.ensures.offers;
-      guards = c.tick.ensures.guarded;
       offers = offers;
     }))
 

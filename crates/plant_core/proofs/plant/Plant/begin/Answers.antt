@@ -26,8 +26,6 @@ returns-clause-starts g c =
       bounds = c.args.conf.now.bounds;
       follows = c.start.ensures.follows;
       offers = offers;
-      cycles = c.start.ensures.cycles;
-      guards = c.start.ensures.guards;
       begins = begins;
     }))
 
