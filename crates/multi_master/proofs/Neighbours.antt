@@ -1,5 +1,5 @@
 -- Each connection's deeds are the run of its own events.
-use Rattle.std.proofs.Common.{◌≡◌, ℕ, zero, suc, ◌-◌, ◌==◌, List, [], ◌∷◌, ◌++◌, map, slice_get, slice_set, Option, Some, None, option_map, IfSome, Bool, true, false, if◌then◌else◌, refl, sym, ap, ap₂, subst, ◌∙◌, append_assoc, arith}
+use Rattle.std.proofs.Common.{◌≡◌, ℕ, zero, suc, ◌==◌, List, [], ◌∷◌, ◌++◌, map, slice_get, Option, Some, None, IfSome, Bool, true, false, if◌then◌else◌, refl, sym, ap, ap₂, subst, ◌∙◌, append_assoc, arith}
 use lib.Dec.{compare_is_eq}
 use Prim.Native.Nat.compare
 use Rattle.failsafe_io.specs.Application.{Answer}
@@ -11,8 +11,7 @@ use Rattle.end_model.specs.Runs.{events_of}
 use Rattle.end_model.specs.Step.{step, run}
 use Rattle.end_model.proofs.Runs.{run_append}
 use Rattle.multi_master.specs.Connection.{Connection, fresh, setup, with_event, is_offer, with_offer, with_offers}
-use Rattle.multi_master.specs.Calls.{AppView, Call, Deliver, Tick, Nonce, ChangeApp, Meant, connection, replaced, event_at, all_tick, cycle_in, with_cycle, after, meant}
-use Rattle.multi_master.proofs.Places.{map_set}
+use Rattle.multi_master.specs.Calls.{AppView, Call, Deliver, Tick, Nonce, ChangeApp, Meant, connection, event_on, event_at, all_tick, cycle_in, with_cycle, after, meant}
 use Rattle.multi_master.specs.Own.{own_part, own_events, is_no_put, without_puts}
 
 -- a connection went on by these events of its own, and by offers that were put
@@ -52,38 +51,37 @@ event-grows c what = record {
 }
 
 -- what stands at a place comes from what stood there
-pub record Grown (old : List Connection) (place : ℕ) (own : List Move) (new : Connection) : Type 0 where
-  pub before : Connection
-  pub is : slice_get old place ≡ Some before
-  pub grows : Grows own before new
+pub record Stood (cs : List Connection) (place : ℕ) (R : Connection → Type 0) : Type 0 where
+  pub was : Connection
+  pub is : slice_get cs place ≡ Some was
+  pub holds : R was
 
-same-grown : (cs : List Connection) (k : ℕ) (c : Connection) → slice_get cs k ≡ Some c → Grown cs k [] c
-same-grown cs k c h = record { before = c; is = h; grows = stays c }
-
-offer-grows : (load : List ℕ) (c : Connection) (b : Bool) → Grows [] c (if b then c else with_event (move.Put load) c)
-offer-grows load c true = stays c
-offer-grows load c false = event-grows c (move.Put load)
-
-offers-grown : (loads : List (List ℕ)) (cs : List Connection) (k : ℕ) (d : Connection) → slice_get (with_offers loads cs) k ≡ Some d → Grown cs k [] d
-offers-grown [] cs k d h = same-grown cs k d h
-offers-grown (load ∷ loads) [] k d h = same-grown [] k d h
-offers-grown (load ∷ loads) (c ∷ cs) zero d h =
+pub offers_stood : (R : Connection → Connection → Type 0) (loads : List (List ℕ)) (cs : List Connection) (k : ℕ) (d : Connection) → ((c : Connection) → R c c) → ((load : List ℕ) (c : Connection) → R c (with_offer load c))
+    → slice_get (with_offers loads cs) k ≡ Some d → Stood cs k (λ c. R c d)
+offers_stood R [] cs k d same put h = record { was = d; is = h; holds = same d }
+offers_stood R (load ∷ loads) [] k d same put h = record { was = d; is = h; holds = same d }
+offers_stood R (load ∷ loads) (c ∷ cs) zero d same put h =
     let i : with_offer load c ≡ d = cc in
-    record { before = c; is = refl; grows = subst (λ (e : Connection). Grows [] c e) i (offer-grows load c (is_offer load c)) }
-offers-grown (load ∷ loads) (c ∷ cs) (suc k) d h = let g = offers-grown loads cs k d h in record { before = g.before; is = g.is; grows = g.grows }
+    record { was = c; is = refl; holds = subst (R c) i (put load c) }
+offers_stood R (load ∷ loads) (c ∷ cs) (suc k) d same put h = let s = offers_stood R loads cs k d same put h in record { was = s.was; is = s.is; holds = s.holds }
 
-cycle-grown : (o : Option Answer) (m : Meant) (k : ℕ) (d : Connection) → slice_get (with_cycle o m).connections k ≡ Some d → Grown m.connections k [] d
-cycle-grown None m k d h = same-grown m.connections k d h
-cycle-grown (Some a) m k d h = offers-grown a.outputs m.connections k d h
+pub cycle_stood : (R : Connection → Connection → Type 0) (o : Option Answer) (m : Meant) (k : ℕ) (d : Connection) → ((c : Connection) → R c c) → ((load : List ℕ) (c : Connection) → R c (with_offer load c))
+    → slice_get (with_cycle o m).connections k ≡ Some d → Stood m.connections k (λ c. R c d)
+cycle_stood R None m k d same put h = record { was = d; is = h; holds = same d }
+cycle_stood R (Some a) m k d same put h = offers_stood R a.outputs m.connections k d same put h
 
-ticks-grown : (cs : List Connection) (k : ℕ) (d : Connection) → slice_get (map (with_event move.Tick) cs) k ≡ Some d → Grown cs k (move.Tick ∷ []) d
-ticks-grown [] k d h = absurd (cc h)
-ticks-grown (c ∷ cs) zero d h =
-    let i : with_event move.Tick c ≡ d = cc in
-    record { before = c; is = refl; grows = subst (λ (e : Connection). Grows (move.Tick ∷ []) c e) i (event-grows c move.Tick) }
-ticks-grown (c ∷ cs) (suc k) d h = let g = ticks-grown cs k d h in record { before = g.before; is = g.is; grows = g.grows }
+pub ticks_stood : (cs : List Connection) (k : ℕ) (d : Connection) → slice_get (map (with_event move.Tick) cs) k ≡ Some d → Stood cs k (λ c. d ≡ with_event move.Tick c)
+ticks_stood [] k d h = absurd (cc h)
+ticks_stood (c ∷ cs) zero d h = let i : with_event move.Tick c ≡ d = cc in record { was = c; is = refl; holds = sym i }
+ticks_stood (c ∷ cs) (suc k) d h = let s = ticks_stood cs k d h in record { was = s.was; is = s.is; holds = s.holds }
 
--- equal numbers
+-- a connection after an event, if it is this one
+abbrev pub one_of : Bool → Move → Connection → Connection
+one_of b what c = if b then with_event what c else c
+
+by-test : (a b : Bool) (what : Move) (c d : Connection) → a ≡ b → d ≡ one_of b what c → d ≡ one_of a what c
+by-test a b what c d h e = e ∙ ap (λ (z : Bool). one_of z what c) (sym h)
+
 zero-suc : (k : ℕ) → (0 == suc k) ≡ false
 zero-suc k = grind arith
 
@@ -93,62 +91,51 @@ suc-zero k = grind arith
 suc-suc : (j k : ℕ) → (suc j == suc k) ≡ (j == k)
 suc-suc j k = ap compare_is_eq (compare.suc-suc j k)
 
-if-so : (a b : Bool) (what : Move) → a ≡ b → (if a then what ∷ [] else []) ≡ (if b then what ∷ [] else [])
-if-so a b what h = ap (λ (x : Bool). if x then what ∷ [] else []) h
+pub event_stood : (cs : List Connection) (link k : ℕ) (what : Move) (d : Connection) → slice_get (event_on link what cs) k ≡ Some d → Stood cs k (λ c. d ≡ one_of (link == suc k) what c)
+event_stood [] link k what d h = absurd (cc h)
+event_stood (a ∷ cs) zero k what d h = record { was = d; is = h; holds = by-test (0 == suc k) false what d d (zero-suc k) refl }
+event_stood (a ∷ cs) (suc zero) zero what d h = let i : with_event what a ≡ d = cc in record { was = a; is = refl; holds = sym i }
+event_stood (a ∷ cs) (suc zero) (suc k) what d h = record { was = d; is = h; holds = by-test (1 == suc (suc k)) false what d d (suc-suc 0 (suc k) ∙ zero-suc k) refl }
+event_stood (a ∷ cs) (suc (suc place)) zero what d h = record { was = d; is = h; holds = by-test (suc (suc place) == 1) false what d d (suc-suc (suc place) 0 ∙ suc-zero place) refl }
+event_stood (a ∷ cs) (suc (suc place)) (suc k) what d h =
+    let s = event_stood cs (suc place) k what d h in
+    record { was = s.was; is = s.is; holds = by-test (suc (suc place) == suc (suc k)) (suc place == suc k) what s.was d (suc-suc (suc place) (suc k)) s.holds }
 
--- one place of a list is set
-set-grown : (cs : List Connection) (place k : ℕ) (what : Move) (c d : Connection) → is_no_put what ≡ true → slice_get cs place ≡ Some c → slice_get (slice_set cs place (with_event what c)) k ≡ Some d
-    → Grown cs k (if place == k then what ∷ [] else []) d
-set-grown [] place k what c d n h e = absurd (cc h)
-set-grown (a ∷ cs) zero zero what c d n h e =
-    let i : a ≡ c = cc in
-    let j : with_event what c ≡ d = cc in
-    record {
-      before = a;
-      is = refl;
-      grows = subst (λ (x : Connection). Grows (what ∷ []) a x) (ap (with_event what) i ∙ j)
-          (subst (λ (b : Bool). Grows (if b then what ∷ [] else []) a (with_event what a)) n (event-grows a what));
-    }
-set-grown (a ∷ cs) zero (suc k) what c d n h e =
-    subst (λ (own : List Move). Grown (a ∷ cs) (suc k) own d) (sym (if-so (0 == suc k) false what (zero-suc k))) (same-grown (a ∷ cs) (suc k) d e)
-set-grown (a ∷ cs) (suc place) zero what c d n h e =
-    subst (λ (own : List Move). Grown (a ∷ cs) zero own d) (sym (if-so (suc place == 0) false what (suc-zero place))) (same-grown (a ∷ cs) zero d e)
-set-grown (a ∷ cs) (suc place) (suc k) what c d n h e =
-    let g = set-grown cs place k what c d n h e in
-    record { before = g.before; is = g.is; grows = subst (λ (own : List Move). Grows own g.before d) (sym (if-so (suc place == suc k) (place == k) what (suc-suc place k))) g.grows }
+-- what is the same after an event stays so at all connections
+pub event_keeps : {X : Type 0} (f : Connection → X) (link : ℕ) (what : Move) (cs : List Connection) → ((c : Connection) → f (with_event what c) ≡ f c) → map f (event_on link what cs) ≡ map f cs
+event_keeps f link what [] h = refl
+event_keeps f zero what (c ∷ cs) h = refl
+event_keeps {X} f (suc zero) what (c ∷ cs) h = ap (λ (x : X). x ∷ map f cs) (h c)
+event_keeps {X} f (suc (suc place)) what (c ∷ cs) h = ap (λ (xs : List X). f c ∷ xs) (event_keeps f (suc place) what cs h)
 
-other-place : (cs : List Connection) (place k : ℕ) (what : Move) (d : Connection) → slice_get cs place ≡ None → slice_get cs k ≡ Some d → (if place == k then what ∷ [] else []) ≡ []
-other-place [] place k what d h e = absurd (cc e)
-other-place (a ∷ cs) zero k what d h e = absurd (cc h)
-other-place (a ∷ cs) (suc place) zero what d h e = if-so (suc place == 0) false what (suc-zero place)
-other-place (a ∷ cs) (suc place) (suc k) what d h e = if-so (suc place == suc k) (place == k) what (suc-suc place k) ∙ other-place cs place k what d h e
+-- a connection's own events, call by call
+abbrev Grown : List Connection → ℕ → List Move → Connection → Type 0
+Grown cs k own d = Stood cs k (λ c. Grows own c d)
 
-replaced-grown : (m : Meant) (place k : ℕ) (what : Move) (o : Option Connection) (d : Connection) → is_no_put what ≡ true → slice_get m.connections place ≡ o
-    → slice_get (replaced (suc place) (option_map (with_event what) o) m).connections k ≡ Some d → Grown m.connections k (if suc place == suc k then what ∷ [] else []) d
-replaced-grown m place k what None d n h e =
-    subst (λ (own : List Move). Grown m.connections k own d) (sym (if-so (suc place == suc k) (place == k) what (suc-suc place k) ∙ other-place m.connections place k what d h e)) (same-grown m.connections k d e)
-replaced-grown m place k what (Some c) d n h e =
-    let p : suc place - 1 ≡ place = omega arith in
-    subst (λ (own : List Move). Grown m.connections k own d) (sym (if-so (suc place == suc k) (place == k) what (suc-suc place k)))
-    (set-grown m.connections place k what c d n h (rw p at e))
+offer-grows : (load : List ℕ) (c : Connection) (b : Bool) → Grows [] c (if b then c else with_event (move.Put load) c)
+offer-grows load c true = stays c
+offer-grows load c false = event-grows c (move.Put load)
+
+cycle-grown : (o : Option Answer) (m : Meant) (k : ℕ) (d : Connection) → slice_get (with_cycle o m).connections k ≡ Some d → Grown m.connections k [] d
+cycle-grown o m k d h = cycle_stood (Grows []) o m k d stays (λ load c. offer-grows load c (is_offer load c)) h
+
+one-grows : (b : Bool) (what : Move) (c d : Connection) → is_no_put what ≡ true → d ≡ one_of b what c → Grows (if b then what ∷ [] else []) c d
+one-grows true what c d n e = subst (Grows (what ∷ []) c) (sym e) (subst (λ (b : Bool). Grows (if b then what ∷ [] else []) c (with_event what c)) n (event-grows c what))
+one-grows false what c d n e = subst (Grows [] c) (sym e) (stays c)
 
 event-grown : (m : Meant) (link k : ℕ) (what : Move) (d : Connection) → is_no_put what ≡ true → slice_get (event_at link what m).connections k ≡ Some d
     → Grown m.connections k (if link == suc k then what ∷ [] else []) d
-event-grown m zero k what d n e =
-    subst (λ (own : List Move). Grown m.connections k own d) (sym (if-so (0 == suc k) false what (zero-suc k))) (same-grown m.connections k d e)
-event-grown m (suc place) k what d n e = replaced-grown m place k what (slice_get m.connections place) d n refl e
-
-after-then : (cs ds : List Connection) (k : ℕ) (a b : List Move) (e : Connection) → (g : Grown ds k b e) → Grown cs k a g.before → Grown cs k (a ++ b) e
-after-then cs ds k a b e g h = record { before = h.before; is = h.is; grows = then-grows a b h.before g.before e h.grows g.grows }
+event-grown m link k what d n h = let s = event_stood m.connections link k what d h in record { was = s.was; is = s.is; holds = one-grows (link == suc k) what s.was d n s.holds }
 
 grown : (call : Call) (m : Meant) (k : ℕ) (d : Connection) → slice_get (after call m).connections k ≡ Some d → Grown m.connections k (own_part (suc k) call) d
 grown (Deliver link bytes) m k d h =
-    let later : Meant = with_cycle (cycle_in (Deliver link bytes) m) m in
-    let g = event-grown later link k (move.Deliver bytes) d refl h in
-    after-then m.connections later.connections k [] _ d g (cycle-grown (cycle_in (Deliver link bytes) m) m k g.before g.is)
+    let g = event-grown (with_cycle (cycle_in (Deliver link bytes) m) m) link k (move.Deliver bytes) d refl h in
+    let f = cycle-grown (cycle_in (Deliver link bytes) m) m k g.was g.is in
+    record { was = f.was; is = f.is; holds = then-grows [] (if link == suc k then move.Deliver bytes ∷ [] else []) f.was g.was d f.holds g.holds }
 grown Tick m k d h =
     let g = cycle-grown (cycle_in Tick m) (all_tick m) k d h in
-    after-then m.connections (all_tick m).connections k (move.Tick ∷ []) [] d g (ticks-grown m.connections k g.before g.is)
+    let f = ticks_stood m.connections k g.was g.is in
+    record { was = f.was; is = f.is; holds = then-grows (move.Tick ∷ []) [] f.was g.was d (one-grows true move.Tick f.was g.was refl f.holds) g.holds }
 grown (Nonce link id) m k d h = event-grown m link k (move.Nonce id) d refl h
 grown (ChangeApp app) m k d h = cycle-grown (cycle_in (ChangeApp app) m) (record m { app = app }) k d h
 
@@ -166,8 +153,8 @@ is-own : (settings : List MasterSettings) (app : AppView) (calls : List Call) (k
 is-own settings app [] k c h = is-fresh settings k c h
 is-own settings app (call ∷ calls) k c h =
     let g = grown call (meant settings app calls) k c h in
-    let p = is-own settings app calls k g.before g.is in
-    record { run = g.grows.run p.run; events = g.grows.events ∙ ap (λ (xs : List Move). xs ++ own_part (suc k) call) p.events }
+    let p = is-own settings app calls k g.was g.is in
+    record { run = g.holds.run p.run; events = g.holds.events ∙ ap (λ (xs : List Move). xs ++ own_part (suc k) call) p.events }
 
 own-run : (o : Option Connection) → ((c : Connection) → o ≡ Some c → c.deeds ≡ run (setup c) (events_of c.deeds)) → IfSome o (λ c. c.deeds ≡ run (setup c) (events_of c.deeds))
 own-run None h = tt
@@ -201,22 +188,11 @@ ticks-settings : (cs : List Connection) → map (λ c. c.settings) (map (with_ev
 ticks-settings [] = refl
 ticks-settings (c ∷ cs) = ap (λ (ss : List MasterSettings). c.settings ∷ ss) (ticks-settings cs)
 
-replaced-settings : (m : Meant) (place : ℕ) (what : Move) (o : Option Connection) → slice_get m.connections place ≡ o
-    → map (λ c. c.settings) (replaced (suc place) (option_map (with_event what) o) m).connections ≡ map (λ c. c.settings) m.connections
-replaced-settings m place what None h = refl
-replaced-settings m place what (Some c) h =
-    let p : suc place - 1 ≡ place = omega arith in
-    rw p (map_set (λ c. c.settings) m.connections place c (with_event what c) h refl)
-
-event-settings : (m : Meant) (link : ℕ) (what : Move) → map (λ c. c.settings) (event_at link what m).connections ≡ map (λ c. c.settings) m.connections
-event-settings m zero what = refl
-event-settings m (suc place) what = replaced-settings m place what (slice_get m.connections place) refl
-
 call-settings : (call : Call) (m : Meant) → map (λ c. c.settings) (after call m).connections ≡ map (λ c. c.settings) m.connections
 call-settings (Deliver link bytes) m =
-    event-settings (with_cycle (cycle_in (Deliver link bytes) m) m) link (move.Deliver bytes) ∙ cycle-settings (cycle_in (Deliver link bytes) m) m
+    event_keeps (λ c. c.settings) link (move.Deliver bytes) (with_cycle (cycle_in (Deliver link bytes) m) m).connections (λ c. refl) ∙ cycle-settings (cycle_in (Deliver link bytes) m) m
 call-settings Tick m = cycle-settings (cycle_in Tick m) (all_tick m) ∙ ticks-settings m.connections
-call-settings (Nonce link id) m = event-settings m link (move.Nonce id)
+call-settings (Nonce link id) m = event_keeps (λ c. c.settings) link (move.Nonce id) m.connections (λ c. refl)
 call-settings (ChangeApp app) m = cycle-settings (cycle_in (ChangeApp app) m) (record m { app = app })
 
 fresh-settings : (settings : List MasterSettings) → map (λ c. c.settings) (map fresh settings) ≡ settings

@@ -1,5 +1,5 @@
 -- What is shown of one connection, and an event at one.
-use Rattle.std.proofs.Common.{◌≡◌, ℕ, suc, ◌-◌, List, [], ◌∷◌, map, slice_get, slice_set, Option, Some, None, IfSome, refl, sym, ap, subst, ◌∙◌, arith}
+use Rattle.std.proofs.Common.{◌≡◌, ℕ, zero, suc, List, [], ◌∷◌, map, slice_get, slice_set, Option, Some, None, IfSome, refl, sym, ap, subst, ◌∙◌}
 use Rattle.std.specs.List.{AllZip}
 use Rattle.failsafe_io.specs.Application.{Answer}
 use Rattle.param_load.specs.declared.entry.Move.{Move}
@@ -10,7 +10,7 @@ use Rattle.end_model.specs.Setup.{Setup}
 use Rattle.master_core.specs.MasterView.{MasterView}
 use Rattle.master_core.specs.Standing as core
 use Rattle.multi_master.specs.Connection.{Connection, setup, with_event, outputs_at, offer_at}
-use Rattle.multi_master.specs.Calls.{AppView, Call, Nonce, Meant, IsSound, event_at, cycle_in, after, meant, changed_from}
+use Rattle.multi_master.specs.Calls.{AppView, Call, Nonce, Meant, IsSound, event_on, event_at, cycle_in, after, meant, changed_from}
 use Rattle.multi_master.specs.Standing.{MultiView, IsWhere, StandsFor, Follows, ShowsAt}
 use Rattle.multi_master.proofs.Places.{at_place, zip_set, map_set}
 use Rattle.multi_master.proofs.Quiet.{none_told}
@@ -25,11 +25,14 @@ shown_at v link place m shown word n at s = record {
 }
 
 -- an event at a connection that exists
+event_set : (cs : List Connection) (place : ℕ) (c : Connection) (what : Move) → slice_get cs place ≡ Some c → event_on (suc place) what cs ≡ slice_set cs place (with_event what c)
+event_set [] place c what h = absurd (cc h)
+event_set (a ∷ cs) zero c what h = let i : a ≡ c = cc in ap (λ (x : Connection). with_event what x ∷ cs) i
+event_set (a ∷ cs) (suc place) c what h = ap (λ (xs : List Connection). a ∷ xs) (event_set cs place c what h)
+
 pub event_is : (m : Meant) (place : ℕ) (c : Connection) (what : Move) → slice_get m.connections place ≡ Some c
     → event_at (suc place) what m ≡ record m { connections = slice_set m.connections place (with_event what c) }
-event_is m place c what h =
-    let n : suc place - 1 ≡ place = omega arith in
-    rw (h, n) refl
+event_is m place c what h = ap (λ (cs : List Connection). record m { connections = cs }) (event_set m.connections place c what h)
 
 -- it stands where a call led, from what was meant before
 pub record StandsIn (before after_it : Meant) (v : MultiView) : Type 0 where

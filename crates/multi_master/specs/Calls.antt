@@ -1,6 +1,6 @@
 -- What the calls of a master of many connections mean, newest first: what each connection's master did, and the
 -- application that runs.
-use Rattle.std.specs.Prelude.{◌≡◌, ℕ, zero, suc, ◌-◌, Bool, true, false, List, [], ◌∷◌, map, slice_get, slice_set, Option, Some, None, option_map, if◌then◌else◌}
+use Rattle.std.specs.Prelude.{◌≡◌, ℕ, zero, suc, Bool, true, false, List, [], ◌∷◌, map, slice_get, Option, Some, None, if◌then◌else◌}
 use Rattle.failsafe_io.specs.declared.bit.Bit.{Bit}
 use Rattle.failsafe_io.specs.Application.{Answer, GuardsBy}
 use Rattle.param_load.specs.declared.entry.Move.{Move}
@@ -37,14 +37,15 @@ abbrev pub connection : ℕ → Meant → Option Connection
 connection zero m = None
 connection (suc place) m = slice_get m.connections place
 
--- with this one in its place
-abbrev pub replaced : ℕ → Option Connection → Meant → Meant
-replaced link None m = m
-replaced link (Some c) m = record m { connections = slice_set m.connections (link - 1) c }
+-- an event at the connection with this number, if there is one, and at no other
+abbrev pub event_on : ℕ → Move → List Connection → List Connection
+event_on link what [] = []
+event_on zero what (c ∷ cs) = c ∷ cs
+event_on (suc zero) what (c ∷ cs) = with_event what c ∷ cs
+event_on (suc place) what (c ∷ cs) = c ∷ event_on place what cs
 
--- an event at the connection with this number, and at no other
 abbrev pub event_at : ℕ → Move → Meant → Meant
-event_at link what m = replaced link (option_map (with_event what) (connection link m)) m
+event_at link what m = record m { connections = event_on link what m.connections }
 
 -- a tick at each connection
 abbrev pub all_tick : Meant → Meant

@@ -19,11 +19,11 @@ use Rattle.black_channel.specs.declared.channel.Parcel.{Parcel}
 use Rattle.plant_conf.specs.declared.conf.LinkConf.{LinkConf}
 use Rattle.exchange_model.specs.Ends.{peer, same_end}
 use Rattle.exchange_model.specs.World.{frames_of}
-use Rattle.multi_master.specs.Calls.{Call, Nonce, Meant, connection, replaced, event_at, meant}
-use Rattle.multi_master.specs.Connection.{Connection, with_event, offer_at}
+use Rattle.multi_master.specs.Calls.{Call, Nonce, Meant, event_at, meant}
+use Rattle.multi_master.specs.Connection.{offer_at}
 use Rattle.multi_master.specs.Standing as multi
 use Rattle.multi_master.specs.Standing.{MultiView, StandsFor}
-use Rattle.multi_master.proofs.Places.{map_set}
+use Rattle.multi_master.proofs.Neighbours.{event_keeps}
 use Rattle.multi_master.proofs.Quiet.{none_told}
 use Rattle.plant_model.specs.declared.event.PlantEvent.{PlantEvent}
 use Rattle.plant_model.specs.declared.event.PlantEvent.TheVariants as event
@@ -227,17 +227,10 @@ slave_delivered old new n frame before after c = record {
 }
 
 -- a session id changes no offer
-same_offers : (m : Meant) (link id : ℕ) (o : Option Connection) → connection link m ≡ o → map offer_at (replaced link (option_map (with_event (move.Nonce id)) o) m).connections ≡ map offer_at m.connections
-same_offers m link id None e = refl
-same_offers m zero id (Some c) e = absurd (cc e)
-same_offers m (suc place) id (Some c) e =
-    let same : suc place - 1 ≡ place = omega arith in
-    ap (λ (k : ℕ). map offer_at (slice_set m.connections k (with_event (move.Nonce id) c))) same ∙ map_set offer_at m.connections place c (with_event (move.Nonce id) c) e refl
-
 no_offers : (b : Beginning) (n id : ℕ) (before : List Call) → offers_by b (Some (Nonce n id)) before ≡ []
 no_offers b n id before =
     let m : Meant = meant (settings b) b.app before in
-    ap (λ (ks : List ℕ). map (offer_step (meant (settings b) b.app (Nonce n id ∷ before))) ks) (none_told 1 m.connections (event_at n (move.Nonce id) m).connections (same_offers m n id (connection n m) refl))
+    ap (λ (ks : List ℕ). map (offer_step (meant (settings b) b.app (Nonce n id ∷ before))) ks) (none_told 1 m.connections (event_at n (move.Nonce id) m).connections (event_keeps offer_at n (move.Nonce id) m.connections (λ c. refl)))
 
 -- what the session id of a master changes
 pub record MasterChange (old new : PlantView) (n id : ℕ) : Type 0 where

@@ -11,13 +11,12 @@ use Rattle.fb_net.specs.Values.{NetCycle}
 use Rattle.fb_net.proofs.Ruled.{rule_answers}
 use Rattle.param_load.specs.declared.entry.Move.TheVariants as move
 use Rattle.param_load.specs.declared.master_settings.MasterSettings.{MasterSettings}
-use Rattle.multi_master.specs.Calls.{AppView, Rule, Call, Deliver, Tick, Nonce, ChangeApp, Meant, connection, replaced, event_at, all_tick, answer, is_heard, cycle_in, with_cycle, after, meant}
+use Rattle.multi_master.specs.Calls.{AppView, Rule, Call, Deliver, Tick, Nonce, ChangeApp, Meant, connection, event_on, event_at, all_tick, answer, is_heard, cycle_in, with_cycle, after, meant}
 use Rattle.multi_master.specs.Connection.{Connection, with_event, outputs_at, offer_len, is_offer, with_offer, with_offers}
-use Rattle.multi_master.proofs.Neighbours.{settings_alone}
+use Rattle.multi_master.proofs.Neighbours.{event_keeps, settings_alone}
 use Rattle.multi_master.proofs.Putting.{all_outputs_put, outputs_put}
 use Rattle.plant_model.specs.Acts.{Beginning, Act, settings, call_of, calls, masters}
 use Rattle.plant_model.specs.NetCycles.{AnswersByNet, app_begun, app_cycles, cycles_before, is_ticked, net_app, sent_lens, with_answered}
-use Rattle.plant_model.proofs.KeptOff.{event_keeps}
 
 -- the lengths of what is answered never change
 lens_by : (cs : List Connection) → map offer_len cs ≡ sent_lens (map (λ c. c.settings) cs)
@@ -31,44 +30,18 @@ ticked_lens : (cs : List Connection) → map offer_len (map (with_event move.Tic
 ticked_lens [] = refl
 ticked_lens (c ∷ cs) = ap (λ (ls : List ℕ). offer_len c ∷ ls) (ticked_lens cs)
 
--- a frame comes for the connection at a place, if there is one
-abbrev delivered : List ℕ → ℕ → List Connection → Option Connection → List Connection
-delivered bytes place cs None = cs
-delivered bytes place cs (Some c) = slice_set cs place (with_event (move.Deliver bytes) c)
-
-delivered_is : (bytes : List ℕ) (place : ℕ) (m : Meant) (o : Option Connection) → (replaced (suc place) (option_map (with_event (move.Deliver bytes)) o) m).connections ≡ delivered bytes place m.connections o
-delivered_is bytes place m None = refl
-delivered_is bytes place m (Some c) =
-    let same : suc place - 1 ≡ place = omega arith in
-    ap (λ (k : ℕ). slice_set m.connections k (with_event (move.Deliver bytes) c)) same
-
-delivered_later : (bytes : List ℕ) (place : ℕ) (c : Connection) (cs : List Connection) (o : Option Connection) → delivered bytes (suc place) (c ∷ cs) o ≡ c ∷ delivered bytes place cs o
-delivered_later bytes place c cs None = refl
-delivered_later bytes place c cs (Some there) = refl
-
 -- an answer that was put before a frame changes nothing of what the frame brings
 put_delivered : (c : Connection) (load bytes : List ℕ) (b : Bool) → outputs_at (with_event (move.Deliver bytes) (if b then c else with_event (move.Put load) c)) ≡ outputs_at (with_event (move.Deliver bytes) c)
 put_delivered c load bytes true = refl
 put_delivered c load bytes false = refl
 
-outputs_delivered : (bytes : List ℕ) (cs : List Connection) (loads : List (List ℕ)) (place : ℕ)
-    → map outputs_at (delivered bytes place (with_offers loads cs) (slice_get (with_offers loads cs) place)) ≡ map outputs_at (delivered bytes place cs (slice_get cs place))
-outputs_delivered bytes [] [] place = refl
-outputs_delivered bytes [] (load ∷ loads) place = refl
-outputs_delivered bytes (c ∷ cs) [] place = refl
-outputs_delivered bytes (c ∷ cs) (load ∷ loads) zero = ap₂ (λ (x : List ℕ) (xs : List (List ℕ)). x ∷ xs) (put_delivered c load bytes (is_offer load c)) (all_outputs_put cs loads)
-outputs_delivered bytes (c ∷ cs) (load ∷ loads) (suc place) =
-    let puts : List Connection = with_offers loads cs in
-    ap (map outputs_at) (delivered_later bytes place (with_offer load c) puts (slice_get puts place))
-    ∙ ap₂ (λ (x : List ℕ) (xs : List (List ℕ)). x ∷ xs) (outputs_put c load) (outputs_delivered bytes cs loads place)
-    ∙ sym (ap (map outputs_at) (delivered_later bytes place c cs (slice_get cs place)))
-
-inputs_delivered : (link : ℕ) (bytes : List ℕ) (m : Meant) (a : Answer) → map outputs_at (event_at link (move.Deliver bytes) (with_cycle (Some a) m)).connections ≡ map outputs_at (event_at link (move.Deliver bytes) m).connections
-inputs_delivered zero bytes m a = all_outputs_put m.connections a.outputs
-inputs_delivered (suc place) bytes m a =
-    ap (map outputs_at) (delivered_is bytes place (with_cycle (Some a) m) (connection (suc place) (with_cycle (Some a) m)))
-    ∙ outputs_delivered bytes m.connections a.outputs place
-    ∙ sym (ap (map outputs_at) (delivered_is bytes place m (connection (suc place) m)))
+outputs_delivered : (link : ℕ) (bytes : List ℕ) (cs : List Connection) (loads : List (List ℕ))
+    → map outputs_at (event_on link (move.Deliver bytes) (with_offers loads cs)) ≡ map outputs_at (event_on link (move.Deliver bytes) cs)
+outputs_delivered link bytes cs [] = refl
+outputs_delivered link bytes [] (load ∷ loads) = refl
+outputs_delivered zero bytes (c ∷ cs) (load ∷ loads) = all_outputs_put (c ∷ cs) (load ∷ loads)
+outputs_delivered (suc zero) bytes (c ∷ cs) (load ∷ loads) = ap₂ (λ (x : List ℕ) (xs : List (List ℕ)). x ∷ xs) (put_delivered c load bytes (is_offer load c)) (all_outputs_put cs loads)
+outputs_delivered (suc (suc place)) bytes (c ∷ cs) (load ∷ loads) = ap₂ (λ (x : List ℕ) (xs : List (List ℕ)). x ∷ xs) (outputs_put c load) (outputs_delivered (suc place) bytes cs loads)
 
 -- the application that answers in a call
 abbrev answering : Call → Meant → AppView
@@ -83,19 +56,12 @@ heard_answer : (link : ℕ) (bytes : List ℕ) (m : Meant) (heard : Bool) (a : A
 heard_answer link bytes m true a e = cc
 heard_answer link bytes m false a e = absurd (cc e)
 
-event_app : (link : ℕ) (o : Option Connection) (m : Meant) → (replaced link o m).app ≡ m.app
-event_app link None m = refl
-event_app link (Some c) m = refl
-
 answered : (call : Call) (m : Meant) (a : Answer) → cycle_in call m ≡ Some a → a ≡ answer_to call m
 answered (Deliver link bytes) m a e =
-    let moved : Meant = event_at link (move.Deliver bytes) m in
-    let lens = event_keeps offer_len m link (move.Deliver bytes) (connection link m) (λ c. refl) refl in
-    let app = event_app link (option_map (with_event (move.Deliver bytes)) (connection link m)) m in
+    let lens = event_keeps offer_len link (move.Deliver bytes) m.connections (λ c. refl) in
     heard_answer link bytes m (is_heard bytes (connection link m)) a e
-    ∙ ap (λ (x : AppView). x.rule x.holds false (map outputs_at moved.connections) (map offer_len moved.connections)) app
     ∙ ap₂ (λ (inputs : List (List ℕ)) (ls : List ℕ). m.app.rule m.app.holds false inputs ls)
-    (sym (inputs_delivered link bytes m a) ∙ sym (ap (λ (o : Option Answer). map outputs_at (event_at link (move.Deliver bytes) (with_cycle o m)).connections) e)) lens
+    (sym (outputs_delivered link bytes m.connections a.outputs) ∙ sym (ap (λ (o : Option Answer). map outputs_at (event_at link (move.Deliver bytes) (with_cycle o m)).connections) e)) lens
 answered Tick m a e =
     let told : Answer = answer true (all_tick m) in
     let is : a ≡ told = cc in
@@ -116,11 +82,9 @@ cycle_app None m = refl
 cycle_app (Some a) m = refl
 
 app_after : (call : Call) (m : Meant) → (after call m).app ≡ held_by (cycle_in call m) (answering call m)
-app_after (Deliver link bytes) m =
-    let cycled : Meant = with_cycle (cycle_in (Deliver link bytes) m) m in
-    event_app link (option_map (with_event (move.Deliver bytes)) (connection link cycled)) cycled ∙ cycle_app (cycle_in (Deliver link bytes) m) m
+app_after (Deliver link bytes) m = cycle_app (cycle_in (Deliver link bytes) m) m
 app_after Tick m = refl
-app_after (Nonce link id) m = event_app link (option_map (with_event (move.Nonce id)) (connection link m)) m
+app_after (Nonce link id) m = refl
 app_after (ChangeApp app) m = refl
 
 -- the calls of a net by its cycles

@@ -26,9 +26,9 @@ use Rattle.exchange_model.specs.World.{setup_of, deed_in, deeds, SameLengths}
 use Rattle.exchange_model.specs.Schedules.{IsWorld}
 use Rattle.exchange_model.proofs.Fairness.Shown.{due_is_out, receives_is}
 use Rattle.exchange_model.proofs.Worlds.Projection.{told, deeds_are_run}
-use Rattle.multi_master.specs.Calls.{Call, Deliver, Tick, Nonce, ChangeApp, Meant, connection, replaced, event_at, cycle_in, with_cycle, after, meant}
-use Rattle.multi_master.specs.Connection.{Connection, with_event, outputs_at, offer_at}
-use Rattle.multi_master.proofs.Places.{map_set}
+use Rattle.multi_master.specs.Calls.{Call, Deliver, Tick, Nonce, ChangeApp, Meant, event_at, cycle_in, with_cycle, after, meant}
+use Rattle.multi_master.specs.Connection.{Connection, outputs_at, offer_at}
+use Rattle.multi_master.proofs.Neighbours.{event_keeps}
 use Rattle.plant_model.specs.Acts.{Beginning, Act, settings, call_of, calls, masters, cycle_of, journal}
 use Rattle.plant_model.specs.Bound.{inputs_after, offers_after}
 use Rattle.plant_model.specs.Pair.{pair, link_at}
@@ -136,22 +136,13 @@ offered_zero b bit acts link e is_off =
     ∙ ap (λ (z : Bool). not (held (deeds side.Master w)) && z) (sym (offer_bit_at b bit acts p.place link p.number p.is) ∙ is_off)
     ∙ and_false (not (held (deeds side.Master w)))
 
--- what is the same after an event stays so at all connections
-pub event_keeps : {X : Type 0} (f : Connection → X) (m : Meant) (link : ℕ) (what : Move) (o : Option Connection) → ((c : Connection) → f (with_event what c) ≡ f c) → connection link m ≡ o
-    → map f (replaced link (option_map (with_event what) o) m).connections ≡ map f m.connections
-event_keeps f m link what None h e = refl
-event_keeps f m zero what (Some c) h e = absurd (cc e)
-event_keeps f m (suc place) what (Some c) h e =
-    let same : suc place - 1 ≡ place = omega arith in
-    ap (λ (k : ℕ). map f (slice_set m.connections k (with_event what c))) same ∙ map_set f m.connections place c (with_event what c) e (h c)
-
 -- a call that runs no cycle changes no offer
 call_keeps : (m : Meant) (call : Call) → cycle_in call m ≡ None → map offer_at (after call m).connections ≡ map offer_at m.connections
 call_keeps m (Deliver link bytes) e =
     ap (λ (o : Option Answer). map offer_at (event_at link (move.Deliver bytes) (with_cycle o m)).connections) e
-    ∙ event_keeps offer_at m link (move.Deliver bytes) (connection link m) (λ c. refl) refl
+    ∙ event_keeps offer_at link (move.Deliver bytes) m.connections (λ c. refl)
 call_keeps m Tick e = absurd (cc e)
-call_keeps m (Nonce link id) e = event_keeps offer_at m link (move.Nonce id) (connection link m) (λ c. refl) refl
+call_keeps m (Nonce link id) e = event_keeps offer_at link (move.Nonce id) m.connections (λ c. refl)
 call_keeps m (ChangeApp app) e = absurd (cc e)
 
 keeps_by : (b : Beginning) (o : Option Call) (before : List Call) → option_and_then (λ call. cycle_in call (meant (settings b) b.app before)) o ≡ None

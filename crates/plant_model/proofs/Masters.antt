@@ -1,8 +1,6 @@
 -- The master of each pair of a journal does what this connection of the master of many does: both are the runs of the
 -- same events.
 use Rattle.std.proofs.Common.{◌≡◌, ◌≢◌, ◌⊎◌, inl, inr, ℕ, zero, suc, ◌+◌, ◌-◌, ◌<◌, ◌==◌, List, [], ◌∷◌, ◌++◌, map, slice_get, slice_set, Option, Some, None, option_map, IfSome, Bool, true, false, if◌then◌else◌, refl, sym, ap, ap₂, subst, ◌∙◌, append_assoc, arith}
-use lib.Dec.{compare_is_eq}
-use Prim.Native.Nat.compare
 use Rattle.std.specs.Prelude.{IsSome, IsSomeAnd, option_to_list}
 use Rattle.std.specs.List.{flat_map}
 use Rattle.std.specs.Option.{option_map_or}
@@ -26,8 +24,8 @@ use Rattle.end_model.specs.Setup.{OfMaster, OfSlave}
 use Rattle.end_model.specs.Step.{run, continued}
 use Rattle.exchange_model.specs.World.{deeds, next_entry, world_after}
 use Rattle.multi_master.specs.Connection.{Connection, fresh, setup, with_event, offer_at, is_offer, with_offer, with_offers}
-use Rattle.multi_master.specs.Calls.{Call, Deliver, Tick, Nonce, ChangeApp, Meant, connection, replaced, event_at, all_tick, cycle_in, with_cycle, after, meant, changed_from}
-use Rattle.multi_master.proofs.Neighbours.{runs_alone, settings_alone}
+use Rattle.multi_master.specs.Calls.{Call, Deliver, Tick, Nonce, ChangeApp, Meant, connection, all_tick, cycle_in, with_cycle, after, meant, changed_from}
+use Rattle.multi_master.proofs.Neighbours.{Stood, cycle_stood, event_stood, one_of, runs_alone, settings_alone, ticks_stood}
 use Rattle.multi_master.proofs.Places.{same_bytes}
 use Rattle.plant_model.specs.declared.event.PlantEvent.{PlantEvent}
 use Rattle.plant_model.specs.declared.event.PlantEvent.TheVariants as event
@@ -170,12 +168,6 @@ one_put m k n (suc place) (o ∷ olds) (w ∷ news) c d e h i =
     skipped m k n (is_offer (offer_at w) o) (changed_from (suc n) olds news) _ (not_same n k (λ z. absurd (omega arith)))
     (one_put m k (suc n) place olds news c d (omega arith) h i)
 
--- what stands at a place, and what is said of it
-record Stood (cs : List Connection) (place : ℕ) (R : Connection → Type 0) : Type 0 where
-  was : Connection
-  is : slice_get cs place ≡ Some was
-  holds : R was
-
 -- the events of a connection and its offer, after some moves
 record Went (moves : List Move) (c d : Connection) : Type 0 where
   settings : d.settings ≡ c.settings
@@ -194,67 +186,8 @@ offered load c d false is e = subst (λ (z : Connection). Went (put_part c (offe
   events = subst (λ (b : Bool). events_of c.deeds ++ move.Put load ∷ [] ≡ events_of c.deeds ++ (if b then [] else move.Put load ∷ [])) (sym is) refl;
 })
 
-offers_stood : (loads : List (List ℕ)) (cs : List Connection) (place : ℕ) (d : Connection) → slice_get (with_offers loads cs) place ≡ Some d → Stood cs place (λ c. Went (put_part c (offer_at d)) c d)
-offers_stood [] cs place d h = record { was = d; is = h; holds = stays d d refl }
-offers_stood (load ∷ loads) [] place d h = record { was = d; is = h; holds = stays d d refl }
-offers_stood (load ∷ loads) (c ∷ cs) zero d h =
-    let i : with_offer load c ≡ d = cc in
-    record { was = c; is = refl; holds = offered load c d (is_offer load c) refl (sym i) }
-offers_stood (load ∷ loads) (c ∷ cs) (suc place) d h = let s = offers_stood loads cs place d h in record { was = s.was; is = s.is; holds = s.holds }
-
-cycle_stood : (o : Option Answer) (m : Meant) (place : ℕ) (d : Connection) → slice_get (with_cycle o m).connections place ≡ Some d → Stood m.connections place (λ c. Went (put_part c (offer_at d)) c d)
-cycle_stood None m place d h = record { was = d; is = h; holds = stays d d refl }
-cycle_stood (Some a) m place d h = offers_stood a.outputs m.connections place d h
-
-ticks_stood : (cs : List Connection) (place : ℕ) (d : Connection) → slice_get (map (with_event move.Tick) cs) place ≡ Some d → Stood cs place (λ c. d ≡ with_event move.Tick c)
-ticks_stood [] place d h = absurd (cc h)
-ticks_stood (c ∷ cs) zero d h = let i : with_event move.Tick c ≡ d = cc in record { was = c; is = refl; holds = sym i }
-ticks_stood (c ∷ cs) (suc place) d h = let s = ticks_stood cs place d h in record { was = s.was; is = s.is; holds = s.holds }
-
-zero_suc : (k : ℕ) → (0 == suc k) ≡ false
-zero_suc k = grind arith
-
-suc_zero : (k : ℕ) → (suc k == 0) ≡ false
-suc_zero k = grind arith
-
-suc_suc : (j k : ℕ) → (suc j == suc k) ≡ (j == k)
-suc_suc j k = ap compare_is_eq (compare.suc-suc j k)
-
--- a connection after an event, if it is this one
-abbrev one_of : Bool → Move → Connection → Connection
-one_of b what c = if b then with_event what c else c
-
-by_test : (a b : Bool) (what : Move) (c d : Connection) → a ≡ b → d ≡ one_of b what c → d ≡ one_of a what c
-by_test a b what c d h e = e ∙ ap (λ (z : Bool). one_of z what c) (sym h)
-
-set_stood : (cs : List Connection) (place k : ℕ) (what : Move) (c d : Connection) → slice_get cs place ≡ Some c → slice_get (slice_set cs place (with_event what c)) k ≡ Some d
-    → Stood cs k (λ b. d ≡ one_of (place == k) what b)
-set_stood [] place k what c d h e = absurd (cc h)
-set_stood (a ∷ cs) zero zero what c d h e =
-    let i : a ≡ c = cc in
-    let j : with_event what c ≡ d = cc in
-    record { was = a; is = refl; holds = sym (ap (with_event what) i ∙ j) }
-set_stood (a ∷ cs) zero (suc k) what c d h e = record { was = d; is = e; holds = by_test (0 == suc k) false what d d (zero_suc k) refl }
-set_stood (a ∷ cs) (suc place) zero what c d h e = record { was = d; is = e; holds = by_test (suc place == 0) false what d d (suc_zero place) refl }
-set_stood (a ∷ cs) (suc place) (suc k) what c d h e =
-    let s = set_stood cs place k what c d h e in
-    record { was = s.was; is = s.is; holds = by_test (suc place == suc k) (place == k) what s.was d (suc_suc place k) s.holds }
-
-absent : (cs : List Connection) (place k : ℕ) (d : Connection) → slice_get cs place ≡ None → slice_get cs k ≡ Some d → (place == k) ≡ false
-absent cs place k d h e = not_same place k (λ same. cc)
-
-replaced_stood : (m : Meant) (place k : ℕ) (what : Move) (o : Option Connection) (d : Connection) → slice_get m.connections place ≡ o
-    → slice_get (replaced (suc place) (option_map (with_event what) o) m).connections k ≡ Some d → Stood m.connections k (λ b. d ≡ one_of (suc place == suc k) what b)
-replaced_stood m place k what None d h e =
-    record { was = d; is = e; holds = by_test (suc place == suc k) false what d d (suc_suc place k ∙ absent m.connections place k d h e) refl }
-replaced_stood m place k what (Some c) d h e =
-    let p : suc place - 1 ≡ place = omega arith in
-    let s = set_stood m.connections place k what c d h (rw p at e) in
-    record { was = s.was; is = s.is; holds = by_test (suc place == suc k) (place == k) what s.was d (suc_suc place k) s.holds }
-
-event_stood : (m : Meant) (link k : ℕ) (what : Move) (d : Connection) → slice_get (event_at link what m).connections k ≡ Some d → Stood m.connections k (λ b. d ≡ one_of (link == suc k) what b)
-event_stood m zero k what d e = record { was = d; is = e; holds = by_test (0 == suc k) false what d d (zero_suc k) refl }
-event_stood m (suc place) k what d e = replaced_stood m place k what (slice_get m.connections place) d refl e
+put_went : (o : Option Answer) (m : Meant) (place : ℕ) (d : Connection) → slice_get (with_cycle o m).connections place ≡ Some d → Stood m.connections place (λ c. Went (put_part c (offer_at d)) c d)
+put_went o m place d h = cycle_stood (λ c d. Went (put_part c (offer_at d)) c d) o m place d (λ c. stays c c refl) (λ load c. offered load c (with_offer load c) (is_offer load c) refl refl) h
 
 -- what a call means for this connection, which has this offer after it
 abbrev call_moves : ℕ → Call → Connection → List ℕ → List Move
@@ -284,8 +217,8 @@ grown : (call : Call) (m : Meant) (place : ℕ) (d : Connection) → slice_get (
     → Stood m.connections place (λ c. Went (call_moves (suc place) call c (offer_at d)) c d)
 grown (Deliver link bytes) m place d h =
     let later : Meant = with_cycle (cycle_in (Deliver link bytes) m) m in
-    let s = event_stood later link place (move.Deliver bytes) d h in
-    let t = cycle_stood (cycle_in (Deliver link bytes) m) m place s.was s.is in
+    let s = event_stood later.connections link place (move.Deliver bytes) d h in
+    let t = put_went (cycle_in (Deliver link bytes) m) m place s.was s.is in
     let same : offer_at d ≡ offer_at s.was = same_offer (link == suc place) (move.Deliver bytes) s.was d (λ z. refl) s.holds in
     record {
       was = t.was;
@@ -294,7 +227,7 @@ grown (Deliver link bytes) m place d h =
           (went_then (put_part t.was (offer_at s.was)) (if link == suc place then move.Deliver bytes ∷ [] else []) t.was s.was d t.holds (event_went (link == suc place) (move.Deliver bytes) s.was d s.holds));
     }
 grown Tick m place d h =
-    let s = cycle_stood (cycle_in Tick m) (all_tick m) place d h in
+    let s = put_went (cycle_in Tick m) (all_tick m) place d h in
     let t = ticks_stood m.connections place s.was s.is in
     let g : Went (put_part t.was (offer_at d)) (with_event move.Tick t.was) d = subst (λ (z : Connection). Went (put_part z (offer_at d)) z d) t.holds s.holds in
     record {
@@ -303,7 +236,7 @@ grown Tick m place d h =
       holds = went_then (move.Tick ∷ []) (put_part t.was (offer_at d)) t.was (with_event move.Tick t.was) d (record { settings = refl; events = refl }) g;
     }
 grown (Nonce link id) m place d h =
-    let s = event_stood m link place (move.Nonce id) d h in
+    let s = event_stood m.connections link place (move.Nonce id) d h in
     let same : offer_at d ≡ offer_at s.was = same_offer (link == suc place) (move.Nonce id) s.was d (λ z. refl) s.holds in
     let none : put_part s.was (offer_at d) ≡ [] = no_put s.was (offer_at d) same in
     record {
@@ -313,7 +246,7 @@ grown (Nonce link id) m place d h =
           (event_went (link == suc place) (move.Nonce id) s.was d s.holds)
           (subst (λ (xs : List Move). Went xs d d) (sym none) (record { settings = refl; events = sym (append-nil (events_of d.deeds)) }));
     }
-grown (ChangeApp app) m place d h = cycle_stood (cycle_in (ChangeApp app) m) (record m { app = app }) place d h
+grown (ChangeApp app) m place d h = put_went (cycle_in (ChangeApp app) m) (record m { app = app }) place d h
 
 -- an event for a connection, and others
 if_moves : (b : Bool) (e : Event) (xs : List Event) → flat_map at_master ((if b then e ∷ [] else []) ++ xs) ≡ (if b then at_master e else []) ++ flat_map at_master xs

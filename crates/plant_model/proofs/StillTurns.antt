@@ -19,8 +19,8 @@ use Rattle.plant_conf.specs.declared.conf.LinkConf.{LinkConf}
 use Rattle.exchange_model.specs.Ends.{of_end}
 use Rattle.exchange_model.specs.Items.{Offered, Unset, next_offered}
 use Rattle.exchange_model.specs.Fair.{offers_bit}
-use Rattle.multi_master.specs.Calls.{AppView, Call, Deliver, Tick, Meant, IsSound, connection, replaced, cycle_in, with_cycle, after, meant, changed}
-use Rattle.multi_master.specs.Connection.{Connection, with_event, outputs_at, offer_at}
+use Rattle.multi_master.specs.Calls.{AppView, Call, Deliver, Tick, Meant, IsSound, connection, cycle_in, with_cycle, meant, changed}
+use Rattle.multi_master.specs.Connection.{outputs_at, offer_at}
 use Rattle.plant_model.specs.declared.event.PlantEvent.TheVariants as event
 use Rattle.plant_model.specs.declared.journal.JournalStep.{JournalStep}
 use Rattle.plant_model.specs.declared.journal.JournalStep.TheVariants as step
@@ -137,24 +137,15 @@ off_if None k bit b act done h = refl
 off_if (Some link) k bit b act done h = ap (offers_bit bit) (act_offers link k b act done h)
 
 -- the application that runs stays
-replaced_app : (link : ℕ) (o : Option Connection) (m : Meant) → (replaced link o m).app ≡ m.app
-replaced_app link None m = refl
-replaced_app link (Some c) m = refl
-
 cycle_guards : (o : Option Answer) (m : Meant) → (with_cycle o m).app.guards ≡ m.app.guards
 cycle_guards None m = refl
 cycle_guards (Some a) m = refl
-
-delivered_guards : (m : Meant) (link : ℕ) (bytes : List ℕ) → (after (Deliver link bytes) m).app.guards ≡ m.app.guards
-delivered_guards m link bytes =
-    let offered : Meant = with_cycle (cycle_in (Deliver link bytes) m) m in
-    ap (λ (app : AppView). app.guards) (replaced_app link (option_map (with_event (move.Deliver bytes)) (connection link offered)) offered) ∙ cycle_guards (cycle_in (Deliver link bytes) m) m
 
 parcel_guards : (b : Beginning) (done : List Act) (o : Option LinkConf) (end : End) (n : ℕ) (frame : List ℕ)
     → (meant (settings b) b.app (option_to_list (delivery_call o end n frame) ++ calls b done)).app.guards ≡ (masters b done).app.guards
 parcel_guards b done None end n frame = refl
 parcel_guards b done (Some link) side.Slave n frame = refl
-parcel_guards b done (Some link) side.Master n frame = delivered_guards (masters b done) n frame
+parcel_guards b done (Some link) side.Master n frame = cycle_guards (cycle_in (Deliver n frame) (masters b done)) (masters b done)
 
 act_guards : (b : Beginning) (act : Act) (done : List Act) → IsOfTick act → (masters b (act ∷ done)).app.guards ≡ (masters b done).app.guards
 act_guards b Start done h = absurd h
