@@ -35,8 +35,8 @@
  * session. examples/drive.c and examples/controller.c are whole loops, with fresh ids, terms and counted resets.
  *
  * Answers
- *     Each call returns a number of enum gp_answer, except gp_version, gp_.._size and gp_.._align. GP_OK says that the call
- *     was done. Every other number says why it was refused. A refused call changed nothing: neither the end, nor
+ *     Each call returns a number of enum gp_answer, except gp_version, gp_.._size and gp_.._align. GP_OK says that the
+ *     call was done. Every other number says why it was refused. A refused call changed nothing: neither the end, nor
  *     what the pointers lead to, so `out` still has the frame of the step before. If there are several reasons, GP_NO_END
  *     and GP_BUSY come first, then GP_FRAME_DUE.
  *

@@ -50,7 +50,7 @@ pub record ShowsTerms (g : GpTerms) (t : Terms) : Type 0 where
   pub profile : g.profile ≡ profile_number t.profile
   pub word : g.word ≡ word_number t.profile
 
--- the fields and the frame are those of the next deed of a slave, and what lay behind the data and the frame is still there
+-- the fields and the frame are those of the next deed of a slave; what lay behind the data and the frame stays
 pub record SlaveTells (old : SlaveView) (event : Move) (was g : GpDid) (had f : GpFrame) : Type 0 where
   pub did : (settings : SlaveSettings) (deeds : List Deed) → SlaveIsAfter settings old deeds → ShowsDid g (step (OfSlave settings) deeds event).did
   pub sent : (settings : SlaveSettings) (deeds : List Deed) → SlaveIsAfter settings old deeds → frame_of f ≡ (step (OfSlave settings) deeds event).sent
