@@ -85,7 +85,7 @@ pub extern "C" fn gp_master_end(master: &mut GpMaster) -> u8
     if !master.live {
         return NO_END;
     }
-    let _master = master.place.take();
+    master.place.clear();
     master.live = false;
     OK
 }

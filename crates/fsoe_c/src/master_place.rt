@@ -25,13 +25,11 @@ impl Model for MasterPlace {
 impl MasterPlace {
     ghost use Rattle.fsoe_c.specs.Lent.{lends_master};
 
-    /// Moves the master out.
-    pub(crate) fn take(&mut self) -> MasterRoom
+    /// Lets the master go: its memory is room again.
+    pub(crate) fn clear(&mut self)
         requires { IsSome self.old.master }
-        ensures { (self.old.master ≡ Some result) × (self.new ≡ record self.old { master = None }) }
-    {
-        unsafe { (self.at as *mut MasterRoom).read() }
-    }
+        ensures { self.new ≡ record self.old { master = None } }
+    {}
 
     /// Moves a master in.
     pub(crate) fn put(&mut self, x: MasterRoom)

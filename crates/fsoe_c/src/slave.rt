@@ -143,7 +143,7 @@ pub extern "C" fn gp_slave_end(slave: &mut GpSlave) -> u8
     if !slave.live {
         return NO_END;
     }
-    let _slave = slave.place.take();
+    slave.place.clear();
     slave.live = false;
     OK
 }

@@ -25,13 +25,11 @@ impl Model for SlavePlace {
 impl SlavePlace {
     ghost use Rattle.fsoe_c.specs.Lent.{lends_slave};
 
-    /// Moves the slave out.
-    pub(crate) fn take(&mut self) -> SlaveRoom
+    /// Lets the slave go: its memory is room again.
+    pub(crate) fn clear(&mut self)
         requires { IsSome self.old.slave }
-        ensures { (self.old.slave ≡ Some result) × (self.new ≡ record self.old { slave = None }) }
-    {
-        unsafe { (self.at as *mut SlaveRoom).read() }
-    }
+        ensures { self.new ≡ record self.old { slave = None } }
+    {}
 
     /// Moves a slave in.
     pub(crate) fn put(&mut self, x: SlaveRoom)
