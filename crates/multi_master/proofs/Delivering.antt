@@ -1,5 +1,5 @@
 -- A delivery to one of many connections, by what its master and the application do.
-use Rattle.std.proofs.Common.{◌≡◌, ℕ, suc, List, [], ◌∷◌, map, slice_get, slice_set, Option, Some, None, Bool, true, false, IfSome, if◌then◌else◌, refl, sym, ap, ap₂, subst, ◌∙◌}
+use Rattle.std.proofs.Common.{◌≡◌, ℕ, suc, List, [], ◌∷◌, map, slice_get, slice_set, Option, Some, None, Bool, true, false, if◌then◌else◌, refl, sym, ap, ap₂, subst, ◌∙◌}
 use Rattle.std.specs.List.{AllZip}
 use Rattle.std.specs.Option.{option_map_or}
 use Rattle.std.proofs.lemmas.List.{map-set}
@@ -15,14 +15,14 @@ use Rattle.master_core.specs.MasterView.{MasterView}
 use Rattle.master_core.specs.Now.{is_due}
 use Rattle.master_core.specs.Waiting.{Accepts, Replies, ShowsDue}
 use Rattle.multi_master.specs.Connection.{Connection, setup, next_deed, with_event, outputs_at, offer_at, offer_len, with_offers}
-use Rattle.multi_master.specs.Calls.{AppView, Call, Deliver, Meant, IsSound, event_at, answer, is_heard, cycle_in, with_cycle, after, meant}
+use Rattle.multi_master.specs.Calls.{AppView, Call, Deliver, Meant, event_at, answer, is_heard, cycle_in, with_cycle, after, meant, changed_from}
 use Rattle.multi_master.specs.Puts.{own_len, PutsEach, RunsCycle}
-use Rattle.multi_master.specs.Standing.{MultiView, settings_in, IsWhere, StandsFor, Follows, AnswersFrame, newest_at}
+use Rattle.multi_master.specs.Standing.{MultiView, settings_in, IsWhere, StandsFor, Follows, AnswersFrame, newest_at, numbers_of}
 use Rattle.multi_master.proofs.Following.{own_lens, cycle_answers, guards_alike}
 use Rattle.multi_master.proofs.Hearing.{replied}
 use Rattle.multi_master.proofs.Places.{at_place, map_set, set_there}
 use Rattle.multi_master.proofs.Putting.{offers_put, all_outputs_put, puts_told}
-use Rattle.multi_master.proofs.Quiet.{quiet_frame, quiet_deed, same_outputs, told_set}
+use Rattle.multi_master.proofs.Quiet.{quiet_frame, quiet_deed, same_outputs}
 use Rattle.multi_master.proofs.Reading.{StandsIn, stands_so, event_is, quiet_stands}
 
 -- the cycle of a delivery to a connection that exists
@@ -83,7 +83,7 @@ drop_follows old new link place bytes did n d = record {
       let is : after (Deliver link bytes) m ≡ event_at (suc place) (move.Deliver bytes) m =
       ap₂ (λ (k : ℕ) (o : Option Answer). event_at k (move.Deliver bytes) (with_cycle o m)) n none in
       quiet_stands settings app old new calls (Deliver link bytes) place (move.Deliver bytes) x.there d.last h none is
-      (record { is = x.is; offer = refl; outputs = quiet_frame (setup x.there) x.there.deeds bytes x.none }) x.holds d.masters_are d.app_is d.inputs_are d.changed_are;
+      (record { is = x.is; outputs = quiet_frame (setup x.there) x.there.deeds bytes x.none }) x.holds d.masters_are d.app_is d.inputs_are d.changed_are;
 }
 
 pub drop_answers : (old new : MultiView) (link place : ℕ) (bytes : List ℕ) (did : Did) (frame : List ℕ) → link ≡ suc place → frame ≡ [] → Drops old place bytes did new
@@ -130,8 +130,7 @@ record Heard (m : Meant) (place : ℕ) (bytes : List ℕ) (did : Did) (new : Mul
   pub cycle : Answer
   pub cycle_is : cycle_in (Deliver (suc place) bytes) m ≡ Some cycle
   pub after_is : after (Deliver (suc place) bytes) m ≡ later
-  pub stands : StandsIn m later new
-  pub sound : IsSound later cycle
+  pub stands : StandsIn m (Some cycle) later new
   pub is : slice_get later.connections place ≡ Some (with_event (move.Deliver bytes) there)
   pub deed_is : next_deed (move.Deliver bytes) there ≡ deed (move.Deliver bytes) (record did { sent = true }) frame
 
@@ -185,11 +184,11 @@ heard settings app old new calls place bytes did frame h t =
         masters = subst (λ (ms : List MasterView). AllZip IsWhere later.connections ms) (ap (λ (ms : List MasterView). slice_set ms place t.last) puts.new_are ∙ sym t.masters_are) r.masters;
         app_is = said.1;
         inputs_are = inputs_after;
-        changed_are = puts.changed_are ∙ sym (puts_told 1 cs puts.steps r.shown) ∙ sym (told_set 1 cs (with_offers loads cs) place r.there e r.is refl);
-      };
-      sound = record {
-        answered = map_set offer_at (with_offers loads cs) place r.there e r.is refl ∙ offers_put cs puts.steps r.shown ∙ load;
-        guarded = guards_alike old.app.guards m.app.guards new.inputs _ t.cycle.answers _ (ap (λ (app : AppView). app.guards) h.app_is) inputs_after said.0 t.cycle.cycle.guarded;
+        changed_are = puts.changed_are ∙ sym (puts_told 1 cs puts.steps r.shown) ∙ ap (λ (answers : List (List ℕ)). numbers_of (changed_from 1 cs answers)) load;
+        sound = record {
+          answered = map_set offer_at (with_offers loads cs) place r.there e r.is refl ∙ offers_put cs puts.steps r.shown ∙ load;
+          guarded = guards_alike old.app.guards m.app.guards new.inputs _ t.cycle.answers _ (ap (λ (app : AppView). app.guards) h.app_is) inputs_after said.0 t.cycle.cycle.guarded;
+        };
       };
       is = set_there (with_offers loads cs) place r.there e r.is;
       deed_is = same_deed (move.Deliver bytes) _ _ _ _ same_did (sym r.sent_is);
@@ -200,8 +199,8 @@ hear_follows old new link place bytes did frame n t = record {
   stands = λ settings app calls h.
       let m : Meant = meant settings app calls in
       let x = heard settings app old new calls place bytes did frame h t in
-      stands_so settings app old new calls (Deliver link bytes) x.later h (ap (λ (k : ℕ). after (Deliver k bytes) m) n ∙ x.after_is)
-      (subst (λ (o : Option Answer). IfSome o (IsSound x.later)) (sym (ap (λ (k : ℕ). cycle_in (Deliver k bytes) m) n ∙ x.cycle_is)) x.sound) x.stands;
+      stands_so settings app old new calls (Deliver link bytes) (Some x.cycle) x.later h (ap (λ (k : ℕ). cycle_in (Deliver k bytes) m) n ∙ x.cycle_is)
+      (ap (λ (k : ℕ). after (Deliver k bytes) m) n ∙ x.after_is) x.stands;
 }
 
 pub hear_answers : (old new : MultiView) (link place : ℕ) (bytes : List ℕ) (did : Did) (frame : List ℕ) → link ≡ suc place → Hears old place bytes did new frame

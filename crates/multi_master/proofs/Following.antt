@@ -9,7 +9,7 @@ use Rattle.master_core.specs.MasterView.{MasterView}
 use Rattle.multi_master.specs.Connection.{Connection, outputs_at, offer_at, offer_len, with_offers}
 use Rattle.multi_master.specs.Calls.{AppView, Call, Tick, ChangeApp, Meant, IsSound, all_tick, answer, with_cycle, meant, changed_from}
 use Rattle.multi_master.specs.Puts.{own_len, PutsEach, Cycles, RunsCycle, TicksEach}
-use Rattle.multi_master.specs.Standing.{MultiView, IsWhere, StandsFor, Follows, AnswersTick}
+use Rattle.multi_master.specs.Standing.{MultiView, IsWhere, StandsFor, Follows, AnswersTick, numbers_of}
 use Rattle.multi_master.proofs.Putting.{puts_where, all_shown, offers_put, all_outputs_put, puts_told}
 use Rattle.multi_master.proofs.Ticking.{ticks_where, ticks_read, ticks_did, ticks_sent, told_ticked}
 
@@ -46,7 +46,7 @@ pub record CycleDone (m : Meant) (ticked : Bool) (masters : List MasterView) (ap
   pub masters_are : AllZip IsWhere (with_cycle (Some (answer ticked m)) m).connections masters
   pub app_is : app ≡ (with_cycle (Some (answer ticked m)) m).app
   pub inputs_are : inputs ≡ map outputs_at (with_cycle (Some (answer ticked m)) m).connections
-  pub told_are : told ≡ changed_from 1 m.connections (with_cycle (Some (answer ticked m)) m).connections
+  pub told_are : told ≡ numbers_of (changed_from 1 m.connections (answer ticked m).outputs)
   pub sound : IsSound (with_cycle (Some (answer ticked m)) m) (answer ticked m)
 
 pub cycle_done : (m : Meant) (old new : AppView) (ticked : Bool) (inputs : List (List ℕ)) (middle masters : List MasterView) (told : List ℕ) → old ≡ m.app
@@ -65,7 +65,7 @@ cycle_done m old new ticked inputs middle masters told a i w r =
           (subst (λ (loads : List (List ℕ)). AllZip IsWhere (with_offers loads m.connections) (map (λ x. x.new) p.steps)) load (puts_where m.connections p.steps at p.each));
       app_is = both.1;
       inputs_are = inputs_after;
-      told_are = p.changed_are ∙ sym (puts_told 1 m.connections p.steps shown) ∙ ap (λ (loads : List (List ℕ)). changed_from 1 m.connections (with_offers loads m.connections)) load;
+      told_are = p.changed_are ∙ sym (puts_told 1 m.connections p.steps shown) ∙ ap (λ (loads : List (List ℕ)). numbers_of (changed_from 1 m.connections loads)) load;
       sound = record {
         answered = ap (λ (loads : List (List ℕ)). map offer_at (with_offers loads m.connections)) (sym load) ∙ offers_put m.connections p.steps shown ∙ load;
         guarded = guards_alike old.guards m.app.guards inputs _ r.answers _ (ap (λ (app : AppView). app.guards) a) inputs_after both.0 r.cycle.guarded;
@@ -100,7 +100,7 @@ tick_follows old new dids frames t = record {
         masters = d.masters_are;
         app_is = d.app_is;
         inputs_are = d.inputs_are;
-        changed_are = d.told_are ∙ told_ticked 1 (meant settings app calls).connections _;
+        changed_are = d.told_are ∙ ap numbers_of (told_ticked 1 (meant settings app calls).connections _);
         sound = (d.sound, h.sound);
       };
 }

@@ -56,20 +56,6 @@ pub record Stood (cs : List Connection) (place : ℕ) (R : Connection → Type 0
   pub is : slice_get cs place ≡ Some was
   pub holds : R was
 
-pub offers_stood : (R : Connection → Connection → Type 0) (loads : List (List ℕ)) (cs : List Connection) (k : ℕ) (d : Connection) → ((c : Connection) → R c c) → ((load : List ℕ) (c : Connection) → R c (with_offer load c))
-    → slice_get (with_offers loads cs) k ≡ Some d → Stood cs k (λ c. R c d)
-offers_stood R [] cs k d same put h = record { was = d; is = h; holds = same d }
-offers_stood R (load ∷ loads) [] k d same put h = record { was = d; is = h; holds = same d }
-offers_stood R (load ∷ loads) (c ∷ cs) zero d same put h =
-    let i : with_offer load c ≡ d = cc in
-    record { was = c; is = refl; holds = subst (R c) i (put load c) }
-offers_stood R (load ∷ loads) (c ∷ cs) (suc k) d same put h = let s = offers_stood R loads cs k d same put h in record { was = s.was; is = s.is; holds = s.holds }
-
-pub cycle_stood : (R : Connection → Connection → Type 0) (o : Option Answer) (m : Meant) (k : ℕ) (d : Connection) → ((c : Connection) → R c c) → ((load : List ℕ) (c : Connection) → R c (with_offer load c))
-    → slice_get (with_cycle o m).connections k ≡ Some d → Stood m.connections k (λ c. R c d)
-cycle_stood R None m k d same put h = record { was = d; is = h; holds = same d }
-cycle_stood R (Some a) m k d same put h = offers_stood R a.outputs m.connections k d same put h
-
 pub ticks_stood : (cs : List Connection) (k : ℕ) (d : Connection) → slice_get (map (with_event move.Tick) cs) k ≡ Some d → Stood cs k (λ c. d ≡ with_event move.Tick c)
 ticks_stood [] k d h = absurd (cc h)
 ticks_stood (c ∷ cs) zero d h = let i : with_event move.Tick c ≡ d = cc in record { was = c; is = refl; holds = sym i }
@@ -116,8 +102,17 @@ offer-grows : (load : List ℕ) (c : Connection) (b : Bool) → Grows [] c (if b
 offer-grows load c true = stays c
 offer-grows load c false = event-grows c (move.Put load)
 
+offers-grown : (loads : List (List ℕ)) (cs : List Connection) (k : ℕ) (d : Connection) → slice_get (with_offers loads cs) k ≡ Some d → Grown cs k [] d
+offers-grown [] cs k d h = record { was = d; is = h; holds = stays d }
+offers-grown (load ∷ loads) [] k d h = absurd (cc h)
+offers-grown (load ∷ loads) (c ∷ cs) zero d h =
+    let i : with_offer load c ≡ d = cc in
+    record { was = c; is = refl; holds = subst (Grows [] c) i (offer-grows load c (is_offer load c)) }
+offers-grown (load ∷ loads) (c ∷ cs) (suc k) d h = let s = offers-grown loads cs k d h in record { was = s.was; is = s.is; holds = s.holds }
+
 cycle-grown : (o : Option Answer) (m : Meant) (k : ℕ) (d : Connection) → slice_get (with_cycle o m).connections k ≡ Some d → Grown m.connections k [] d
-cycle-grown o m k d h = cycle_stood (Grows []) o m k d stays (λ load c. offer-grows load c (is_offer load c)) h
+cycle-grown None m k d h = record { was = d; is = h; holds = stays d }
+cycle-grown (Some a) m k d h = offers-grown a.outputs m.connections k d h
 
 one-grows : (b : Bool) (what : Move) (c d : Connection) → is_no_put what ≡ true → d ≡ one_of b what c → Grows (if b then what ∷ [] else []) c d
 one-grows true what c d n e = subst (Grows (what ∷ []) c) (sym e) (subst (λ (b : Bool). Grows (if b then what ∷ [] else []) c (with_event what c)) n (event-grows c what))

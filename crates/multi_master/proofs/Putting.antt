@@ -1,5 +1,5 @@
 -- The answers of a cycle, put master by master.
-use Rattle.std.proofs.Common.{◌≡◌, ℕ, suc, List, [], ◌∷◌, ◌++◌, map, Bool, true, false, not, All, if◌then◌else◌, nat_eq, refl, sym, ap, subst, ◌∙◌}
+use Rattle.std.proofs.Common.{◌≡◌, ℕ, suc, List, [], ◌∷◌, ◌++◌, map, Bool, true, false, not, All, if◌then◌else◌, nat_eq, refl, sym, ap, ap₂, subst, ◌∙◌}
 use Rattle.std.specs.Cmp.Lexicographic.{pointwise, same_text}
 use Rattle.std.specs.List.{AllZip}
 use Rattle.std.proofs.lemmas.List.Elements.{All-head, All-tail}
@@ -10,7 +10,7 @@ use Rattle.master_core.specs.Waiting.{Delivery, Waits}
 use Rattle.multi_master.specs.Connection.{Connection, with_event, outputs_at, offer_at, is_offer, with_offer, with_offers}
 use Rattle.multi_master.specs.Calls.{changed_from}
 use Rattle.multi_master.specs.Puts.{PutStep, IsPutStep, MayBePut, changed_steps}
-use Rattle.multi_master.specs.Standing.{IsWhere}
+use Rattle.multi_master.specs.Standing.{IsWhere, numbers_of}
 
 -- a step tells whether its answer wasn't the offer of its connection
 abbrev pub IsShown : Connection → PutStep → Type 0
@@ -95,13 +95,14 @@ all_outputs_put (c ∷ cs) [] = refl
 all_outputs_put (c ∷ cs) (load ∷ loads) = rw (outputs_put c load, all_outputs_put cs loads) refl
 
 -- the connections are told that have another offer
-told-here : (n : ℕ) (b : Bool) (later : List ℕ) → (if b then later else n ∷ later) ≡ (if not b then n ∷ [] else []) ++ later
-told-here n true later = refl
-told-here n false later = refl
+told-here : (n : ℕ) (load : List ℕ) (b : Bool) (more : List (ℕ × List ℕ)) → numbers_of (if b then more else (n, load) ∷ more) ≡ (if not b then n ∷ [] else []) ++ numbers_of more
+told-here n load true more = refl
+told-here n load false more = refl
 
-pub puts_told : (n : ℕ) (cs : List Connection) (steps : List PutStep) → AllZip IsShown cs steps
-    → changed_from n cs (with_offers (map (λ x. x.answer) steps) cs) ≡ changed_steps n steps
+pub puts_told : (n : ℕ) (cs : List Connection) (steps : List PutStep) → AllZip IsShown cs steps → numbers_of (changed_from n cs (map (λ x. x.answer) steps)) ≡ changed_steps n steps
 puts_told n [] [] h = refl
 puts_told n [] (x ∷ xs) h = absurd h
 puts_told n (c ∷ cs) [] h = absurd h
-puts_told n (c ∷ cs) (x ∷ xs) h = rw (offer_put c x.answer, h.0, puts_told (suc n) cs xs h.1) (told-here n (is_offer x.answer c) (changed_steps (suc n) xs))
+puts_told n (c ∷ cs) (x ∷ xs) h =
+    told-here n x.answer (is_offer x.answer c) (changed_from (suc n) cs (map (λ x. x.answer) xs))
+    ∙ ap₂ (λ (told : Bool) (more : List ℕ). (if told then n ∷ [] else []) ++ more) (sym h.0) (puts_told (suc n) cs xs h.1)

@@ -1,5 +1,5 @@
 -- Events that leave offers and outputs as they are.
-use Rattle.std.proofs.Common.{◌≡◌, ℕ, zero, suc, List, [], ◌∷◌, map, slice_get, slice_set, Option, Some, None, is_some, false, ◌||◌, if◌then◌else◌, refl, sym, ap, ap₂, ◌∙◌}
+use Rattle.std.proofs.Common.{◌≡◌, ℕ, List, [], ◌∷◌, Option, Some, None, is_some, false, ◌||◌, if◌then◌else◌, refl, sym, ap, ap₂, ◌∙◌}
 use Rattle.fsoe_base.specs.declared.did.Cause.{Cause}
 use Rattle.fsoe_base.specs.declared.did.Did.{Did}
 use Rattle.fsoe_base.specs.declared.did.Took.{Took}
@@ -16,9 +16,7 @@ use Rattle.end_model.proofs.Runs.{deed}
 use Rattle.end_model.proofs.Shown.{looking_back, fail_safe}
 use Rattle.end_model.proofs.SoundRuns.{reacts}
 use Rattle.master_core.specs.Calls.{tells_due}
-use Rattle.multi_master.specs.Connection.{Connection, setup, next_deed, with_event, outputs_at, offer_at, is_offer}
-use Rattle.multi_master.specs.Calls.{changed_from}
-use Rattle.multi_master.proofs.Places.{same_bytes}
+use Rattle.multi_master.specs.Connection.{Connection, setup, next_deed, with_event, outputs_at}
 
 -- a tick that ends no session
 abbrev IsTick : Move → Type 0
@@ -93,26 +91,3 @@ same_outputs c d bytes s o t r =
     ∙ ap₂ (λ (ms : MasterSettings) (before : List ℕ). brought_by ms (next_deed (move.Deliver bytes) d).did.took (next_deed (move.Deliver bytes) d).did.reset before) s o
     ∙ ap₂ (λ (took : Option Took) (reset : Option Cause). brought_by c.settings took reset (outputs_at c)) t r
     ∙ sym (frame-brings c bytes)
-
--- where no offer is other, none is told
-pub none_told : (n : ℕ) (olds news : List Connection) → map offer_at news ≡ map offer_at olds → changed_from n olds news ≡ []
-none_told n [] [] h = refl
-none_told n [] (c ∷ news) h = refl
-none_told n (c ∷ olds) [] h = refl
-none_told n (c ∷ olds) (d ∷ news) h =
-    let i : offer_at d ≡ offer_at c = cc in
-    let j : map offer_at news ≡ map offer_at olds = cc in
-    rw (i, same_bytes (offer_at c)) (none_told (suc n) olds news j)
-
--- what is told goes by the offers
-pub told_set : (n : ℕ) (olds news : List Connection) (k : ℕ) (x y : Connection) → slice_get news k ≡ Some x → offer_at y ≡ offer_at x
-    → changed_from n olds (slice_set news k y) ≡ changed_from n olds news
-told_set n olds [] k x y h e = absurd (cc h)
-told_set n [] (d ∷ news) zero x y h e = refl
-told_set n [] (d ∷ news) (suc k) x y h e = refl
-told_set n (c ∷ olds) (d ∷ news) zero x y h e =
-    let i : d ≡ x = cc in
-    let j : offer_at y ≡ offer_at d = e ∙ ap offer_at (sym i) in
-    rw j refl
-told_set n (c ∷ olds) (d ∷ news) (suc k) x y h e =
-    ap (λ (later : List ℕ). if is_offer (offer_at d) c then later else n ∷ later) (told_set (suc n) olds news k x y h e)

@@ -9,11 +9,10 @@ use Rattle.end_model.specs.Deed.{Deed}
 use Rattle.end_model.specs.Setup.{Setup}
 use Rattle.master_core.specs.MasterView.{MasterView}
 use Rattle.master_core.specs.Standing as core
-use Rattle.multi_master.specs.Connection.{Connection, setup, with_event, outputs_at, offer_at}
-use Rattle.multi_master.specs.Calls.{AppView, Call, Nonce, Meant, IsSound, event_on, event_at, cycle_in, after, meant, changed_from}
-use Rattle.multi_master.specs.Standing.{MultiView, IsWhere, StandsFor, Follows, ShowsAt}
+use Rattle.multi_master.specs.Connection.{Connection, setup, with_event, outputs_at}
+use Rattle.multi_master.specs.Calls.{AppView, Call, Nonce, Meant, IsSound, event_on, event_at, cycle_in, after, meant, changed_by}
+use Rattle.multi_master.specs.Standing.{MultiView, IsWhere, StandsFor, Follows, ShowsAt, numbers_of}
 use Rattle.multi_master.proofs.Places.{at_place, zip_set, map_set}
-use Rattle.multi_master.proofs.Quiet.{none_told}
 
 -- a word of the master at a place is that word of its connection
 pub shown_at : {X : Type 0} (v : MultiView) (link place : ℕ) (m : MasterView) (shown : X) (word : Setup → List Deed → X) → link ≡ suc place → slice_get v.masters place ≡ Some m
@@ -34,29 +33,24 @@ pub event_is : (m : Meant) (place : ℕ) (c : Connection) (what : Move) → slic
     → event_at (suc place) what m ≡ record m { connections = slice_set m.connections place (with_event what c) }
 event_is m place c what h = ap (λ (cs : List Connection). record m { connections = cs }) (event_set m.connections place c what h)
 
--- it stands where a call led, from what was meant before
-pub record StandsIn (before after_it : Meant) (v : MultiView) : Type 0 where
-  pub masters : AllZip IsWhere after_it.connections v.masters
-  pub app_is : v.app ≡ after_it.app
-  pub inputs_are : v.inputs ≡ map outputs_at after_it.connections
-  pub changed_are : v.changed ≡ changed_from 1 before.connections after_it.connections
+-- it stands where a call led from what was meant before, with the answer of its cycle, if it ran one
+pub record StandsIn (m : Meant) (o : Option Answer) (later : Meant) (v : MultiView) : Type 0 where
+  pub masters : AllZip IsWhere later.connections v.masters
+  pub app_is : v.app ≡ later.app
+  pub inputs_are : v.inputs ≡ map outputs_at later.connections
+  pub changed_are : v.changed ≡ numbers_of (changed_by o m.connections)
+  pub sound : IfSome o (IsSound later)
 
-pub stands_so : (settings : List MasterSettings) (app : AppView) (old v : MultiView) (calls : List Call) (call : Call) (after_it : Meant) → StandsFor settings app old calls → after call (meant settings app calls) ≡ after_it
-    → IfSome (cycle_in call (meant settings app calls)) (IsSound after_it) → StandsIn (meant settings app calls) after_it v → StandsFor settings app v (call ∷ calls)
-stands_so settings app old v calls call after_it h e one s =
-    let t : StandsIn (meant settings app calls) (after call (meant settings app calls)) v = subst (λ (m : Meant). StandsIn (meant settings app calls) m v) (sym e) s in
-    record {
-      masters = t.masters;
-      app_is = t.app_is;
-      inputs_are = t.inputs_are;
-      changed_are = t.changed_are;
-      sound = (subst (λ (m : Meant). IfSome (cycle_in call (meant settings app calls)) (IsSound m)) (sym e) one, h.sound);
-    }
+pub stands_so : (settings : List MasterSettings) (app : AppView) (old v : MultiView) (calls : List Call) (call : Call) (o : Option Answer) (later : Meant) → StandsFor settings app old calls → cycle_in call (meant settings app calls) ≡ o
+    → after call (meant settings app calls) ≡ later → StandsIn (meant settings app calls) o later v → StandsFor settings app v (call ∷ calls)
+stands_so settings app old v calls call o later h c e s =
+    let m : Meant = meant settings app calls in
+    let t : StandsIn m (cycle_in call m) (after call m) v = subst (λ (x : Option Answer). StandsIn m x (after call m) v) (sym c) (subst (λ (x : Meant). StandsIn m o x v) (sym e) s) in
+    record { masters = t.masters; app_is = t.app_is; inputs_are = t.inputs_are; changed_are = t.changed_are; sound = (t.sound, h.sound) }
 
--- an event at one master that changes no offer and no outputs
+-- an event at one master that changes no outputs
 pub record Quiets (m : Meant) (place : ℕ) (what : Move) (c : Connection) : Type 0 where
   pub is : slice_get m.connections place ≡ Some c
-  pub offer : offer_at (with_event what c) ≡ offer_at c
   pub outputs : outputs_at (with_event what c) ≡ outputs_at c
 
 pub quiet_stands : (settings : List MasterSettings) (app : AppView) (old new : MultiView) (calls : List Call) (call : Call) (place : ℕ) (what : Move) (c : Connection) (last : MasterView)
@@ -65,13 +59,13 @@ pub quiet_stands : (settings : List MasterSettings) (app : AppView) (old new : M
     → StandsFor settings app new (call ∷ calls)
 quiet_stands settings app old new calls call place what c last h none a q w nm na ni nc =
     let m : Meant = meant settings app calls in
-    let later : Meant = record m { connections = slice_set m.connections place (with_event what c) } in
-    stands_so settings app old new calls call later h (a ∙ event_is m place c what q.is) (subst (λ (o : Option Answer). IfSome o (IsSound later)) (sym none) tt)
+    stands_so settings app old new calls call None (record m { connections = slice_set m.connections place (with_event what c) }) h none (a ∙ event_is m place c what q.is)
     (record {
       masters = rw nm (zip_set IsWhere m.connections old.masters place (with_event what c) last h.masters w);
       app_is = na ∙ h.app_is;
       inputs_are = ni ∙ h.inputs_are ∙ sym (map_set outputs_at m.connections place c (with_event what c) q.is q.outputs);
-      changed_are = nc ∙ sym (none_told 1 m.connections (slice_set m.connections place (with_event what c)) (map_set offer_at m.connections place c (with_event what c) q.is q.offer));
+      changed_are = nc;
+      sound = tt;
     })
 
 -- a session id is set at one connection
@@ -82,5 +76,5 @@ nonce_follows old new link place id m last n at f nm na ni nc = record {
       let p = at_place IsWhere (meant settings app calls).connections old.masters place m h.masters at in
       let c : Connection = p.there in
       quiet_stands settings app old new calls (Nonce link id) place (move.Nonce id) c last h refl (ap (λ k. event_at k (move.Nonce id) (meant settings app calls)) n)
-      (record { is = p.is; offer = refl; outputs = refl }) (f.is_after c.settings c.deeds p.holds) nm na ni nc;
+      (record { is = p.is; outputs = refl }) (f.is_after c.settings c.deeds p.holds) nm na ni nc;
 }

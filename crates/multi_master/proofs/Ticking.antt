@@ -57,8 +57,8 @@ ticks_sent (c ∷ cs) [] h s = absurd h
 ticks_sent (c ∷ cs) (x ∷ xs) h s =
     rw ((All-head IsTickStep x xs s).answers.sent c.settings c.deeds h.0, ticks_sent cs xs h.1 (All-tail IsTickStep x xs s)) refl
 
--- a tick changes no offer, so what is told is what is told of the connections after it
-pub told_ticked : (n : ℕ) (cs news : List Connection) → changed_from n (map (with_event move.Tick) cs) news ≡ changed_from n cs news
-told_ticked n [] news = refl
+-- a tick changes no offer, so the same answers are others than the offers before and after it
+pub told_ticked : (n : ℕ) (cs : List Connection) (loads : List (List ℕ)) → changed_from n (map (with_event move.Tick) cs) loads ≡ changed_from n cs loads
+told_ticked n [] loads = refl
 told_ticked n (c ∷ cs) [] = refl
-told_ticked n (c ∷ cs) (d ∷ news) = rw (told_ticked (suc n) cs news) refl
+told_ticked n (c ∷ cs) (load ∷ loads) = rw (told_ticked (suc n) cs loads) refl

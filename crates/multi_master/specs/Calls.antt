@@ -94,13 +94,13 @@ abbrev pub meant : List MasterSettings → AppView → List Call → Meant
 meant settings app [] = record { connections = map fresh settings; app = app }
 meant settings app (call ∷ calls) = after call (meant settings app calls)
 
--- the numbers, from n on, of the connections that have another offer than they had before
-abbrev pub changed_from : ℕ → List Connection → List Connection → List ℕ
-changed_from n (old ∷ olds) (new ∷ news) =
-    if is_offer (offer_at new) old then changed_from (suc n) olds news else n ∷ changed_from (suc n) olds news
+-- the answers that aren't the offers of these connections already, each with the number of its connection, from n on
+abbrev pub changed_from : ℕ → List Connection → List (List ℕ) → List (ℕ × List ℕ)
+changed_from n (c ∷ cs) (load ∷ loads) =
+    if is_offer load c then changed_from (suc n) cs loads else (n, load) ∷ changed_from (suc n) cs loads
 changed_from n _ _ = []
 
--- the connections whose offers the newest call changed, in their order
-abbrev pub changed : List MasterSettings → AppView → List Call → List ℕ
-changed settings app [] = []
-changed settings app (call ∷ calls) = changed_from 1 (meant settings app calls).connections (meant settings app (call ∷ calls)).connections
+-- the offers that a cycle changes at these connections, if one is run, in their order
+abbrev pub changed_by : Option Answer → List Connection → List (ℕ × List ℕ)
+changed_by None cs = []
+changed_by (Some a) cs = changed_from 1 cs a.outputs

@@ -11,7 +11,7 @@ use Rattle.master_core.specs.MasterView.{MasterView}
 use Rattle.master_core.specs.Standing.{MasterIsAfter}
 use Rattle.multi_master.specs.Connection.{Connection, next_deed, outputs_at}
 use Rattle.multi_master.specs.Puts.{own_len, due_in}
-use Rattle.multi_master.specs.Calls.{Rule, AppView, Call, Deliver, Meant, IsSound, connection, cycle_in, meant, changed}
+use Rattle.multi_master.specs.Calls.{Rule, AppView, Call, Deliver, Meant, IsSound, connection, cycle_in, meant, changed_by}
 
 -- what a master of many connections is, with an application of any type: the masters in the order of the connections,
 -- the application that runs, the inputs that it reads in a cycle, and the connections whose offers the last call
@@ -83,6 +83,14 @@ AllSound settings app [] = Unit {0}
 AllSound settings app (call ∷ calls) =
     IfSome (cycle_in call (meant settings app calls)) (IsSound (meant settings app (call ∷ calls))) × AllSound settings app calls
 
+-- the offers that the newest call changed, and the numbers of their connections
+abbrev pub changed : List MasterSettings → AppView → List Call → List (ℕ × List ℕ)
+changed settings app [] = []
+changed settings app (call ∷ calls) = changed_by (cycle_in call (meant settings app calls)) (meant settings app calls).connections
+
+abbrev pub numbers_of : List (ℕ × List ℕ) → List ℕ
+numbers_of changed = map (λ x. x.0) changed
+
 -- it was made with these settings and this application, and stands for these calls: each master is where the deeds of
 -- its connection leave it, the application is that which runs, its inputs are the masters' outputs, the changed offers
 -- are told, and each cycle's answer was sound
@@ -90,7 +98,7 @@ pub record StandsFor (settings : List MasterSettings) (app : AppView) (v : Multi
   pub masters : AllZip IsWhere (meant settings app calls).connections v.masters
   pub app_is : v.app ≡ (meant settings app calls).app
   pub inputs_are : v.inputs ≡ map outputs_at (meant settings app calls).connections
-  pub changed_are : v.changed ≡ changed settings app calls
+  pub changed_are : v.changed ≡ numbers_of (changed settings app calls)
   pub sound : AllSound settings app calls
 
 -- what stood for some calls stands for these and this one
@@ -131,4 +139,4 @@ pub record ShowsApp {X : Type 0} (v : MultiView) (shown : X) (word : AppView →
 -- the connections are told whose offers the newest call changed
 pub record ShowsChanged (v : MultiView) (shown : List ℕ) : Type 0 where
   pub shows : (settings : List MasterSettings) (app : AppView) (calls : List Call) → StandsFor settings app v calls
-      → shown ≡ changed settings app calls
+      → shown ≡ numbers_of (changed settings app calls)

@@ -18,14 +18,14 @@ use Rattle.end_model.specs.Step.{step as next_step}
 use Rattle.exchange_model.specs.Ends.{peer}
 use Rattle.exchange_model.specs.Monitor.{HasParts}
 use Rattle.exchange_model.specs.World.{deeds, deed_in, frames_of}
-use Rattle.multi_master.specs.Calls.{AppView, Call, Deliver, Tick, ChangeApp, Meant, connection, meant, changed}
+use Rattle.multi_master.specs.Calls.{AppView, Call, Deliver, Tick, ChangeApp, Meant, connection, meant}
 use Rattle.multi_master.specs.Connection.{Connection, next_deed}
 use Rattle.multi_master.specs.Standing as multi
-use Rattle.multi_master.specs.Standing.{MultiView, StandsFor, AnswersFrame, AnswersTick, newest_at}
+use Rattle.multi_master.specs.Standing.{MultiView, StandsFor, AnswersFrame, AnswersTick, changed, newest_at}
 use Rattle.plant_model.specs.declared.event.PlantEvent.TheVariants as event
 use Rattle.plant_model.specs.declared.journal.JournalStep.{JournalStep}
 use Rattle.plant_model.specs.declared.journal.JournalStep.TheVariants as step
-use Rattle.plant_model.specs.Acts.{Beginning, Event, App, Act, Happen, PullFrom, settings, delivery_call, call_of, calls, masters, offers_by, journal, is_cut, newer, push_to, pushes_of, all_pushes}
+use Rattle.plant_model.specs.Acts.{Beginning, Event, App, Act, Happen, PullFrom, settings, delivery_call, call_of, calls, masters, journal, is_cut, newer, push_to, pushes_of, all_pushes}
 use Rattle.plant_model.specs.Uses.{Use, Trace}
 use Rattle.plant_model.specs.Gifts.{place_of, sent_uses}
 use Rattle.plant_model.specs.Pair.{next_of, pair, link_at, pairs_by}
@@ -35,7 +35,7 @@ use Rattle.plant_core.specs.Standing.{PlantView, LinkIs, LinksAre}
 use Rattle.plant_core.proofs.Acting.{trace_append}
 use Rattle.plant_model.proofs.Growing.{IsOne, pair_more, pair_own, pushes_each, no_entry}
 use Rattle.plant_core.proofs.Linking.{from_one, each_at, each_map}
-use Rattle.plant_model.proofs.Masters.{mastered}
+use Rattle.plant_model.proofs.Masters.{mastered, offers_by}
 use Rattle.plant_core.proofs.Offering.{offers_send}
 use Rattle.plant_core.proofs.OneDeed.{one_links, one_pushes, quiet_pushes}
 
@@ -92,11 +92,6 @@ tick_pushes links cut steps now h =
     (pushes_each side.Slave 1 links cut steps now (λ k link. (slave_next steps k link).sent) (λ k link. h side.Slave k link ∙ tick_sends link k steps side.Slave))
     (pushes_each side.Master 1 links cut steps now (λ k link. (master_next steps k link).sent) (λ k link. h side.Master k link ∙ tick_sends link k steps side.Master))
 
--- the offers of a call as the journal has them
-shown_offers : (b : Beginning) (call : Call) (before : List Call) (m : MultiView) (old new : List LinkView) (js now : List JournalStep) (h : OffersNoted m old new js now) → StandsFor (settings b) b.app m (call ∷ before)
-    → h.offers ≡ offers_by b (Some call) before
-shown_offers b call before m old new js now h s = h.offers_are (settings b) b.app (call ∷ before) s
-
 pub tick_goes : (old new : PlantView) (before after : Told) → TickChange old new before after → GoesOn old (Happen (Event event.Tick) ∷ []) new before after
 tick_goes old new before after c = record {
   goes = λ b done h.
@@ -106,7 +101,7 @@ tick_goes old new before after c = record {
       let steps : List JournalStep = old.journal in
       let stands = c.follows.stands (settings b) b.app (calls b done) h.master in
       let offers : List JournalStep = c.offers.offers in
-      let offers_is : offers ≡ offers_by b (Some Tick) (calls b done) = shown_offers b Tick (calls b done) new.master c.late new.links (steps ++ s ∷ []) new.journal c.offers stands in
+      let offers_is = c.offers.offers_are (settings b) b.app (Tick ∷ calls b done) stands in
       let slaves = c.slaves.tick b.links cut (pairs_by steps) h.links in
       let parts : HaveParts b.links (master_next steps) c.dids c.frames =
       subst (λ (js : List JournalStep). HaveParts b.links (master_next js) c.dids c.frames) (sym h.journal_is) (tick_parts b done old.master c.dids c.frames h.master c.answers) in
@@ -120,7 +115,7 @@ tick_goes old new before after c = record {
       ap₂ (all_pushes b.links cut) (sym h.journal_is) (sym journal_is ∙ c.offers.steps)
       ∙ tick_pushes b.links cut steps ((steps ++ s ∷ []) ++ offers)
       (λ at k link. ap (λ (os : List JournalStep). frames_of at (pair link k ((steps ++ s ∷ []) ++ os))) offers_is
-      ∙ offers_send (meant (settings b) b.app (Tick ∷ calls b done)) (changed (settings b) b.app (Tick ∷ calls b done)) at link k (steps ++ s ∷ [])) in
+      ∙ offers_send (changed (settings b) b.app (Tick ∷ calls b done)) at link k (steps ++ s ∷ [])) in
       record {
         has_done = record {
           master = stands;
@@ -147,7 +142,7 @@ app_goes old new app t c = record {
       let steps : List JournalStep = old.journal in
       let stands = c.follows.stands (settings b) b.app (calls b done) h.master in
       let offers : List JournalStep = c.offers.offers in
-      let offers_is : offers ≡ offers_by b (Some call) (calls b done) = shown_offers b call (calls b done) new.master old.links new.links (steps ++ s ∷ []) new.journal c.offers stands in
+      let offers_is = c.offers.offers_are (settings b) b.app (call ∷ calls b done) stands in
       let same : LinksAre b.links cut (pairs_by (steps ++ s ∷ [])) old.links =
       each_map (LinkIs cut (pairs_by steps)) (LinkIs cut (pairs_by (steps ++ s ∷ []))) 1 b.links old.links h.links
       (λ k link v p. record { stands = subst (λ (w : List Entry). LinkStands link v w) (sym (no_entry link k steps s refl)) p.stands; cut = p.cut }) in
@@ -157,7 +152,7 @@ app_goes old new app t c = record {
       ap₂ (all_pushes b.links cut) (sym h.journal_is) (sym journal_is ∙ c.offers.steps)
       ∙ quiet_pushes b.links cut steps ((steps ++ s ∷ []) ++ offers)
       (λ at k link. ap (λ (os : List JournalStep). frames_of at (pair link k ((steps ++ s ∷ []) ++ os))) offers_is
-      ∙ offers_send (meant (settings b) b.app (call ∷ calls b done)) (changed (settings b) b.app (call ∷ calls b done)) at link k (steps ++ s ∷ [])
+      ∙ offers_send (changed (settings b) b.app (call ∷ calls b done)) at link k (steps ++ s ∷ [])
       ∙ ap (frames_of at) (no_entry link k steps s refl)) in
       record {
         has_done = record {
@@ -256,18 +251,18 @@ frame_goes old new n frame before after c = record {
         let found : link_at b.links n ≡ Some link = subst (λ (k : ℕ). link_at b.links k ≡ Some link) (sym c.number) beside.is in
         let calls_it = master_call b n frame link found in
         let stands = c.follows.stands (settings b) b.app (calls b done) h.master in
-        let offers_is : offers ≡ offers_by b (Some call) (calls b done) = shown_offers b call (calls b done) new.master old.links c.mid steps c.js c.offers stands in
+        let offers_is = c.offers.offers_are (settings b) b.app (call ∷ calls b done) stands in
         let one : IsOne s n side.Master (move.Deliver frame) = record { part = λ k. refl } in
         let js_is : c.js ≡ steps ++ offers = c.offers.steps in
         let new_is : new.journal ≡ (steps ++ offers) ++ s ∷ [] = c.journal ∙ ap (λ (z : List JournalStep). z ++ s ∷ []) js_is in
         let journal_is : new.journal ≡ journal b (act ∷ done) =
         new_is ∙ append_assoc steps offers (s ∷ []) ∙ ap₂ (λ (a z : List JournalStep). a ++ (z ++ s ∷ [])) h.journal_is offers_is
-        ∙ ap (λ (o : Option Call). journal b done ++ (offers_by b o (calls b done) ++ s ∷ [])) (sym calls_it) in
+        ∙ ap (λ (o : Option Call). journal b done ++ (offers_by b o done ++ s ∷ [])) (sym calls_it) in
         let parts = frame_parts b done old.master n c.place frame c.did c.sent link (steps ++ offers) c.number beside.is calls_it h.master c.answers (sym journal_is ∙ new_is) in
         let uses : all_pushes b.links cut (journal b done) (journal b (act ∷ done)) ≡ next_uses n side.Master (move.Deliver frame) link (pair link n (steps ++ offers)) (cut n) =
         ap₂ (all_pushes b.links cut) (sym h.journal_is) (sym journal_is ∙ new_is)
         ∙ later_pushes b.links cut steps (steps ++ offers) ((steps ++ offers) ++ s ∷ [])
-        (λ at k l. ap (λ (os : List JournalStep). frames_of at (pair l k (steps ++ os))) offers_is ∙ offers_send (meant (settings b) b.app (call ∷ calls b done)) (changed (settings b) b.app (call ∷ calls b done)) at l k steps)
+        (λ at k l. ap (λ (os : List JournalStep). frames_of at (pair l k (steps ++ os))) offers_is ∙ offers_send (changed (settings b) b.app (call ∷ calls b done)) at l k steps)
         ∙ one_pushes b.links cut (steps ++ offers) s n side.Master (move.Deliver frame) c.place link one beside.is c.number in
         let sent_is : next_uses n side.Master (move.Deliver frame) link (pair link n (steps ++ offers)) (cut n) ≡ sent_uses (place_of n side.Slave) c.sent c.was.cut =
         ap₂ (sent_uses (place_of n side.Slave)) parts.sent_is (sym beside.holds.cut) in

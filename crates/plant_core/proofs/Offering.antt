@@ -1,17 +1,20 @@
 -- The offers that a cycle changed, in the journal and at their connections.
-use Rattle.std.proofs.Common.{◌≡◌, ◌≤◌, ℕ, zero, suc, ◌==◌, Bool, true, false, List, [], ◌∷◌, ◌++◌, map, take, length, slice_get, slice_set, Option, Some, None, option_map, if◌then◌else◌, refl, sym, ap, ap₂, subst, ◌∙◌, append_assoc}
+use Rattle.std.proofs.Common.{◌≡◌, ◌≤◌, ℕ, zero, suc, ◌+◌, ◌==◌, Bool, true, false, List, [], ◌∷◌, ◌++◌, map, take, length, slice_get, slice_set, Option, Some, None, option_map, if◌then◌else◌, refl, sym, ap, ap₂, subst, ◌∙◌, append_assoc, arith}
 use Rattle.std.specs.Option.{option_map_or}
+use Rattle.std.specs.Prelude.{IfSome}
+use Rattle.std.proofs.lemmas.Option.{slice_get-map}
 use Rattle.std.proofs.lemmas.List.{append-nil, map-append, take_all}
 use Rattle.fsoe_base.specs.Did.{nothing}
 use Rattle.fsoe_base.specs.declared.command.End.{End}
 use Rattle.fsoe_base.specs.declared.command.End.TheVariants as side
+use Rattle.failsafe_io.specs.Application.{Answer}
 use Rattle.param_load.specs.declared.entry.Move.TheVariants as move
 use Rattle.param_load.specs.declared.master_settings.MasterSettings.{MasterSettings}
 use Rattle.plant_conf.specs.declared.conf.LinkConf.{LinkConf}
 use Rattle.exchange_model.specs.World.{frames_of}
-use Rattle.multi_master.specs.Calls.{AppView, Call, Meant, connection, meant}
-use Rattle.multi_master.specs.Connection.{Connection, offer_at}
-use Rattle.multi_master.specs.Standing.{MultiView, StandsFor, ShowsAt, ShowsChanged}
+use Rattle.multi_master.specs.Calls.{AppView, Call, Meant, IsSound, connection, cycle_in, meant, changed_from, changed_by}
+use Rattle.multi_master.specs.Connection.{Connection, offer_at, is_offer}
+use Rattle.multi_master.specs.Standing.{MultiView, StandsFor, AllSound, ShowsAt, ShowsChanged, changed, numbers_of}
 use Rattle.plant_model.specs.declared.journal.JournalStep.{JournalStep}
 use Rattle.plant_model.specs.declared.journal.JournalStep.TheVariants as step
 use Rattle.plant_model.specs.Acts.{offer_step}
@@ -22,11 +25,15 @@ use Rattle.plant_core.specs.Standing.{LinksAre}
 use Rattle.plant_model.proofs.Growing.{IsOne, with_frame}
 use Rattle.plant_core.proofs.OneDeed.{one_links, one_frames}
 
+-- what a connection offers, as a step
+abbrev pub shown_step : Meant → ℕ → JournalStep
+shown_step m k = step.Offer k (option_map_or offer_at (connection k m) [])
+
 -- the offers of these connections are noted
 pub record OffersOf (master : MultiView) (listed : List ℕ) (old new : List LinkView) (before after : List JournalStep) : Type 0 where
   pub offers : List JournalStep
   pub steps : after ≡ before ++ offers
-  pub offers_are : (settings : List MasterSettings) (app : AppView) (calls : List Call) → StandsFor settings app master calls → offers ≡ map (offer_step (meant settings app calls)) listed
+  pub offers_are : (settings : List MasterSettings) (app : AppView) (calls : List Call) → StandsFor settings app master calls → offers ≡ map (shown_step (meant settings app calls)) listed
   pub links : (links : List LinkConf) (cut : ℕ → Bool) (steps : List JournalStep) → LinksAre links cut (pairs_by steps) old → LinksAre links cut (pairs_by (steps ++ offers)) new
 
 pub offers_none : (master : MultiView) (vs : List LinkView) (steps : List JournalStep) → OffersOf master [] vs vs steps steps
@@ -53,7 +60,7 @@ offers_more master listed n place shown old mid v is before js after h at e note
       offers_are = λ settings app calls s.
           let m : Meant = meant settings app calls in
           let load : option_map_or offer_at (connection n m) [] ≡ shown = shown_or (connection n m) shown (shows.shows settings app calls s) in
-          ap₂ (λ (xs : List JournalStep) (l : List ℕ). xs ++ step.Offer n l ∷ []) (h.offers_are settings app calls s) (sym load) ∙ sym (map-append (offer_step m) listed (n ∷ []));
+          ap₂ (λ (xs : List JournalStep) (l : List ℕ). xs ++ step.Offer n l ∷ []) (h.offers_are settings app calls s) (sym load) ∙ sym (map-append (shown_step m) listed (n ∷ []));
       links = λ links cut steps s.
           subst (λ (z : List JournalStep). LinksAre links cut (pairs_by z) (slice_set mid place is)) (append_assoc steps h.offers (x ∷ []))
           (one_links links cut (steps ++ h.offers) x n side.Master (move.Put shown) place mid v is (h.links links cut steps s) at e one
@@ -75,13 +82,39 @@ offers_next master listed i j n place shown old mid v is before js after h found
     subst (λ (z : List ℕ). OffersOf master z old (slice_set mid place is) before after) (sym (ap (λ (m : ℕ). take m listed) k ∙ take_one listed i n found))
     (offers_more master (take i listed) n place shown old mid v is before js after h at e noted c shows a)
 
+-- the offers that a call changed are what their connections offer after it
+shown_at : (m : Meant) (loads : List (List ℕ)) (place k : ℕ) (load : List ℕ) → map offer_at m.connections ≡ loads → k ≡ suc place → slice_get loads place ≡ Some load → shown_step m k ≡ step.Offer k load
+shown_at m loads place k load a e is =
+    let there = sym (slice_get-map offer_at m.connections place) ∙ ap (λ (xs : List (List ℕ)). slice_get xs place) a ∙ is in
+    ap (shown_step m) e ∙ ap₂ (λ (j : ℕ) (l : List ℕ). step.Offer j l) (sym e) (shown_or (slice_get m.connections place) load there)
+
+one_shown : (m : Meant) (n : ℕ) (load : List ℕ) (b : Bool) (rest : List (ℕ × List ℕ)) → shown_step m n ≡ step.Offer n load → map (shown_step m) (numbers_of rest) ≡ map offer_step rest
+    → map (shown_step m) (numbers_of (if b then rest else (n, load) ∷ rest)) ≡ map offer_step (if b then rest else (n, load) ∷ rest)
+one_shown m n load true rest one h = h
+one_shown m n load false rest one h = ap₂ (λ (s : JournalStep) (steps : List JournalStep). s ∷ steps) one h
+
+all_shown : (m : Meant) (n : ℕ) (cs : List Connection) (loads : List (List ℕ)) → ((place k : ℕ) (load : List ℕ) → k ≡ n + place → slice_get loads place ≡ Some load → shown_step m k ≡ step.Offer k load)
+    → map (shown_step m) (numbers_of (changed_from n cs loads)) ≡ map offer_step (changed_from n cs loads)
+all_shown m n [] loads f = refl
+all_shown m n (c ∷ cs) [] f = refl
+all_shown m n (c ∷ cs) (load ∷ loads) f =
+    one_shown m n load (is_offer load c) (changed_from (suc n) cs loads) (f 0 n load (omega arith) refl) (all_shown m (suc n) cs loads (λ place k l e is. f (suc place) k l (omega arith) is))
+
+cycle_shown : (m : Meant) (o : Option Answer) (cs : List Connection) → IfSome o (IsSound m) → map (shown_step m) (numbers_of (changed_by o cs)) ≡ map offer_step (changed_by o cs)
+cycle_shown m None cs h = refl
+cycle_shown m (Some a) cs h = all_shown m 1 cs a.outputs (λ place k load e is. shown_at m a.outputs place k load h.answered (omega arith) is)
+
+changed_shown : (settings : List MasterSettings) (app : AppView) (calls : List Call) → AllSound settings app calls → map (shown_step (meant settings app calls)) (numbers_of (changed settings app calls)) ≡ map offer_step (changed settings app calls)
+changed_shown settings app [] h = refl
+changed_shown settings app (call ∷ calls) h = cycle_shown (meant settings app (call ∷ calls)) (cycle_in call (meant settings app calls)) (meant settings app calls).connections h.0
+
 pub offers_all : (master : MultiView) (listed : List ℕ) (i : ℕ) (old new : List LinkView) (before after : List JournalStep) → length listed ≤ i → ShowsChanged master listed → OffersOf master (take i listed) old new before after
     → OffersNoted master old new before after
 offers_all master listed i old new before after past shows h = record {
   offers = h.offers;
   steps = h.steps;
   offers_are = λ settings app calls s.
-      h.offers_are settings app calls s ∙ ap (map (offer_step (meant settings app calls))) (take_all i listed past ∙ shows.shows settings app calls s);
+      h.offers_are settings app calls s ∙ ap (map (shown_step (meant settings app calls))) (take_all i listed past ∙ shows.shows settings app calls s) ∙ changed_shown settings app calls s.sound;
   links = h.links;
 }
 
@@ -97,9 +130,9 @@ offer_sends side.Master link k steps n load =
 offer_sends side.Slave link k steps n load =
     one_frames side.Slave link k steps (step.Offer n load) n side.Master (move.Put load) (record { part = λ j. refl }) ∙ nothing_sent (n == k) false (frames_of side.Slave (pair link k steps))
 
-pub offers_send : (m : Meant) (listed : List ℕ) (at : End) (link : LinkConf) (k : ℕ) (steps : List JournalStep) → frames_of at (pair link k (steps ++ map (offer_step m) listed)) ≡ frames_of at (pair link k steps)
-offers_send m [] at link k steps = ap (λ (z : List JournalStep). frames_of at (pair link k z)) (append-nil steps)
-offers_send m (n ∷ listed) at link k steps =
-    ap (λ (z : List JournalStep). frames_of at (pair link k z)) (sym (append_assoc steps (offer_step m n ∷ []) (map (offer_step m) listed)))
-    ∙ offers_send m listed at link k (steps ++ offer_step m n ∷ [])
-    ∙ offer_sends at link k steps n (option_map_or offer_at (connection n m) [])
+pub offers_send : (listed : List (ℕ × List ℕ)) (at : End) (link : LinkConf) (k : ℕ) (steps : List JournalStep) → frames_of at (pair link k (steps ++ map offer_step listed)) ≡ frames_of at (pair link k steps)
+offers_send [] at link k steps = ap (λ (z : List JournalStep). frames_of at (pair link k z)) (append-nil steps)
+offers_send (x ∷ listed) at link k steps =
+    ap (λ (z : List JournalStep). frames_of at (pair link k z)) (sym (append_assoc steps (offer_step x ∷ []) (map offer_step listed)))
+    ∙ offers_send listed at link k (steps ++ offer_step x ∷ [])
+    ∙ offer_sends at link k steps x.0 x.1

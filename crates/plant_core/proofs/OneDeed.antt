@@ -1,5 +1,5 @@
 -- Acts in which one end of one connection does something, and no cycle is run.
-use Rattle.std.proofs.Common.{◌≡◌, ◌≢◌, ◌≤◌, length, ℕ, zero, suc, ◌-◌, ◌==◌, Bool, true, false, List, [], ◌∷◌, ◌++◌, map, slice_get, slice_set, Option, Some, None, option_map, if◌then◌else◌, refl, sym, ap, ap₂, subst, ◌∙◌, arith}
+use Rattle.std.proofs.Common.{◌≡◌, ◌≢◌, ◌≤◌, length, ℕ, suc, ◌==◌, Bool, true, false, List, [], ◌∷◌, ◌++◌, slice_get, slice_set, Option, Some, None, if◌then◌else◌, refl, sym, ap, ap₂, subst, ◌∙◌, arith}
 use Rattle.std.specs.Prelude.{IfSome, IsTrue, option_to_list}
 use Rattle.std.proofs.lemmas.Bool.{eq-eqb, le-leb}
 use Rattle.std.proofs.lemmas.List.{append-nil}
@@ -19,17 +19,14 @@ use Rattle.black_channel.specs.declared.channel.Parcel.{Parcel}
 use Rattle.plant_conf.specs.declared.conf.LinkConf.{LinkConf}
 use Rattle.exchange_model.specs.Ends.{peer, same_end}
 use Rattle.exchange_model.specs.World.{frames_of}
-use Rattle.multi_master.specs.Calls.{Call, Nonce, Meant, event_at, meant}
-use Rattle.multi_master.specs.Connection.{offer_at}
+use Rattle.multi_master.specs.Calls.{Call, Nonce}
 use Rattle.multi_master.specs.Standing as multi
 use Rattle.multi_master.specs.Standing.{MultiView, StandsFor}
-use Rattle.multi_master.proofs.Neighbours.{event_keeps}
-use Rattle.multi_master.proofs.Quiet.{none_told}
 use Rattle.plant_model.specs.declared.event.PlantEvent.{PlantEvent}
 use Rattle.plant_model.specs.declared.event.PlantEvent.TheVariants as event
 use Rattle.plant_model.specs.declared.journal.JournalStep.{JournalStep}
 use Rattle.plant_model.specs.declared.journal.JournalStep.TheVariants as step
-use Rattle.plant_model.specs.Acts.{Beginning, Event, Act, Happen, PullFrom, settings, event_call, delivery_call, call_of, calls, offer_step, offers_by, steps_of, journal, cut_after, is_cut, pushes_of, all_pushes}
+use Rattle.plant_model.specs.Acts.{Beginning, Event, Act, Happen, PullFrom, settings, event_call, delivery_call, call_of, calls, steps_of, journal, cut_after, is_cut, pushes_of, all_pushes}
 use Rattle.plant_model.specs.Uses.{Use, Trace}
 use Rattle.plant_model.specs.Gifts.{place_of, sent_uses}
 use Rattle.plant_model.specs.FairPairs.{Fits}
@@ -40,7 +37,7 @@ use Rattle.plant_core.specs.Standing.{PlantView, LinkIs, LinksAre, HasDone, leng
 use Rattle.plant_model.proofs.Growing.{no_entry, IsOne, pair_one, pair_own, pair_other, with_frame, sent_in, frames_next, pushes_each, each_none, each_one}
 use Rattle.plant_core.proofs.Acting.{Placed, kept_fits}
 use Rattle.plant_core.proofs.Linking.{from_one, each_at, each_map, each_set}
-use Rattle.plant_model.proofs.Masters.{not_same}
+use Rattle.plant_model.proofs.Masters.{not_same, offers_by}
 
 -- one entry more at a connection
 pub one_links : (links : List LinkConf) (cut : ℕ → Bool) (steps : List JournalStep) (s : JournalStep) (n : ℕ) (end : End) (what : Move) (place : ℕ) (vs : List LinkView) (old new : LinkView)
@@ -115,7 +112,7 @@ pub quiet_calls : (b : Beginning) (act : Act) (done : List Act) (m : MultiView) 
 quiet_calls b act done m none h = subst (λ (o : Option Call). StandsFor (settings b) b.app m (option_to_list o ++ calls b done)) (sym none) h
 
 pub quiet_journal : (b : Beginning) (act : Act) (done : List Act) → call_of b act ≡ None → journal b (act ∷ done) ≡ journal b done ++ steps_of act []
-quiet_journal b act done none = ap (λ (o : Option Call). journal b done ++ steps_of act (offers_by b o (calls b done))) none
+quiet_journal b act done none = ap (λ (o : Option Call). journal b done ++ steps_of act (offers_by b o done)) none
 
 -- an act in which this happens to the slave of connection n
 pub record IsAtSlave (b : Beginning) (act : Act) (s : JournalStep) (n : ℕ) (what : Move) : Type 0 where
@@ -226,12 +223,6 @@ slave_delivered old new n frame before after c = record {
   };
 }
 
--- a session id changes no offer
-no_offers : (b : Beginning) (n id : ℕ) (before : List Call) → offers_by b (Some (Nonce n id)) before ≡ []
-no_offers b n id before =
-    let m : Meant = meant (settings b) b.app before in
-    ap (λ (ks : List ℕ). map (offer_step (meant (settings b) b.app (Nonce n id ∷ before))) ks) (none_told 1 m.connections (event_at n (move.Nonce id) m).connections (event_keeps offer_at n (move.Nonce id) m.connections (λ c. refl)))
-
 -- what the session id of a master changes
 pub record MasterChange (old new : PlantView) (n id : ℕ) : Type 0 where
   pub place : ℕ
@@ -255,7 +246,7 @@ master_nonce old new n id t c = record {
       let one : IsOne s n side.Master (move.Nonce id) = record { part = λ k. refl } in
       let beside = each_at (LinkIs cut (pairs_by steps)) 1 b.links old.links c.place n c.was h.links c.at (from_one n c.place c.number) in
       let journal_is : new.journal ≡ journal b (act ∷ done) =
-      c.journal ∙ ap₂ (λ (js more : List JournalStep). js ++ s ∷ more) h.journal_is (sym (no_offers b n id (calls b done))) in
+      c.journal ∙ ap (λ (js : List JournalStep). js ++ s ∷ []) h.journal_is in
       let uses : all_pushes b.links cut (journal b done) (journal b (act ∷ done)) ≡ [] =
       ap₂ (all_pushes b.links cut) (sym h.journal_is) (sym journal_is ∙ c.journal) ∙ one_pushes b.links cut steps s n side.Master (move.Nonce id) c.place beside.link one beside.is c.number in
       record {

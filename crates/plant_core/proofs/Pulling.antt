@@ -17,14 +17,14 @@ use Rattle.black_channel.specs.declared.channel.Parcel.{Parcel}
 use Rattle.plant_conf.specs.declared.conf.LinkConf.{LinkConf}
 use Rattle.exchange_model.specs.Ends.{peer}
 use Rattle.exchange_model.specs.World.{frames_of}
-use Rattle.multi_master.specs.Calls.{AppView, Call, ChangeApp, meant, changed}
+use Rattle.multi_master.specs.Calls.{AppView, Call, ChangeApp}
 use Rattle.multi_master.specs.Standing as multi
-use Rattle.multi_master.specs.Standing.{MultiValue, MultiView, StandsFor}
+use Rattle.multi_master.specs.Standing.{MultiValue, MultiView, StandsFor, changed}
 use Rattle.plant_model.specs.declared.event.PlantEvent.{PlantEvent}
 use Rattle.plant_model.specs.declared.event.PlantEvent.TheVariants as event
 use Rattle.plant_model.specs.declared.journal.JournalStep.{JournalStep}
 use Rattle.plant_model.specs.declared.journal.JournalStep.TheVariants as step
-use Rattle.plant_model.specs.Acts.{Beginning, Event, App, Act, Happen, PullFrom, settings, delivery_call, call_of, calls, offers_by, journal, is_cut, pushes_of, all_pushes, uses_of, uses_after, uses}
+use Rattle.plant_model.specs.Acts.{Beginning, Event, App, Act, Start, Happen, PullFrom, settings, delivery_call, call_of, calls, offers, journal, is_cut, pushes_of, all_pushes, uses_of, uses_after, uses}
 use Rattle.plant_model.specs.Uses.{Use, Trace}
 use Rattle.plant_model.specs.Gifts.{place_of, sent_uses, each_uses}
 use Rattle.plant_model.specs.Pair.{next_of, pairs_by, pair, link_at}
@@ -227,8 +227,8 @@ pub starts : (b : Beginning) (new : PlantView) (before after : Told) → StartCh
 starts b new before after c =
     let calls : List Call = ChangeApp b.app ∷ [] in
     let stands = c.follows.stands (settings b) b.app [] c.stands in
-    let none : all_pushes b.links (λ k. false) [] (offers_by b (Some (ChangeApp b.app)) []) ≡ [] =
-    quiet_pushes b.links (λ k. false) [] (offers_by b (Some (ChangeApp b.app)) []) (λ at k link. offers_send (meant (settings b) b.app calls) (changed (settings b) b.app calls) at link k []) in
+    let none : all_pushes b.links (λ k. false) [] (offers b Start []) ≡ [] =
+    quiet_pushes b.links (λ k. false) [] (offers b Start []) (λ at k link. offers_send (changed (settings b) b.app calls) at link k []) in
     record {
       stands = record {
         turns_are = All-nil (IsTurn b.links);

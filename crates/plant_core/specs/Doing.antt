@@ -11,8 +11,8 @@ use Rattle.param_load.specs.declared.entry.Move.{Move}
 use Rattle.param_load.specs.declared.entry.Move.TheVariants as move
 use Rattle.plant_conf.specs.declared.conf.LinkConf.{LinkConf}
 use Rattle.exchange_model.specs.Ends.{peer}
-use Rattle.multi_master.specs.Calls.{AppView, Rule, Call, meant, changed}
-use Rattle.multi_master.specs.Standing.{MultiValue, MultiView, StandsFor}
+use Rattle.multi_master.specs.Calls.{AppView, Rule, Call}
+use Rattle.multi_master.specs.Standing.{MultiValue, MultiView, StandsFor, changed}
 use Rattle.multi_master.specs.Standing as multi
 use Rattle.param_load.specs.declared.master_settings.MasterSettings.{MasterSettings}
 use Rattle.plant_model.specs.declared.event.PlantEvent.{PlantEvent}
@@ -86,7 +86,7 @@ pub record MasterActs (k : ℕ) (tick : Bool) (came : List ℕ) (did : Did) (sen
 pub record OffersNoted (master : MultiView) (old new : List LinkView) (before after : List JournalStep) : Type 0 where
   pub offers : List JournalStep
   pub steps : after ≡ before ++ offers
-  pub offers_are : (settings : List MasterSettings) (app : AppView) (calls : List Call) → StandsFor settings app master calls → offers ≡ map (offer_step (meant settings app calls)) (changed settings app calls)
+  pub offers_are : (settings : List MasterSettings) (app : AppView) (calls : List Call) → StandsFor settings app master calls → offers ≡ map offer_step (changed settings app calls)
   pub links : (links : List LinkConf) (cut : ℕ → Bool) (steps : List JournalStep) → LinksAre links cut (pairs_by steps) old → LinksAre links cut (pairs_by (steps ++ offers)) new
 
 -- what contracts see of these parts of a plant

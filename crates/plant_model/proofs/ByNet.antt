@@ -1,5 +1,5 @@
 -- A net that runs answers by looking back over its cycles.
-use Rattle.std.proofs.Common.{◌≡◌, ℕ, zero, suc, ◌-◌, Bool, true, false, List, [], ◌∷◌, ◌++◌, map, slice_get, slice_set, Option, Some, None, option_map, IfSome, if◌then◌else◌, refl, sym, ap, ap₂, ◌∙◌, arith}
+use Rattle.std.proofs.Common.{◌≡◌, ℕ, zero, suc, Bool, true, false, List, [], ◌∷◌, ◌++◌, map, Option, Some, None, IfSome, if◌then◌else◌, refl, sym, ap, ap₂, ◌∙◌}
 use Rattle.std.specs.Prelude.{option_and_then, option_to_list}
 use Rattle.failsafe_io.specs.Application.{Answer}
 use Rattle.fb_net.specs.Calls as net
@@ -12,7 +12,7 @@ use Rattle.fb_net.proofs.Ruled.{rule_answers}
 use Rattle.param_load.specs.declared.entry.Move.TheVariants as move
 use Rattle.param_load.specs.declared.master_settings.MasterSettings.{MasterSettings}
 use Rattle.multi_master.specs.Calls.{AppView, Rule, Call, Deliver, Tick, Nonce, ChangeApp, Meant, connection, event_on, event_at, all_tick, answer, is_heard, cycle_in, with_cycle, after, meant}
-use Rattle.multi_master.specs.Connection.{Connection, with_event, outputs_at, offer_len, is_offer, with_offer, with_offers}
+use Rattle.multi_master.specs.Connection.{Connection, with_event, outputs_at, offer_len, is_offer, with_offers}
 use Rattle.multi_master.proofs.Neighbours.{event_keeps, settings_alone}
 use Rattle.multi_master.proofs.Putting.{all_outputs_put, outputs_put}
 use Rattle.plant_model.specs.Acts.{Beginning, Act, settings, call_of, calls, masters}

@@ -1,7 +1,6 @@
 -- Which acts run a cycle, and that its answer is sound.
 use Rattle.std.proofs.Common.{◌≡◌, ℕ, zero, suc, ◌==◌, Bool, true, false, List, [], ◌∷◌, ◌++◌, map, slice_get, Option, Some, None, if◌then◌else◌, refl, sym, ap, ap₂, ◌∙◌, append_assoc}
 use Rattle.std.specs.Prelude.{is_some, option_and_then, option_to_list, IfSome}
-use Rattle.std.specs.Option.{option_map_or}
 use Rattle.std.proofs.lemmas.List.{append-nil}
 use Rattle.fsoe_base.specs.Did.{nothing}
 use Rattle.fsoe_base.specs.declared.command.End.{End}
@@ -17,19 +16,18 @@ use Rattle.end_model.specs.Setup.{OfMaster}
 use Rattle.end_model.specs.Step.{did_on}
 use Rattle.exchange_model.specs.World.{deeds}
 use Rattle.master_core.specs.Calls.{tells_due}
-use Rattle.multi_master.specs.Calls.{Call, Deliver, Meant, IsSound, connection, is_heard, cycle_in, meant, changed}
+use Rattle.multi_master.specs.Calls.{Call, Deliver, IsSound, connection, is_heard, cycle_in, meant, changed_by}
 use Rattle.multi_master.specs.Standing as multi
-use Rattle.multi_master.specs.Connection.{offer_at}
 use Rattle.plant_model.specs.declared.event.PlantEvent.TheVariants as event
 use Rattle.plant_model.specs.declared.journal.JournalStep.{JournalStep}
 use Rattle.plant_model.specs.declared.journal.JournalStep.TheVariants as step
-use Rattle.plant_model.specs.Acts.{Beginning, Event, App, Act, Start, Happen, PullFrom, settings, delivery_call, call_of, calls, masters, offer_step, offers_by, journal}
+use Rattle.plant_model.specs.Acts.{Beginning, Event, App, Act, Start, Happen, PullFrom, settings, delivery_call, call_of, calls, masters, offer_step, journal}
 use Rattle.plant_model.specs.Gifts.{place_of}
 use Rattle.plant_model.specs.Pair.{next_of, pair, link_at}
 use Rattle.plant_model.specs.JournalLaws.{tells_hearing, master_hears, Cycles}
 use Rattle.plant_model.specs.Promises.{AllSound}
 use Rattle.plant_model.proofs.Growing.{pair_own, pair_one}
-use Rattle.plant_model.proofs.Masters.{mastered}
+use Rattle.plant_model.proofs.Masters.{mastered, offers_by}
 
 -- a put changes nothing of what is done with a frame
 put_first : (ms : MasterSettings) (e : List Deed) (load bytes : List ℕ) → did_on (OfMaster ms) (record { what = move.Put load; did = nothing; sent = [] } ∷ e) (move.Deliver bytes) ≡ did_on (OfMaster ms) e (move.Deliver bytes)
@@ -41,15 +39,14 @@ put_if link load bytes w true = put_first link.master (deeds side.Master w) load
 put_if link load bytes w false = refl
 
 -- offers change nothing of it
-after_offers : (m : Meant) (listed : List ℕ) (link : LinkConf) (k : ℕ) (bytes : List ℕ) (steps : List JournalStep)
-    → (next_of side.Master (move.Deliver bytes) link (pair link k (steps ++ map (offer_step m) listed))).did ≡ (next_of side.Master (move.Deliver bytes) link (pair link k steps)).did
-after_offers m [] link k bytes steps = ap (λ (z : List JournalStep). (next_of side.Master (move.Deliver bytes) link (pair link k z)).did) (append-nil steps)
-after_offers m (n ∷ listed) link k bytes steps =
-    let load : List ℕ = option_map_or offer_at (connection n m) [] in
-    ap (λ (z : List JournalStep). (next_of side.Master (move.Deliver bytes) link (pair link k z)).did) (sym (append_assoc steps (offer_step m n ∷ []) (map (offer_step m) listed)))
-    ∙ after_offers m listed link k bytes (steps ++ offer_step m n ∷ [])
-    ∙ ap (λ (w : List Entry). (next_of side.Master (move.Deliver bytes) link w).did) (pair_one link k steps (offer_step m n) n side.Master (move.Put load) (record { part = λ j. refl }))
-    ∙ put_if link load bytes (pair link k steps) (n == k)
+after_offers : (listed : List (ℕ × List ℕ)) (link : LinkConf) (k : ℕ) (bytes : List ℕ) (steps : List JournalStep)
+    → (next_of side.Master (move.Deliver bytes) link (pair link k (steps ++ map offer_step listed))).did ≡ (next_of side.Master (move.Deliver bytes) link (pair link k steps)).did
+after_offers [] link k bytes steps = ap (λ (z : List JournalStep). (next_of side.Master (move.Deliver bytes) link (pair link k z)).did) (append-nil steps)
+after_offers (x ∷ listed) link k bytes steps =
+    ap (λ (z : List JournalStep). (next_of side.Master (move.Deliver bytes) link (pair link k z)).did) (sym (append_assoc steps (offer_step x ∷ []) (map offer_step listed)))
+    ∙ after_offers listed link k bytes (steps ++ offer_step x ∷ [])
+    ∙ ap (λ (w : List Entry). (next_of side.Master (move.Deliver bytes) link w).did) (pair_one link k steps (offer_step x) x.0 side.Master (move.Put x.1) (record { part = λ j. refl }))
+    ∙ put_if link x.1 bytes (pair link k steps) (x.0 == k)
 
 some_if : (b : Bool) (a : Answer) → is_some (if b then Some a else None) ≡ b
 some_if true a = refl
@@ -58,25 +55,25 @@ some_if false a = refl
 -- a frame for the master of a connection that exists
 heard : (b : Beginning) (done : List Act) (place : ℕ) (frame : List ℕ) (link : LinkConf) → slice_get b.links place ≡ Some link
     → is_some (cycle_in (Deliver (suc place) frame) (masters b done))
-    ≡ tells_hearing (pair link (suc place) (journal b done ++ (offers_by b (Some (Deliver (suc place) frame)) (calls b done) ++ step.Pulled (record { to = place_of (suc place) side.Master; frame = frame }) ∷ [])))
+    ≡ tells_hearing (pair link (suc place) (journal b done ++ (offers_by b (Some (Deliver (suc place) frame)) done ++ step.Pulled (record { to = place_of (suc place) side.Master; frame = frame }) ∷ [])))
 heard b done place frame link is =
     let n : ℕ = suc place in
     let call : Call = Deliver n frame in
     let parcel : Parcel = record { to = place_of n side.Master; frame = frame } in
     let steps : List JournalStep = journal b done in
-    let offers : List JournalStep = offers_by b (Some call) (calls b done) in
+    let offers : List JournalStep = offers_by b (Some call) done in
     let own = mastered b done place link is in
     let own_did : did_on (OfMaster own.there.settings) own.there.deeds (move.Deliver frame) ≡ did_on (OfMaster link.master) (deeds side.Master (pair link n steps)) (move.Deliver frame) =
     ap₂ (λ (s : MasterSettings) (e : List Deed). did_on (OfMaster s) e (move.Deliver frame)) own.settings_are (sym own.deeds_are) in
     some_if (is_heard frame (connection n (masters b done))) _
     ∙ ap (is_heard frame) own.is
     ∙ ap tells_due own_did
-    ∙ ap tells_due (sym (after_offers (meant (settings b) b.app (call ∷ calls b done)) (changed (settings b) b.app (call ∷ calls b done)) link n frame steps))
+    ∙ ap tells_due (sym (after_offers (changed_by (cycle_in call (masters b done)) (masters b done).connections) link n frame steps))
     ∙ sym (ap tells_hearing (ap (pair link n) (sym (append_assoc steps offers (step.Pulled parcel ∷ []))) ∙ pair_own link (steps ++ offers) (step.Pulled parcel) n side.Master (move.Deliver frame) (record { part = λ j. refl })))
 
 parcel_cycles : (b : Beginning) (done : List Act) (n : ℕ) (end : End) (frame : List ℕ) (o : Option LinkConf) → link_at b.links n ≡ o
     → is_some (option_and_then (λ call. cycle_in call (masters b done)) (delivery_call o end n frame))
-    ≡ master_hears o end n (journal b done ++ (offers_by b (delivery_call o end n frame) (calls b done) ++ step.Pulled (record { to = place_of n end; frame = frame }) ∷ []))
+    ≡ master_hears o end n (journal b done ++ (offers_by b (delivery_call o end n frame) done ++ step.Pulled (record { to = place_of n end; frame = frame }) ∷ []))
 parcel_cycles b done n end frame None e = refl
 parcel_cycles b done n side.Slave frame (Some link) e = refl
 parcel_cycles b done zero side.Master frame (Some link) e = absurd (cc e)

@@ -9,12 +9,12 @@ use Rattle.black_channel.specs.declared.channel.Parcel.{Parcel}
 use Rattle.plant_conf.specs.declared.conf.LinkConf.{LinkConf}
 use Rattle.exchange_model.specs.Ends.{peer}
 use Rattle.exchange_model.specs.World.{frames_of}
-use Rattle.multi_master.specs.Calls.{Call, Meant, meant, changed}
+use Rattle.multi_master.specs.Calls.{changed_by}
 use Rattle.plant_model.specs.declared.event.PlantEvent.{PlantEvent}
 use Rattle.plant_model.specs.declared.event.PlantEvent.TheVariants as event
 use Rattle.plant_model.specs.declared.journal.JournalStep.{JournalStep}
 use Rattle.plant_model.specs.declared.journal.JournalStep.TheVariants as step
-use Rattle.plant_model.specs.Acts.{Beginning, Said, Event, App, Act, Start, Happen, PullFrom, settings, call_of, calls, offer_step, offers_by, offers, steps_of, journal, is_cut, newer, push_to, pushes_of, all_pushes, uses_of, uses_after, uses}
+use Rattle.plant_model.specs.Acts.{Beginning, Said, Event, App, Act, Start, Happen, PullFrom, offer_step, offers, steps_of, journal, is_cut, newer, push_to, pushes_of, all_pushes, uses_of, uses_after, uses, masters, cycle_of}
 use Rattle.plant_model.specs.Pair.{pair}
 use Rattle.plant_model.specs.JournalLaws.{ticks_all, pulled_in, one_if_left, short_ticks}
 use Rattle.plant_model.specs.Turns.{Turn, turn_acts, acts}
@@ -74,13 +74,12 @@ pulled_append (step.App ∷ xs) ys = pulled_append xs ys
 pulled_append (step.Offer link load ∷ xs) ys = pulled_append xs ys
 pulled_append (step.Pulled parcel ∷ xs) ys = ap (λ (ps : List Parcel). parcel ∷ ps) (pulled_append xs ys)
 
-offers_pulled : (m : Meant) (listed : List ℕ) → pulled_in (map (offer_step m) listed) ≡ []
-offers_pulled m [] = refl
-offers_pulled m (n ∷ listed) = offers_pulled m listed
+offers_pulled : (listed : List (ℕ × List ℕ)) → pulled_in (map offer_step listed) ≡ []
+offers_pulled [] = refl
+offers_pulled (x ∷ listed) = offers_pulled listed
 
-no_parcels : (b : Beginning) (o : Option Call) (before : List Call) → pulled_in (offers_by b o before) ≡ []
-no_parcels b None before = refl
-no_parcels b (Some call) before = offers_pulled (meant (settings b) b.app (call ∷ before)) (changed (settings b) b.app (call ∷ before))
+no_parcels : (b : Beginning) (act : Act) (done : List Act) → pulled_in (offers b act done) ≡ []
+no_parcels b act done = offers_pulled (changed_by (cycle_of b act done) (masters b done).connections)
 
 act_gives : (seed : ℕ) (act : Act) (pushes : List Use) (more : List JournalStep) → NoPulls pushes → pulled_in more ≡ [] → gifts (uses_of seed act pushes) ≡ pulled_in (steps_of act more)
 act_gives seed Start pushes more h i = h.none ∙ sym i
@@ -97,7 +96,7 @@ given b (act ∷ done) =
     let pushes : List Use = all_pushes b.links (λ k. is_cut k (act ∷ before)) (journal b before) (journal b (act ∷ before)) in
     gifts_append (uses_after b done []) (uses_of b.seed act pushes)
     ∙ ap₂ (λ (xs ys : List Parcel). xs ++ ys) (given b done)
-    (act_gives b.seed act pushes (offers b act done) (all_none b.links (λ k. is_cut k (act ∷ before)) (journal b before) (journal b (act ∷ before))) (no_parcels b (call_of b act) (calls b done)))
+    (act_gives b.seed act pushes (offers b act done) (all_none b.links (λ k. is_cut k (act ∷ before)) (journal b before) (journal b (act ∷ before))) (no_parcels b act done))
     ∙ sym (pulled_append (journal b done) (steps_of act (offers b act done)))
 
 -- the acts that pulled and were given nothing
@@ -180,13 +179,12 @@ rest_short room (step.Pulled parcel ∷ steps) h =
 none_left : (steps : List JournalStep) → NoLines steps → short_ticks 0 steps ≡ 0
 none_left steps h = let none : 0 - length (pulled_in steps) ≡ 0 = omega arith in rest_short 0 steps h ∙ ap (λ (n : ℕ). one_if_left n 0) none
 
-offers_lines : (m : Meant) (listed : List ℕ) → NoLines (map (offer_step m) listed)
-offers_lines m [] = tt
-offers_lines m (n ∷ listed) = offers_lines m listed
+offers_lines : (listed : List (ℕ × List ℕ)) → NoLines (map offer_step listed)
+offers_lines [] = tt
+offers_lines (x ∷ listed) = offers_lines listed
 
-no_lines : (b : Beginning) (o : Option Call) (before : List Call) → NoLines (offers_by b o before)
-no_lines b None before = tt
-no_lines b (Some call) before = offers_lines (meant (settings b) b.app (call ∷ before)) (changed (settings b) b.app (call ∷ before))
+no_lines : (b : Beginning) (act : Act) (done : List Act) → NoLines (offers b act done)
+no_lines b act done = offers_lines (changed_by (cycle_of b act done) (masters b done).connections)
 
 -- the journal of an event and of the parcels that were pulled then
 record Ends (b : Beginning) (e : PlantEvent) (parcels : List Parcel) (done : List Act) : Type 0 where
@@ -199,21 +197,21 @@ ends_so : (b : Beginning) (e : PlantEvent) (parcels : List Parcel) (done : List 
 ends_so b e [] done = record {
   rest = offers b (Happen (Event e)) done;
   is = refl;
-  lines = no_lines b (call_of b (Happen (Event e))) (calls b done);
-  count = ap length (no_parcels b (call_of b (Happen (Event e))) (calls b done));
+  lines = no_lines b (Happen (Event e)) done;
+  count = ap length (no_parcels b (Happen (Event e)) done);
 }
 ends_so b e (parcel ∷ parcels) done =
     let before : List Act = map (λ parcel. PullFrom (Some parcel)) parcels ++ Happen (Event e) ∷ done in
     let s = ends_so b e parcels done in
     let more : List JournalStep = offers b (PullFrom (Some parcel)) before ++ step.Pulled parcel ∷ [] in
     let own : pulled_in more ≡ parcel ∷ [] =
-    pulled_append (offers b (PullFrom (Some parcel)) before) (step.Pulled parcel ∷ []) ∙ ap (λ (ps : List Parcel). ps ++ parcel ∷ []) (no_parcels b (call_of b (PullFrom (Some parcel))) (calls b before)) in
+    pulled_append (offers b (PullFrom (Some parcel)) before) (step.Pulled parcel ∷ []) ∙ ap (λ (ps : List Parcel). ps ++ parcel ∷ []) (no_parcels b (PullFrom (Some parcel)) before) in
     let all : pulled_in (s.rest ++ more) ≡ pulled_in s.rest ++ parcel ∷ [] = pulled_append s.rest more ∙ ap (λ (ps : List Parcel). pulled_in s.rest ++ ps) own in
     let counted : length (pulled_in s.rest ++ parcel ∷ []) ≡ length parcels + 1 = length_push (pulled_in s.rest) parcel ∙ ap (λ (n : ℕ). n + 1) s.count in
     record {
       rest = s.rest ++ more;
       is = ap (λ (js : List JournalStep). js ++ more) s.is ∙ append_assoc (journal b done) (step.Script e ∷ s.rest) more;
-      lines = lines_append s.rest more s.lines (lines_append (offers b (PullFrom (Some parcel)) before) (step.Pulled parcel ∷ []) (no_lines b (call_of b (PullFrom (Some parcel))) (calls b before)) tt);
+      lines = lines_append s.rest more s.lines (lines_append (offers b (PullFrom (Some parcel)) before) (step.Pulled parcel ∷ []) (no_lines b (PullFrom (Some parcel)) before) tt);
       count = ap length all ∙ counted ∙ omega arith;
     }
 
@@ -222,7 +220,7 @@ event_short : (b : Beginning) (e : PlantEvent) (done : List Act) → ticks_all e
 event_short b e done h =
     script_adds 0 (journal b done) e (offers b (Happen (Event e)) done)
     ∙ ap (λ (t : Bool). short_ticks 0 (journal b done) + short_ticks (if t then 64 else 0) (offers b (Happen (Event e)) done)) h
-    ∙ ap (λ (n : ℕ). short_ticks 0 (journal b done) + n) (none_left (offers b (Happen (Event e)) done) (no_lines b (call_of b (Happen (Event e))) (calls b done)))
+    ∙ ap (λ (n : ℕ). short_ticks 0 (journal b done) + n) (none_left (offers b (Happen (Event e)) done) (no_lines b (Happen (Event e)) done))
 
 nones_gave : (parcels : List Parcel) (done : List Act) → nones (map (λ parcel. PullFrom (Some parcel)) parcels ++ done) ≡ nones done
 nones_gave [] done = refl
@@ -275,10 +273,10 @@ turn_short b (Event (event.Cut link cut)) parcels done h = quiet_short b (event.
 turn_short b (App a) parcels done h =
     let changed_steps : List JournalStep = offers b (Happen (App a)) done in
     ap (λ (n : ℕ). n + 0) h
-    ∙ sym (app_adds 0 (journal b done) changed_steps ∙ ap (λ (n : ℕ). short_ticks 0 (journal b done) + n) (none_left changed_steps (no_lines b (call_of b (Happen (App a))) (calls b done))))
+    ∙ sym (app_adds 0 (journal b done) changed_steps ∙ ap (λ (n : ℕ). short_ticks 0 (journal b done) + n) (none_left changed_steps (no_lines b (Happen (App a)) done)))
 
 all_short : (b : Beginning) (turns : List Turn) → nones (acts turns) ≡ short_ticks 0 (journal b (acts turns))
-all_short b [] = sym (none_left (offers b Start []) (no_lines b (call_of b Start) []))
+all_short b [] = sym (none_left (offers b Start []) (no_lines b Start []))
 all_short b (turn ∷ turns) = turn_short b turn.said turn.pulled (acts turns) (all_short b turns)
 
 pub empties : (b : Beginning) (turns : List Turn) → empty_pulls (uses b (acts turns)) ≡ short_ticks 0 (journal b (acts turns))

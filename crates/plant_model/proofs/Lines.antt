@@ -3,12 +3,12 @@ use Rattle.std.proofs.Common.{◌≡◌, ◌≤◌, ℕ, suc, ◌-◌, nat_lt, B
 use Rattle.std.proofs.lemmas.List.{append-nil, map-append}
 use Rattle.std.proofs.lemmas.List.Elements.{All-head, All-tail}
 use Rattle.black_channel.specs.declared.channel.Parcel.{Parcel}
-use Rattle.multi_master.specs.Calls.{AppView, Call, Meant, meant, changed}
+use Rattle.multi_master.specs.Calls.{AppView, changed_by}
 use Rattle.plant_model.specs.declared.event.PlantEvent.{PlantEvent}
 use Rattle.plant_model.specs.declared.event.PlantEvent.TheVariants as event
 use Rattle.plant_model.specs.declared.journal.JournalStep.{JournalStep}
 use Rattle.plant_model.specs.declared.journal.JournalStep.TheVariants as step
-use Rattle.plant_model.specs.Acts.{Beginning, Said, Event, App, Act, Start, Happen, PullFrom, settings, call_of, calls, offer_step, offers_by, offers, journal}
+use Rattle.plant_model.specs.Acts.{Beginning, Said, Event, App, Act, Start, Happen, PullFrom, masters, cycle_of, offer_step, offers, journal}
 use Rattle.plant_model.specs.Promises.{line_step}
 use Rattle.plant_model.specs.JournalLaws.{ticks_all, PullsFit, line_steps}
 use Rattle.plant_model.specs.Turns.{IsTurn, Turn, MayPull, pulls_at, acts, said_by_turns}
@@ -35,34 +35,33 @@ then_leaves room mid left (step.Offer link load ∷ xs) ys h i = let rest = then
 then_leaves room mid left (step.Pulled parcel ∷ xs) ys h i =
     let rest = then_leaves (room - 1) mid left xs ys (record { fit = h.fit.1; left_is = h.left_is }) i in record { fit = (h.fit.0, rest.fit); left_is = rest.left_is }
 
-map_leaves : (m : Meant) (links : List ℕ) (room : ℕ) → Leaves room (map (offer_step m) links) room
-map_leaves m [] room = record { fit = tt; left_is = refl }
-map_leaves m (link ∷ links) room = let rest = map_leaves m links room in record { fit = rest.fit; left_is = rest.left_is }
+map_leaves : (listed : List (ℕ × List ℕ)) (room : ℕ) → Leaves room (map offer_step listed) room
+map_leaves [] room = record { fit = tt; left_is = refl }
+map_leaves (x ∷ listed) room = let rest = map_leaves listed room in record { fit = rest.fit; left_is = rest.left_is }
 
-offers_leave : (b : Beginning) (o : Option Call) (before : List Call) (room : ℕ) → Leaves room (offers_by b o before) room
-offers_leave b None before room = record { fit = tt; left_is = refl }
-offers_leave b (Some call) before room = map_leaves _ _ room
+offers_leave : (b : Beginning) (act : Act) (done : List Act) (room : ℕ) → Leaves room (offers b act done) room
+offers_leave b act done room = map_leaves (changed_by (cycle_of b act done) (masters b done).connections) room
 
 -- the journal of these acts leaves so many
 abbrev Leave : Beginning → List Act → ℕ → Type 0
 Leave b done left = Leaves 0 (journal b done) left
 
 start : (b : Beginning) → Leave b (Start ∷ []) 0
-start b = offers_leave b (call_of b Start) [] 0
+start b = offers_leave b Start [] 0
 
 event_leaves : (b : Beginning) (e : PlantEvent) (done : List Act) (room : ℕ) → Leave b done room → Leave b (Happen (Event e) ∷ done) (if ticks_all e then 64 else 0)
 event_leaves b e done room h =
-    let changed = offers_leave b (call_of b (Happen (Event e))) (calls b done) (if ticks_all e then 64 else 0) in
+    let changed = offers_leave b (Happen (Event e)) done (if ticks_all e then 64 else 0) in
     then_leaves 0 room (if ticks_all e then 64 else 0) (journal b done) (step.Script e ∷ offers b (Happen (Event e)) done) h (record { fit = changed.fit; left_is = changed.left_is })
 
 app_leaves : (b : Beginning) (a : AppView) (done : List Act) (room : ℕ) → Leave b done room → Leave b (Happen (App a) ∷ done) 0
 app_leaves b a done room h =
-    let changed = offers_leave b (call_of b (Happen (App a))) (calls b done) 0 in
+    let changed = offers_leave b (Happen (App a)) done 0 in
     then_leaves 0 room 0 (journal b done) (step.App ∷ offers b (Happen (App a)) done) h (record { fit = changed.fit; left_is = changed.left_is })
 
 parcel_leaves : (b : Beginning) (parcel : Parcel) (done : List Act) (room : ℕ) → Leave b done (suc room) → Leave b (PullFrom (Some parcel) ∷ done) room
 parcel_leaves b parcel done room h =
-    let changed = offers_leave b (call_of b (PullFrom (Some parcel))) (calls b done) (suc room) in
+    let changed = offers_leave b (PullFrom (Some parcel)) done (suc room) in
     let one : Leaves (suc room) (step.Pulled parcel ∷ []) room = record { fit = (omega arith, tt); left_is = omega arith } in
     then_leaves 0 (suc room) room (journal b done) (offers b (PullFrom (Some parcel)) done ++ step.Pulled parcel ∷ []) h
     (then_leaves (suc room) (suc room) room (offers b (PullFrom (Some parcel)) done) (step.Pulled parcel ∷ []) changed one)
@@ -117,21 +116,20 @@ lines_append (step.App ∷ xs) ys = ap (λ (z : List JournalStep). step.App ∷ 
 lines_append (step.Offer link load ∷ xs) ys = lines_append xs ys
 lines_append (step.Pulled parcel ∷ xs) ys = lines_append xs ys
 
-no_lines : (m : Meant) (links : List ℕ) → line_steps (map (offer_step m) links) ≡ []
-no_lines m [] = refl
-no_lines m (link ∷ links) = no_lines m links
+no_lines : (listed : List (ℕ × List ℕ)) → line_steps (map offer_step listed) ≡ []
+no_lines [] = refl
+no_lines (x ∷ listed) = no_lines listed
 
-pub no_lines_by : (b : Beginning) (o : Option Call) (before : List Call) → line_steps (offers_by b o before) ≡ []
-no_lines_by b None before = refl
-no_lines_by b (Some call) before = no_lines (meant (settings b) b.app (call ∷ before)) (changed (settings b) b.app (call ∷ before))
+pub no_lines_by : (b : Beginning) (act : Act) (done : List Act) → line_steps (offers b act done) ≡ []
+no_lines_by b act done = no_lines (changed_by (cycle_of b act done) (masters b done).connections)
 
 line_after : (b : Beginning) (said : Said) (done : List Act) → line_steps (journal b (Happen said ∷ done)) ≡ line_steps (journal b done) ++ line_step said ∷ []
 line_after b (Event e) done =
     lines_append (journal b done) (step.Script e ∷ offers b (Happen (Event e)) done)
-    ∙ ap (λ (z : List JournalStep). line_steps (journal b done) ++ step.Script e ∷ z) (no_lines_by b (call_of b (Happen (Event e))) (calls b done))
+    ∙ ap (λ (z : List JournalStep). line_steps (journal b done) ++ step.Script e ∷ z) (no_lines_by b (Happen (Event e)) done)
 line_after b (App a) done =
     lines_append (journal b done) (step.App ∷ offers b (Happen (App a)) done)
-    ∙ ap (λ (z : List JournalStep). line_steps (journal b done) ++ step.App ∷ z) (no_lines_by b (call_of b (Happen (App a))) (calls b done))
+    ∙ ap (λ (z : List JournalStep). line_steps (journal b done) ++ step.App ∷ z) (no_lines_by b (Happen (App a)) done)
 
 none_after : (b : Beginning) (gift : Option Parcel) (done : List Act) → line_steps (journal b (PullFrom gift ∷ done)) ≡ line_steps (journal b done)
 none_after b None done = lines_append (journal b done) [] ∙ append-nil (line_steps (journal b done))
@@ -139,7 +137,7 @@ none_after b (Some parcel) done =
     let changed : List JournalStep = offers b (PullFrom (Some parcel)) done in
     lines_append (journal b done) (changed ++ step.Pulled parcel ∷ [])
     ∙ ap (λ (z : List JournalStep). line_steps (journal b done) ++ z)
-    (lines_append changed (step.Pulled parcel ∷ []) ∙ append-nil (line_steps changed) ∙ no_lines_by b (call_of b (PullFrom (Some parcel))) (calls b done))
+    (lines_append changed (step.Pulled parcel ∷ []) ∙ append-nil (line_steps changed) ∙ no_lines_by b (PullFrom (Some parcel)) done)
     ∙ append-nil (line_steps (journal b done))
 
 gifts_after : (b : Beginning) (parcels : List Parcel) (done : List Act) → line_steps (journal b (map (λ parcel. PullFrom (Some parcel)) parcels ++ done)) ≡ line_steps (journal b done)
@@ -161,7 +159,7 @@ turn_after b (Event (event.Cut link cut)) parcels done = refl
 turn_after b (App a) parcels done = refl
 
 pub lines_are_said : (b : Beginning) (turns : List Turn) → line_steps (journal b (acts turns)) ≡ map line_step (said_by_turns turns)
-lines_are_said b [] = no_lines_by b (call_of b Start) []
+lines_are_said b [] = no_lines_by b Start []
 lines_are_said b (turn ∷ turns) =
     ap (λ (done : List Act). line_steps (journal b done)) (one_more (pulls_at turn.said turn.pulled) turn.said (acts turns))
     ∙ turn_after b turn.said turn.pulled (Happen turn.said ∷ acts turns)

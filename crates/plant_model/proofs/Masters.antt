@@ -1,9 +1,8 @@
 -- The master of each pair of a journal does what this connection of the master of many does: both are the runs of the
 -- same events.
-use Rattle.std.proofs.Common.{◌≡◌, ◌≢◌, ◌⊎◌, inl, inr, ℕ, zero, suc, ◌+◌, ◌-◌, ◌<◌, ◌==◌, List, [], ◌∷◌, ◌++◌, map, slice_get, slice_set, Option, Some, None, option_map, IfSome, Bool, true, false, if◌then◌else◌, refl, sym, ap, ap₂, subst, ◌∙◌, append_assoc, arith}
-use Rattle.std.specs.Prelude.{IsSome, IsSomeAnd, option_to_list}
+use Rattle.std.proofs.Common.{◌≡◌, ◌≢◌, ◌⊎◌, inl, inr, ℕ, zero, suc, ◌+◌, ◌<◌, ◌==◌, List, [], ◌∷◌, ◌++◌, map, slice_get, Option, Some, None, IfSome, Bool, true, false, if◌then◌else◌, refl, sym, ap, ap₂, subst, ◌∙◌, append_assoc, arith}
+use Rattle.std.specs.Prelude.{IsSome, IsSomeAnd, option_and_then, option_to_list}
 use Rattle.std.specs.List.{flat_map}
-use Rattle.std.specs.Option.{option_map_or}
 use Rattle.std.proofs.lemmas.Bool.Decides.{eqb_tells}
 use Rattle.std.proofs.lemmas.Bool.{eq-eqb, eqb-true}
 use Rattle.std.proofs.lemmas.Grind.{flat_map-append}
@@ -23,16 +22,16 @@ use Rattle.end_model.specs.Runs.{events_of}
 use Rattle.end_model.specs.Setup.{OfMaster, OfSlave}
 use Rattle.end_model.specs.Step.{run, continued}
 use Rattle.exchange_model.specs.World.{deeds, next_entry, world_after}
-use Rattle.multi_master.specs.Connection.{Connection, fresh, setup, with_event, offer_at, is_offer, with_offer, with_offers}
-use Rattle.multi_master.specs.Calls.{Call, Deliver, Tick, Nonce, ChangeApp, Meant, connection, all_tick, cycle_in, with_cycle, after, meant, changed_from}
-use Rattle.multi_master.proofs.Neighbours.{Stood, cycle_stood, event_stood, one_of, runs_alone, settings_alone, ticks_stood}
-use Rattle.multi_master.proofs.Places.{same_bytes}
+use Rattle.multi_master.specs.Connection.{Connection, fresh, setup, with_event, is_offer, with_offer, with_offers}
+use Rattle.multi_master.specs.Calls.{Call, Deliver, Tick, Nonce, ChangeApp, Meant, connection, all_tick, answer, cycle_in, with_cycle, after, meant, changed_from, changed_by}
+use Rattle.multi_master.proofs.Neighbours.{Stood, event_stood, one_of, runs_alone, settings_alone, ticks_stood}
+use Rattle.multi_master.proofs.Ticking.{told_ticked}
 use Rattle.plant_model.specs.declared.event.PlantEvent.{PlantEvent}
 use Rattle.plant_model.specs.declared.event.PlantEvent.TheVariants as event
 use Rattle.plant_model.specs.declared.journal.JournalStep.{JournalStep}
 use Rattle.plant_model.specs.declared.journal.JournalStep.TheVariants as journal_step
 use Rattle.plant_model.specs.Pair.{script_part, own_part, own_events, pair, link_at}
-use Rattle.plant_model.specs.Acts.{Beginning, Event as SaysEvent, App, Act, Start, Happen, PullFrom, delivery_call, call_of, calls, settings, masters, offer_step, offers_by, steps_of, journal}
+use Rattle.plant_model.specs.Acts.{Beginning, Event as SaysEvent, App, Act, Start, Happen, PullFrom, delivery_call, call_of, calls, settings, masters, offer_step, steps_of, journal}
 use Rattle.plant_model.specs.JournalLaws.{MastersAgree}
 
 -- what an event means for the master, where it names no frame
@@ -114,10 +113,6 @@ master_moves k steps = flat_map at_master (own_events k steps)
 moves_append : (k : ℕ) (xs ys : List JournalStep) → master_moves k (xs ++ ys) ≡ master_moves k xs ++ master_moves k ys
 moves_append k xs ys = ap (flat_map at_master) (flat_map-append (own_part k) xs ys) ∙ flat_map-append at_master (own_events k xs) (own_events k ys)
 
--- the put of a load where it isn't the offer
-abbrev put_part : Connection → List ℕ → List Move
-put_part c load = if is_offer load c then [] else move.Put load ∷ []
-
 not_same_by : (n k : ℕ) → n ≢ k → (((n == k) ≡ true) × (n ≡ k)) ⊎ (((n == k) ≡ false) × (n ≢ k)) → (n == k) ≡ false
 not_same_by n k h (inl i) = absurd (h i.1)
 not_same_by n k h (inr i) = i.0
@@ -125,76 +120,66 @@ not_same_by n k h (inr i) = i.0
 pub not_same : (n k : ℕ) → n ≢ k → (n == k) ≡ false
 not_same n k h = not_same_by n k h (eqb_tells n k)
 
--- the offer of a connection with this number
-abbrev load_of : Meant → ℕ → List ℕ
-load_of m k = option_map_or offer_at (connection k m) []
-
 -- an offer of another connection means nothing here
-skipped : (m : Meant) (k n : ℕ) (b : Bool) (rest : List ℕ) (x : List Move) → (n == k) ≡ false → master_moves k (map (offer_step m) rest) ≡ x
-    → master_moves k (map (offer_step m) (if b then rest else n ∷ rest)) ≡ x
-skipped m k n true rest x e h = h
-skipped m k n false rest x e h =
-    subst (λ (is : Bool). flat_map at_master ((if is then at.Put side.Master (load_of m n) ∷ [] else []) ++ own_events k (map (offer_step m) rest)) ≡ x) (sym e) h
+skipped : (k n : ℕ) (load : List ℕ) (b : Bool) (rest : List (ℕ × List ℕ)) (x : List Move) → (n == k) ≡ false → master_moves k (map offer_step rest) ≡ x
+    → master_moves k (map offer_step (if b then rest else (n, load) ∷ rest)) ≡ x
+skipped k n load true rest x e h = h
+skipped k n load false rest x e h =
+    subst (λ (is : Bool). flat_map at_master ((if is then at.Put side.Master load ∷ [] else []) ++ own_events k (map offer_step rest)) ≡ x) (sym e) h
 
 -- one of this connection is put
-met : (m : Meant) (k n : ℕ) (b : Bool) (rest : List ℕ) → (n == k) ≡ true → master_moves k (map (offer_step m) rest) ≡ []
-    → master_moves k (map (offer_step m) (if b then rest else n ∷ rest)) ≡ (if b then [] else move.Put (load_of m n) ∷ [])
-met m k n true rest e h = h
-met m k n false rest e h =
-    subst (λ (is : Bool). flat_map at_master ((if is then at.Put side.Master (load_of m n) ∷ [] else []) ++ own_events k (map (offer_step m) rest)) ≡ move.Put (load_of m n) ∷ []) (sym e)
-    (ap (λ (xs : List Move). move.Put (load_of m n) ∷ xs) h)
+met : (k n : ℕ) (load : List ℕ) (b : Bool) (rest : List (ℕ × List ℕ)) → (n == k) ≡ true → master_moves k (map offer_step rest) ≡ []
+    → master_moves k (map offer_step (if b then rest else (n, load) ∷ rest)) ≡ (if b then [] else move.Put load ∷ [])
+met k n load true rest e h = h
+met k n load false rest e h =
+    subst (λ (is : Bool). flat_map at_master ((if is then at.Put side.Master load ∷ [] else []) ++ own_events k (map offer_step rest)) ≡ move.Put load ∷ []) (sym e)
+    (ap (λ (xs : List Move). move.Put load ∷ xs) h)
 
-none_before : (m : Meant) (k n : ℕ) (olds news : List Connection) → k < n → master_moves k (map (offer_step m) (changed_from n olds news)) ≡ []
-none_before m k n [] news h = refl
-none_before m k n (o ∷ olds) [] h = refl
-none_before m k n (o ∷ olds) (w ∷ news) h =
-    skipped m k n (is_offer (offer_at w) o) (changed_from (suc n) olds news) [] (not_same n k (λ e. absurd (omega arith)))
-    (none_before m k (suc n) olds news (omega arith))
+none_before : (k n : ℕ) (cs : List Connection) (loads : List (List ℕ)) → k < n → master_moves k (map offer_step (changed_from n cs loads)) ≡ []
+none_before k n [] loads h = refl
+none_before k n (c ∷ cs) [] h = refl
+none_before k n (c ∷ cs) (load ∷ loads) h =
+    skipped k n load (is_offer load c) (changed_from (suc n) cs loads) [] (not_same n k (λ e. absurd (omega arith))) (none_before k (suc n) cs loads (omega arith))
 
--- the offers that a call changed mean, for connection k, the put of its offer where that is another one
-one_put : (m : Meant) (k n place : ℕ) (olds news : List Connection) (c d : Connection) → k ≡ n + place → slice_get olds place ≡ Some c → slice_get news place ≡ Some d
-    → master_moves k (map (offer_step m) (changed_from n olds news)) ≡ (if is_offer (offer_at d) c then [] else move.Put (load_of m k) ∷ [])
-one_put m k n place [] news c d e h i = cc
-one_put m k n place (o ∷ olds) [] c d e h i = cc
-one_put m k n zero (o ∷ olds) (w ∷ news) c d e h i =
-    let same_old : o ≡ c = cc in
-    let same_new : w ≡ d = cc in
-    let same : n ≡ k = omega arith in
-    subst (λ (j : ℕ). master_moves k (map (offer_step m) (changed_from n (o ∷ olds) (w ∷ news))) ≡ (if is_offer (offer_at d) c then [] else move.Put (load_of m j) ∷ [])) same
-    (subst (λ (z : Connection). master_moves k (map (offer_step m) (changed_from n (o ∷ olds) (w ∷ news))) ≡ (if is_offer (offer_at d) z then [] else move.Put (load_of m n) ∷ [])) same_old
-    (subst (λ (z : Connection). master_moves k (map (offer_step m) (changed_from n (o ∷ olds) (w ∷ news))) ≡ (if is_offer (offer_at z) o then [] else move.Put (load_of m n) ∷ [])) same_new
-    (met m k n (is_offer (offer_at w) o) (changed_from (suc n) olds news) (eq-eqb n k same) (none_before m k (suc n) olds news (omega arith)))))
-one_put m k n (suc place) (o ∷ olds) (w ∷ news) c d e h i =
-    skipped m k n (is_offer (offer_at w) o) (changed_from (suc n) olds news) _ (not_same n k (λ z. absurd (omega arith)))
-    (one_put m k (suc n) place olds news c d (omega arith) h i)
-
--- the events of a connection and its offer, after some moves
+-- the events of a connection, after some moves
 record Went (moves : List Move) (c d : Connection) : Type 0 where
   settings : d.settings ≡ c.settings
   events : events_of d.deeds ≡ events_of c.deeds ++ moves
 
-stays : (c d : Connection) → d ≡ c → Went (put_part c (offer_at d)) c d
-stays c d e = subst (λ (z : Connection). Went (put_part c (offer_at z)) c z) (sym e) (record {
-  settings = refl;
-  events = subst (λ (b : Bool). events_of c.deeds ≡ events_of c.deeds ++ (if b then [] else move.Put (offer_at c) ∷ [])) (sym (same_bytes (offer_at c))) (sym (append-nil (events_of c.deeds)));
-})
+stays : (c : Connection) → Went [] c c
+stays c = record { settings = refl; events = sym (append-nil (events_of c.deeds)) }
 
-offered : (load : List ℕ) (c d : Connection) (b : Bool) → is_offer load c ≡ b → d ≡ (if b then c else with_event (move.Put load) c) → Went (put_part c (offer_at d)) c d
-offered load c d true is e = stays c d e
-offered load c d false is e = subst (λ (z : Connection). Went (put_part c (offer_at z)) c z) (sym e) (record {
-  settings = refl;
-  events = subst (λ (b : Bool). events_of c.deeds ++ move.Put load ∷ [] ≡ events_of c.deeds ++ (if b then [] else move.Put load ∷ [])) (sym is) refl;
-})
+offered : (load : List ℕ) (c : Connection) (b : Bool) → Went (if b then [] else move.Put load ∷ []) c (if b then c else with_event (move.Put load) c)
+offered load c true = stays c
+offered load c false = record { settings = refl; events = refl }
 
-put_went : (o : Option Answer) (m : Meant) (place : ℕ) (d : Connection) → slice_get (with_cycle o m).connections place ≡ Some d → Stood m.connections place (λ c. Went (put_part c (offer_at d)) c d)
-put_went o m place d h = cycle_stood (λ c d. Went (put_part c (offer_at d)) c d) o m place d (λ c. stays c c refl) (λ load c. offered load c (with_offer load c) (is_offer load c) refl refl) h
+-- the offers that a cycle changed are put at connection k as the journal says
+put_went : (k n place : ℕ) (cs : List Connection) (loads : List (List ℕ)) (d : Connection) → k ≡ n + place → slice_get (with_offers loads cs) place ≡ Some d
+    → Stood cs place (λ c. Went (master_moves k (map offer_step (changed_from n cs loads))) c d)
+put_went k n place [] [] d e h = absurd (cc h)
+put_went k n place [] (load ∷ loads) d e h = absurd (cc h)
+put_went k n place (c ∷ cs) [] d e h = record { was = d; is = h; holds = stays d }
+put_went k n zero (c ∷ cs) (load ∷ loads) d e h =
+    let i : with_offer load c ≡ d = cc in
+    let same : n ≡ k = omega arith in
+    let moves = met k n load (is_offer load c) (changed_from (suc n) cs loads) (eq-eqb n k same) (none_before k (suc n) cs loads (omega arith)) in
+    record { was = c; is = refl; holds = subst (λ (xs : List Move). Went xs c d) (sym moves) (subst (λ (z : Connection). Went (if is_offer load c then [] else move.Put load ∷ []) c z) i (offered load c (is_offer load c))) }
+put_went k n (suc place) (c ∷ cs) (load ∷ loads) d e h =
+    let s = put_went k (suc n) place cs loads d (omega arith) h in
+    let moves = skipped k n load (is_offer load c) (changed_from (suc n) cs loads) _ (not_same n k (λ z. absurd (omega arith))) refl in
+    record { was = s.was; is = s.is; holds = subst (λ (xs : List Move). Went xs s.was d) (sym moves) s.holds }
 
--- what a call means for this connection, which has this offer after it
-abbrev call_moves : ℕ → Call → Connection → List ℕ → List Move
-call_moves k (Deliver link bytes) c load = put_part c load ++ (if link == k then move.Deliver bytes ∷ [] else [])
-call_moves k Tick c load = move.Tick ∷ put_part c load
-call_moves k (Nonce link id) c load = (if link == k then move.Nonce id ∷ [] else []) ++ put_part c load
-call_moves k (ChangeApp app) c load = put_part c load
+cycle_went : (o : Option Answer) (m : Meant) (place : ℕ) (d : Connection) → slice_get (with_cycle o m).connections place ≡ Some d
+    → Stood m.connections place (λ c. Went (master_moves (suc place) (map offer_step (changed_by o m.connections))) c d)
+cycle_went None m place d h = record { was = d; is = h; holds = stays d }
+cycle_went (Some a) m place d h = put_went (suc place) 1 place m.connections a.outputs d (omega arith) h
+
+-- what a call means for connection k, where these puts are those of its cycle
+abbrev call_moves : ℕ → Call → List Move → List Move
+call_moves k (Deliver link bytes) puts = puts ++ (if link == k then move.Deliver bytes ∷ [] else [])
+call_moves k Tick puts = move.Tick ∷ puts
+call_moves k (Nonce link id) puts = (if link == k then move.Nonce id ∷ [] else []) ++ puts
+call_moves k (ChangeApp app) puts = puts
 
 went_then : (a b : List Move) (c d e : Connection) → Went a c d → Went b d e → Went (a ++ b) c e
 went_then a b c d e g h = record {
@@ -204,86 +189,65 @@ went_then a b c d e g h = record {
 
 event_went : (b : Bool) (what : Move) (c d : Connection) → d ≡ one_of b what c → Went (if b then what ∷ [] else []) c d
 event_went true what c d e = subst (λ (z : Connection). Went (what ∷ []) c z) (sym e) (record { settings = refl; events = refl })
-event_went false what c d e = subst (λ (z : Connection). Went [] c z) (sym e) (record { settings = refl; events = sym (append-nil (events_of c.deeds)) })
-
-same_offer : (b : Bool) (what : Move) (c d : Connection) → ((z : Connection) → offer_at (with_event what z) ≡ offer_at z) → d ≡ one_of b what c → offer_at d ≡ offer_at c
-same_offer true what c d h e = ap offer_at e ∙ h c
-same_offer false what c d h e = ap offer_at e
-
-no_put : (c : Connection) (load : List ℕ) → load ≡ offer_at c → put_part c load ≡ []
-no_put c load e = ap (put_part c) e ∙ ap (λ (b : Bool). if b then [] else move.Put (offer_at c) ∷ []) (same_bytes (offer_at c))
+event_went false what c d e = subst (λ (z : Connection). Went [] c z) (sym e) (stays c)
 
 grown : (call : Call) (m : Meant) (place : ℕ) (d : Connection) → slice_get (after call m).connections place ≡ Some d
-    → Stood m.connections place (λ c. Went (call_moves (suc place) call c (offer_at d)) c d)
+    → Stood m.connections place (λ c. Went (call_moves (suc place) call (master_moves (suc place) (map offer_step (changed_by (cycle_in call m) m.connections)))) c d)
 grown (Deliver link bytes) m place d h =
-    let later : Meant = with_cycle (cycle_in (Deliver link bytes) m) m in
-    let s = event_stood later.connections link place (move.Deliver bytes) d h in
-    let t = put_went (cycle_in (Deliver link bytes) m) m place s.was s.is in
-    let same : offer_at d ≡ offer_at s.was = same_offer (link == suc place) (move.Deliver bytes) s.was d (λ z. refl) s.holds in
+    let o : Option Answer = cycle_in (Deliver link bytes) m in
+    let s = event_stood (with_cycle o m).connections link place (move.Deliver bytes) d h in
+    let t = cycle_went o m place s.was s.is in
     record {
       was = t.was;
       is = t.is;
-      holds = subst (λ (load : List ℕ). Went (put_part t.was load ++ (if link == suc place then move.Deliver bytes ∷ [] else [])) t.was d) (sym same)
-          (went_then (put_part t.was (offer_at s.was)) (if link == suc place then move.Deliver bytes ∷ [] else []) t.was s.was d t.holds (event_went (link == suc place) (move.Deliver bytes) s.was d s.holds));
+      holds = went_then (master_moves (suc place) (map offer_step (changed_by o m.connections))) (if link == suc place then move.Deliver bytes ∷ [] else []) t.was s.was d t.holds (event_went (link == suc place) (move.Deliver bytes) s.was d s.holds);
     }
 grown Tick m place d h =
-    let s = put_went (cycle_in Tick m) (all_tick m) place d h in
+    let a : Answer = answer true (all_tick m) in
+    let s = cycle_went (Some a) (all_tick m) place d h in
     let t = ticks_stood m.connections place s.was s.is in
-    let g : Went (put_part t.was (offer_at d)) (with_event move.Tick t.was) d = subst (λ (z : Connection). Went (put_part z (offer_at d)) z d) t.holds s.holds in
-    record {
-      was = t.was;
-      is = t.is;
-      holds = went_then (move.Tick ∷ []) (put_part t.was (offer_at d)) t.was (with_event move.Tick t.was) d (record { settings = refl; events = refl }) g;
-    }
+    let puts = subst (λ (xs : List (ℕ × List ℕ)). Went (master_moves (suc place) (map offer_step xs)) s.was d) (told_ticked 1 m.connections a.outputs) s.holds in
+    record { was = t.was; is = t.is; holds = went_then (move.Tick ∷ []) (master_moves (suc place) (map offer_step (changed_from 1 m.connections a.outputs))) t.was s.was d (event_went true move.Tick t.was s.was t.holds) puts }
 grown (Nonce link id) m place d h =
     let s = event_stood m.connections link place (move.Nonce id) d h in
-    let same : offer_at d ≡ offer_at s.was = same_offer (link == suc place) (move.Nonce id) s.was d (λ z. refl) s.holds in
-    let none : put_part s.was (offer_at d) ≡ [] = no_put s.was (offer_at d) same in
-    record {
-      was = s.was;
-      is = s.is;
-      holds = went_then (if link == suc place then move.Nonce id ∷ [] else []) (put_part s.was (offer_at d)) s.was d d
-          (event_went (link == suc place) (move.Nonce id) s.was d s.holds)
-          (subst (λ (xs : List Move). Went xs d d) (sym none) (record { settings = refl; events = sym (append-nil (events_of d.deeds)) }));
-    }
-grown (ChangeApp app) m place d h = put_went (cycle_in (ChangeApp app) m) (record m { app = app }) place d h
+    let own : List Move = if link == suc place then move.Nonce id ∷ [] else [] in
+    record { was = s.was; is = s.is; holds = subst (λ (xs : List Move). Went xs s.was d) (sym (append-nil own)) (event_went (link == suc place) (move.Nonce id) s.was d s.holds) }
+grown (ChangeApp app) m place d h = cycle_went (cycle_in (ChangeApp app) m) (record m { app = app }) place d h
 
 -- an event for a connection, and others
 if_moves : (b : Bool) (e : Event) (xs : List Event) → flat_map at_master ((if b then e ∷ [] else []) ++ xs) ≡ (if b then at_master e else []) ++ flat_map at_master xs
 if_moves true e xs = refl
 if_moves false e xs = refl
 
-parcel_moves : (there : Option LinkConf) (end : End) (link k : ℕ) (frame : List ℕ) (call : Call) (c : Connection) (load : List ℕ) (before : List Move) → delivery_call there end link frame ≡ Some call → before ≡ put_part c load
-    → before ++ flat_map at_master ((if link == k then at.Raw end frame ∷ [] else []) ++ []) ≡ call_moves k call c load
-parcel_moves None end link k frame call c load before e h = absurd (cc e)
-parcel_moves (Some conf) side.Slave link k frame call c load before e h = absurd (cc e)
-parcel_moves (Some conf) side.Master link k frame call c load before e h =
+parcel_moves : (there : Option LinkConf) (end : End) (link k : ℕ) (frame : List ℕ) (call : Call) (puts : List Move) → delivery_call there end link frame ≡ Some call
+    → puts ++ flat_map at_master ((if link == k then at.Raw end frame ∷ [] else []) ++ []) ≡ call_moves k call puts
+parcel_moves None end link k frame call puts e = absurd (cc e)
+parcel_moves (Some conf) side.Slave link k frame call puts e = absurd (cc e)
+parcel_moves (Some conf) side.Master link k frame call puts e =
     let i : Deliver link frame ≡ call = cc in
-    subst (λ (z : Call). before ++ flat_map at_master ((if link == k then at.Raw side.Master frame ∷ [] else []) ++ []) ≡ call_moves k z c load) i
-    (ap₂ (λ (xs ys : List Move). xs ++ ys) h (if_moves (link == k) (at.Raw side.Master frame) [] ∙ append-nil (if link == k then move.Deliver frame ∷ [] else [])))
+    subst (λ (z : Call). puts ++ flat_map at_master ((if link == k then at.Raw side.Master frame ∷ [] else []) ++ []) ≡ call_moves k z puts) i
+    (ap (λ (ys : List Move). puts ++ ys) (if_moves (link == k) (at.Raw side.Master frame) [] ∙ append-nil (if link == k then move.Deliver frame ∷ [] else [])))
 
 -- the steps of an act that makes a call mean what the call does
-act_moves : (act : Act) (b : Beginning) (call : Call) (k : ℕ) (changed : List JournalStep) (c : Connection) (load : List ℕ) → call_of b act ≡ Some call → master_moves k changed ≡ put_part c load
-    → master_moves k (steps_of act changed) ≡ call_moves k call c load
-act_moves Start b call k changed c load e h =
-    let i : ChangeApp b.app ≡ call = cc in subst (λ (z : Call). master_moves k changed ≡ call_moves k z c load) i h
-act_moves (Happen (SaysEvent event.Tick)) b call k changed c load e h =
-    let i : Tick ≡ call = cc in
-    subst (λ (z : Call). move.Tick ∷ master_moves k changed ≡ call_moves k z c load) i (ap (λ (xs : List Move). move.Tick ∷ xs) h)
-act_moves (Happen (SaysEvent (event.Put link bytes))) b call k changed c load e h = absurd (cc e)
-act_moves (Happen (SaysEvent (event.Hold link failsafe))) b call k changed c load e h = absurd (cc e)
-act_moves (Happen (SaysEvent (event.Local link))) b call k changed c load e h = absurd (cc e)
-act_moves (Happen (SaysEvent (event.Nonce link side.Slave id))) b call k changed c load e h = absurd (cc e)
-act_moves (Happen (SaysEvent (event.Nonce link side.Master id))) b call k changed c load e h =
+act_moves : (act : Act) (b : Beginning) (call : Call) (k : ℕ) (changed : List JournalStep) → call_of b act ≡ Some call → master_moves k (steps_of act changed) ≡ call_moves k call (master_moves k changed)
+act_moves Start b call k changed e =
+    let i : ChangeApp b.app ≡ call = cc in subst (λ (z : Call). master_moves k changed ≡ call_moves k z (master_moves k changed)) i refl
+act_moves (Happen (SaysEvent event.Tick)) b call k changed e =
+    let i : Tick ≡ call = cc in subst (λ (z : Call). move.Tick ∷ master_moves k changed ≡ call_moves k z (master_moves k changed)) i refl
+act_moves (Happen (SaysEvent (event.Put link bytes))) b call k changed e = absurd (cc e)
+act_moves (Happen (SaysEvent (event.Hold link failsafe))) b call k changed e = absurd (cc e)
+act_moves (Happen (SaysEvent (event.Local link))) b call k changed e = absurd (cc e)
+act_moves (Happen (SaysEvent (event.Nonce link side.Slave id))) b call k changed e = absurd (cc e)
+act_moves (Happen (SaysEvent (event.Nonce link side.Master id))) b call k changed e =
     let i : Nonce link id ≡ call = cc in
-    subst (λ (z : Call). flat_map at_master ((if link == k then at.Nonce side.Master id ∷ [] else []) ++ own_events k changed) ≡ call_moves k z c load) i
-    (if_moves (link == k) (at.Nonce side.Master id) (own_events k changed) ∙ ap (λ (xs : List Move). (if link == k then move.Nonce id ∷ [] else []) ++ xs) h)
-act_moves (Happen (SaysEvent (event.Cut link cut))) b call k changed c load e h = absurd (cc e)
-act_moves (Happen (App app)) b call k changed c load e h =
-    let i : ChangeApp app ≡ call = cc in subst (λ (z : Call). master_moves k changed ≡ call_moves k z c load) i h
-act_moves (PullFrom None) b call k changed c load e h = absurd (cc e)
-act_moves (PullFrom (Some parcel)) b call k changed c load e h =
-    moves_append k changed (journal_step.Pulled parcel ∷ []) ∙ parcel_moves (link_at b.links parcel.to.link) parcel.to.end parcel.to.link k parcel.frame call c load (master_moves k changed) e h
+    subst (λ (z : Call). flat_map at_master ((if link == k then at.Nonce side.Master id ∷ [] else []) ++ own_events k changed) ≡ call_moves k z (master_moves k changed)) i
+    (if_moves (link == k) (at.Nonce side.Master id) (own_events k changed))
+act_moves (Happen (SaysEvent (event.Cut link cut))) b call k changed e = absurd (cc e)
+act_moves (Happen (App app)) b call k changed e =
+    let i : ChangeApp app ≡ call = cc in subst (λ (z : Call). master_moves k changed ≡ call_moves k z (master_moves k changed)) i refl
+act_moves (PullFrom None) b call k changed e = absurd (cc e)
+act_moves (PullFrom (Some parcel)) b call k changed e =
+    moves_append k changed (journal_step.Pulled parcel ∷ []) ∙ parcel_moves (link_at b.links parcel.to.link) parcel.to.end parcel.to.link k parcel.frame call (master_moves k changed) e
 
 slave_if : (b : Bool) (e : Event) → at_master e ≡ [] → flat_map at_master ((if b then e ∷ [] else []) ++ []) ≡ []
 slave_if true e h = append-nil (at_master e) ∙ h
@@ -323,25 +287,24 @@ fresh_events [] place c h = absurd (cc h)
 fresh_events (s ∷ all) zero c h = let i : fresh s ≡ c = cc in ap (λ (z : Connection). events_of z.deeds) (sym i)
 fresh_events (s ∷ all) (suc place) c h = fresh_events all place c h
 
+-- the offers that an act changed which makes this call, or none
+abbrev pub offers_by : Beginning → Option Call → List Act → List JournalStep
+offers_by b o acts = map offer_step (changed_by (option_and_then (λ call. cycle_in call (masters b acts)) o) (masters b acts).connections)
+
 -- so it is after one act more
 agree_by : (b : Beginning) (act : Act) (acts : List Act) (place : ℕ) (d : Connection) (o : Option Call)
     → ((c : Connection) → slice_get (masters b acts).connections place ≡ Some c → events_of c.deeds ≡ master_moves (suc place) (journal b acts))
     → IsSome (link_at b.links (suc place)) → call_of b act ≡ o → slice_get (meant (settings b) b.app (option_to_list o ++ calls b acts)).connections place ≡ Some d
-    → events_of d.deeds ≡ master_moves (suc place) (journal b acts ++ steps_of act (offers_by b o (calls b acts)))
+    → events_of d.deeds ≡ master_moves (suc place) (journal b acts ++ steps_of act (offers_by b o acts))
 agree_by b act acts place d None before there e h =
     before d h
     ∙ sym (moves_append (suc place) (journal b acts) (steps_of act []) ∙ ap (λ (xs : List Move). master_moves (suc place) (journal b acts) ++ xs) (no_moves act b (suc place) there e)
     ∙ append-nil (master_moves (suc place) (journal b acts)))
 agree_by b act acts place d (Some call) before there e h =
-    let m : Meant = masters b acts in
-    let s = grown call m place d h in
-    let changed : List JournalStep = offers_by b (Some call) (calls b acts) in
-    let put : master_moves (suc place) changed ≡ (if is_offer (offer_at d) s.was then [] else move.Put (load_of (after call m) (suc place)) ∷ []) =
-    one_put (after call m) (suc place) 1 place m.connections (after call m).connections s.was d (omega arith) s.is h in
-    let load : load_of (after call m) (suc place) ≡ offer_at d = ap (λ (z : Option Connection). option_map_or offer_at z []) h in
-    let moves = act_moves act b call (suc place) changed s.was (offer_at d) e (put ∙ ap (λ (z : List ℕ). if is_offer (offer_at d) s.was then [] else move.Put z ∷ []) load) in
-    s.holds.events ∙ ap (λ (xs : List Move). xs ++ call_moves (suc place) call s.was (offer_at d)) (before s.was s.is)
-    ∙ ap (λ (ys : List Move). master_moves (suc place) (journal b acts) ++ ys) (sym moves)
+    let s = grown call (masters b acts) place d h in
+    let changed : List JournalStep = offers_by b (Some call) acts in
+    s.holds.events
+    ∙ ap₂ (λ (xs ys : List Move). xs ++ ys) (before s.was s.is) (sym (act_moves act b call (suc place) changed e))
     ∙ sym (moves_append (suc place) (journal b acts) (steps_of act changed))
 
 -- there is a link for each connection

@@ -1,6 +1,6 @@
 -- How the entries of a pair grow with the acts of a plant: the ticks that came, and what an end offered where it sent
 -- data. Acts and entries are listed newest first, steps oldest first.
-use Rattle.std.proofs.Common.{◌≡◌, ◌≤◌, ℕ, ◌+◌, ◌==◌, Bool, true, false, List, [], ◌∷◌, ◌++◌, map, Option, Some, None, if◌then◌else◌, refl, sym, ap, subst, ◌∙◌, append_assoc, arith}
+use Rattle.std.proofs.Common.{◌≡◌, ◌≤◌, ℕ, ◌+◌, ◌==◌, Bool, true, false, List, [], ◌∷◌, ◌++◌, map, Some, None, if◌then◌else◌, refl, sym, ap, subst, ◌∙◌, append_assoc, arith}
 use Rattle.std.proofs.lemmas.List.{append-nil}
 use Rattle.std.proofs.lemmas.List.Sums.{sum_by-append}
 use Rattle.std.specs.Prelude.{IsTrue, cond}
@@ -17,12 +17,12 @@ use Rattle.exchange_model.specs.Ends.{same_end}
 use Rattle.exchange_model.specs.Offering.{ticks_of}
 use Rattle.exchange_model.specs.World.{setup_of, deeds}
 use Rattle.exchange_model.proofs.Offering.Older.{ticks_joined}
-use Rattle.multi_master.specs.Calls.{Call, Meant, meant, changed}
+use Rattle.multi_master.specs.Calls.{changed_by}
 use Rattle.plant_model.specs.declared.event.PlantEvent.{PlantEvent}
 use Rattle.plant_model.specs.declared.event.PlantEvent.TheVariants as event
 use Rattle.plant_model.specs.declared.journal.JournalStep.{JournalStep}
 use Rattle.plant_model.specs.declared.journal.JournalStep.TheVariants as step
-use Rattle.plant_model.specs.Acts.{Beginning, Event, App, Act, Start, Happen, PullFrom, settings, call_of, calls, offer_step, offers_by, offers, steps_of, journal}
+use Rattle.plant_model.specs.Acts.{Beginning, Event, App, Act, Start, Happen, PullFrom, masters, cycle_of, offer_step, offers, steps_of, journal}
 use Rattle.plant_model.specs.Pair.{next_of, pair, is_tick, ticks}
 use Rattle.plant_model.proofs.Growing.{IsOne, pair_more, pair_one, no_entry}
 use Rattle.plant_model.proofs.Sends.{BringsNone, SentWhile, no_data, sent_append}
@@ -153,13 +153,12 @@ abbrev pub Silent : List JournalStep → Type 0
 Silent [] = Unit {0}
 Silent (s ∷ steps) = IsSilent s × Silent steps
 
-listed_silent : (m : Meant) (listed : List ℕ) → Silent (map (offer_step m) listed)
-listed_silent m [] = tt
-listed_silent m (n ∷ listed) = (tt, listed_silent m listed)
+listed_silent : (listed : List (ℕ × List ℕ)) → Silent (map offer_step listed)
+listed_silent [] = tt
+listed_silent (x ∷ listed) = (tt, listed_silent listed)
 
-offers_silent : (b : Beginning) (o : Option Call) (made : List Call) → Silent (offers_by b o made)
-offers_silent b None made = tt
-offers_silent b (Some call) made = listed_silent (meant (settings b) b.app (call ∷ made)) (changed (settings b) b.app (call ∷ made))
+offers_silent : (b : Beginning) (act : Act) (done : List Act) → Silent (offers b act done)
+offers_silent b act done = listed_silent (changed_by (cycle_of b act done) (masters b done).connections)
 
 -- in such steps no data are sent
 grown_step : (P : List Entry → Type 0) (which : End) (link : LinkConf) (k : ℕ) (before : List JournalStep) (s : JournalStep) → IsSilent s → Grown P which link k before (before ++ s ∷ [])
@@ -195,10 +194,10 @@ grown_pulled P which link k before parcel back p =
 -- by an act after which this holds
 pub grown_act : (P : List Entry → Type 0) (which : End) (link : LinkConf) (k : ℕ) (b : Beginning) (act : Act) (done : List Act) → GoesBack P link → P (pair link k (journal b (act ∷ done)))
     → Grown P which link k (journal b done) (journal b (act ∷ done))
-grown_act P which link k b Start done back p = grown_silent P which link k _ (journal b done) (offers_silent b (call_of b Start) (calls b done))
-grown_act P which link k b (Happen (Event e)) done back p = grown_silent P which link k _ (journal b done) (tt, offers_silent b (call_of b (Happen (Event e))) (calls b done))
-grown_act P which link k b (Happen (App app)) done back p = grown_silent P which link k _ (journal b done) (tt, offers_silent b (call_of b (Happen (App app))) (calls b done))
-grown_act P which link k b (PullFrom None) done back p = grown_silent P which link k _ (journal b done) (offers_silent b None (calls b done))
+grown_act P which link k b Start done back p = grown_silent P which link k _ (journal b done) (offers_silent b Start done)
+grown_act P which link k b (Happen (Event e)) done back p = grown_silent P which link k _ (journal b done) (tt, offers_silent b (Happen (Event e)) done)
+grown_act P which link k b (Happen (App app)) done back p = grown_silent P which link k _ (journal b done) (tt, offers_silent b (Happen (App app)) done)
+grown_act P which link k b (PullFrom None) done back p = grown_silent P which link k _ (journal b done) (offers_silent b (PullFrom None) done)
 grown_act P which link k b (PullFrom (Some parcel)) done back p =
     let js : List JournalStep = journal b done in
     let act : Act = PullFrom (Some parcel) in
@@ -206,7 +205,7 @@ grown_act P which link k b (PullFrom (Some parcel)) done back p =
     let os : List JournalStep = offers b act done in
     let same : (js ++ os) ++ s ∷ [] ≡ js ++ (os ++ s ∷ []) = append_assoc js os (s ∷ []) in
     grown_as P which link k js ((js ++ os) ++ s ∷ []) _ same
-    (grown_on P which link k js (js ++ os) _ (grown_silent P which link k os js (offers_silent b (call_of b act) (calls b done)))
+    (grown_on P which link k js (js ++ os) _ (grown_silent P which link k os js (offers_silent b act done))
     (grown_pulled P which link k (js ++ os) parcel back (subst (λ (z : List JournalStep). P (pair link k z)) (sym same) p)))
 
 -- the first steps of an act pull no parcel, unless they are all
@@ -226,11 +225,11 @@ silent_but_last (a ∷ all) (s ∷ part) rest last r h e =
     (subst IsSilent same h.0, silent_but_last all part rest last r h.1 (cc))
 
 pub part_silent : (b : Beginning) (act : Act) (done : List Act) (part rest : List JournalStep) (r : JournalStep) → steps_of act (offers b act done) ≡ part ++ r ∷ rest → Silent part
-part_silent b Start done part rest r e = silent_first _ part (r ∷ rest) (offers_silent b (call_of b Start) (calls b done)) e
-part_silent b (Happen (Event ev)) done part rest r e = silent_first _ part (r ∷ rest) (tt, offers_silent b (call_of b (Happen (Event ev))) (calls b done)) e
-part_silent b (Happen (App app)) done part rest r e = silent_first _ part (r ∷ rest) (tt, offers_silent b (call_of b (Happen (App app))) (calls b done)) e
-part_silent b (PullFrom None) done part rest r e = silent_first _ part (r ∷ rest) (offers_silent b None (calls b done)) e
-part_silent b (PullFrom (Some parcel)) done part rest r e = silent_but_last _ part rest (step.Pulled parcel) r (offers_silent b (call_of b (PullFrom (Some parcel))) (calls b done)) e
+part_silent b Start done part rest r e = silent_first _ part (r ∷ rest) (offers_silent b Start done) e
+part_silent b (Happen (Event ev)) done part rest r e = silent_first _ part (r ∷ rest) (tt, offers_silent b (Happen (Event ev)) done) e
+part_silent b (Happen (App app)) done part rest r e = silent_first _ part (r ∷ rest) (tt, offers_silent b (Happen (App app)) done) e
+part_silent b (PullFrom None) done part rest r e = silent_first _ part (r ∷ rest) (offers_silent b (PullFrom None) done) e
+part_silent b (PullFrom (Some parcel)) done part rest r e = silent_but_last _ part rest (step.Pulled parcel) r (offers_silent b (PullFrom (Some parcel)) done) e
 
 -- nothing is asked of what was before
 abbrev pub Any : List Entry → Type 0
@@ -270,16 +269,12 @@ abbrev pub is_tick_act : Act → Bool
 is_tick_act (Happen (Event event.Tick)) = true
 is_tick_act _ = false
 
-ticks_listed : (m : Meant) (listed : List ℕ) → ticks (map (offer_step m) listed) ≡ 0
-ticks_listed m [] = refl
-ticks_listed m (n ∷ listed) =
-    let all : ticks (offer_step m n ∷ map (offer_step m) listed) ≡ 0 + ticks (map (offer_step m) listed) = sum_by-append (λ s. cond (is_tick s) 1 0) (offer_step m n ∷ []) (map (offer_step m) listed) in
-    let rest = ticks_listed m listed in
+ticks_listed : (listed : List (ℕ × List ℕ)) → ticks (map offer_step listed) ≡ 0
+ticks_listed [] = refl
+ticks_listed (x ∷ listed) =
+    let all : ticks (offer_step x ∷ map offer_step listed) ≡ 0 + ticks (map offer_step listed) = sum_by-append (λ s. cond (is_tick s) 1 0) (offer_step x ∷ []) (map offer_step listed) in
+    let rest = ticks_listed listed in
     omega arith
-
-ticks_offers : (b : Beginning) (o : Option Call) (made : List Call) → ticks (offers_by b o made) ≡ 0
-ticks_offers b None made = refl
-ticks_offers b (Some call) made = ticks_listed (meant (settings b) b.app (call ∷ made)) (changed (settings b) b.app (call ∷ made))
 
 ticks_first : (s : JournalStep) (os : List JournalStep) → ticks os ≡ 0 → ticks (s ∷ os) ≡ cond (is_tick s) 1 0
 ticks_first s os h =
@@ -305,7 +300,7 @@ steps_ticks (PullFrom (Some parcel)) os h =
 pub act_ticks : (b : Beginning) (act : Act) (done : List Act) → ticks (journal b (act ∷ done)) ≡ ticks (journal b done) + cond (is_tick_act act) 1 0
 act_ticks b act done =
     sum_by-append (λ s. cond (is_tick s) 1 0) (journal b done) (steps_of act (offers b act done))
-    ∙ ap (λ (n : ℕ). ticks (journal b done) + n) (steps_ticks act (offers b act done) (ticks_offers b (call_of b act) (calls b done)))
+    ∙ ap (λ (n : ℕ). ticks (journal b done) + n) (steps_ticks act (offers b act done) (ticks_listed (changed_by (cycle_of b act done) (masters b done).connections)))
 
 one_at_most : (b : Bool) → cond b 1 0 ≤ 1
 one_at_most true = omega arith

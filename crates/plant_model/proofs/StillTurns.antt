@@ -1,7 +1,7 @@
 -- Where the moments of a plant are still for a bound, it is quiet: no act of a tick but the line of the script changes
 -- what a slave offers, nor which application runs, and each cycle keeps off what the application guards. Acts and turns
 -- are listed newest first, steps oldest first.
-use Rattle.std.proofs.Common.{◌≡◌, ℕ, ◌==◌, nat_lt, Bool, true, false, ◌&&◌, not, List, [], ◌∷◌, ◌++◌, map, length, Option, Some, None, option_map, if◌then◌else◌, refl, sym, ap, ap₂, ◌∙◌, append_assoc}
+use Rattle.std.proofs.Common.{◌≡◌, ℕ, ◌==◌, nat_lt, Bool, true, false, ◌&&◌, not, List, [], ◌∷◌, ◌++◌, map, length, Option, Some, None, if◌then◌else◌, refl, sym, ap, ap₂, ◌∙◌, append_assoc}
 use Rattle.std.specs.Prelude.{IfSome, option_to_list}
 use Rattle.std.specs.Option.{option_map_or}
 use Rattle.std.proofs.lemmas.List.{append-nil}
@@ -19,12 +19,12 @@ use Rattle.plant_conf.specs.declared.conf.LinkConf.{LinkConf}
 use Rattle.exchange_model.specs.Ends.{of_end}
 use Rattle.exchange_model.specs.Items.{Offered, Unset, next_offered}
 use Rattle.exchange_model.specs.Fair.{offers_bit}
-use Rattle.multi_master.specs.Calls.{AppView, Call, Deliver, Tick, Meant, IsSound, connection, cycle_in, with_cycle, meant, changed}
+use Rattle.multi_master.specs.Calls.{Deliver, Meant, IsSound, cycle_in, with_cycle, meant, changed_by}
 use Rattle.multi_master.specs.Connection.{outputs_at, offer_at}
 use Rattle.plant_model.specs.declared.event.PlantEvent.TheVariants as event
 use Rattle.plant_model.specs.declared.journal.JournalStep.{JournalStep}
 use Rattle.plant_model.specs.declared.journal.JournalStep.TheVariants as step
-use Rattle.plant_model.specs.Acts.{Beginning, Event, App, Act, Start, Happen, PullFrom, settings, delivery_call, call_of, calls, masters, cycle_of, offer_step, offers_by, offers, journal}
+use Rattle.plant_model.specs.Acts.{Beginning, Event, App, Act, Start, Happen, PullFrom, settings, delivery_call, calls, masters, cycle_of, offer_step, offers, journal}
 use Rattle.plant_model.specs.Bound.{is_off, is_guarded, is_still, Quiet}
 use Rattle.plant_model.specs.Pair.{next_of, pair, link_at}
 use Rattle.plant_model.specs.Promises.{AllSound}
@@ -89,16 +89,15 @@ one_keeps : (link : LinkConf) (k : ℕ) (js : List JournalStep) (s : JournalStep
 one_keeps link k js s n end what one h =
     ap (λ (w : List Entry). next_offered (of_end side.Slave w)) (pair_one link k js s n end what one) ∙ keeps_if link end what (pair link k js) (n == k) h
 
-listed_keep : (link : LinkConf) (k : ℕ) (m : Meant) (listed : List ℕ) (js : List JournalStep) → offered_by link k (js ++ map (offer_step m) listed) ≡ offered_by link k js
-listed_keep link k m [] js = ap (offered_by link k) (append-nil js)
-listed_keep link k m (n ∷ listed) js =
-    ap (offered_by link k) (sym (append_assoc js (offer_step m n ∷ []) (map (offer_step m) listed)))
-    ∙ listed_keep link k m listed (js ++ offer_step m n ∷ [])
-    ∙ one_keeps link k js (offer_step m n) n side.Master (move.Put _) (record { part = λ j. refl }) tt
+listed_keep : (link : LinkConf) (k : ℕ) (listed : List (ℕ × List ℕ)) (js : List JournalStep) → offered_by link k (js ++ map offer_step listed) ≡ offered_by link k js
+listed_keep link k [] js = ap (offered_by link k) (append-nil js)
+listed_keep link k (x ∷ listed) js =
+    ap (offered_by link k) (sym (append_assoc js (offer_step x ∷ []) (map offer_step listed)))
+    ∙ listed_keep link k listed (js ++ offer_step x ∷ [])
+    ∙ one_keeps link k js (offer_step x) x.0 side.Master (move.Put x.1) (record { part = λ j. refl }) tt
 
-offers_keep : (link : LinkConf) (k : ℕ) (b : Beginning) (o : Option Call) (made : List Call) (js : List JournalStep) → offered_by link k (js ++ offers_by b o made) ≡ offered_by link k js
-offers_keep link k b None made js = ap (offered_by link k) (append-nil js)
-offers_keep link k b (Some call) made js = listed_keep link k (meant (settings b) b.app (call ∷ made)) (changed (settings b) b.app (call ∷ made)) js
+offers_keep : (link : LinkConf) (k : ℕ) (b : Beginning) (act : Act) (done : List Act) (js : List JournalStep) → offered_by link k (js ++ offers b act done) ≡ offered_by link k js
+offers_keep link k b act done js = listed_keep link k (changed_by (cycle_of b act done) (masters b done).connections) js
 
 -- a tick, and a pull, of a tick
 abbrev pub IsOfTick : Act → Type 0
@@ -119,9 +118,9 @@ act_offers link k b (Happen (Event event.Tick)) done h =
     let s : JournalStep = step.Script event.Tick in
     let os : List JournalStep = offers b (Happen (Event event.Tick)) done in
     ap (offered_by link k) (sym (append_assoc js (s ∷ []) os))
-    ∙ offers_keep link k b (Some Tick) (calls b done) (js ++ s ∷ [])
+    ∙ offers_keep link k b (Happen (Event event.Tick)) done (js ++ s ∷ [])
     ∙ ap (λ (w : List Entry). next_offered (of_end side.Slave w)) (pair_more link k js (s ∷ []))
-act_offers link k b (PullFrom None) done h = offers_keep link k b None (calls b done) (journal b done)
+act_offers link k b (PullFrom None) done h = offers_keep link k b (PullFrom None) done (journal b done)
 act_offers link k b (PullFrom (Some parcel)) done h =
     let js : List JournalStep = journal b done in
     let act : Act = PullFrom (Some parcel) in
@@ -129,7 +128,7 @@ act_offers link k b (PullFrom (Some parcel)) done h =
     let os : List JournalStep = offers b act done in
     ap (offered_by link k) (sym (append_assoc js os (s ∷ [])))
     ∙ one_keeps link k (js ++ os) s parcel.to.link parcel.to.end (move.Deliver parcel.frame) (record { part = λ j. refl }) (came_keeps parcel.to.end parcel.frame)
-    ∙ offers_keep link k b (call_of b act) (calls b done) js
+    ∙ offers_keep link k b act done js
 
 off_if : (o : Option LinkConf) (k bit : ℕ) (b : Beginning) (act : Act) (done : List Act) → IsOfTick act
     → offers_bit bit (option_map_or (λ link. offered_by link k (journal b (act ∷ done))) o Unset) ≡ offers_bit bit (option_map_or (λ link. offered_by link k (journal b done)) o Unset)

@@ -1,7 +1,6 @@
 -- What a plant did, act by act, and what that means: the calls of its master of many connections, the steps of its
 -- journal, and the uses of its channel. Acts and calls are listed newest first, steps and uses oldest first.
 use Rattle.std.specs.Prelude.{ℕ, suc, ◌-◌, ◌==◌, Bool, false, List, [], ◌∷◌, ◌++◌, length, map, take, reverse, Option, Some, None, option_to_list, option_and_then, if◌then◌else◌}
-use Rattle.std.specs.Option.{option_map_or}
 use Rattle.fsoe_base.specs.declared.command.End.{End}
 use Rattle.fsoe_base.specs.declared.command.End.TheVariants as side
 use Rattle.failsafe_io.specs.Application.{Answer}
@@ -10,8 +9,7 @@ use Rattle.param_load.specs.declared.master_settings.MasterSettings.{MasterSetti
 use Rattle.plant_conf.specs.declared.conf.LinkConf.{LinkConf}
 use Rattle.exchange_model.specs.Ends.{peer}
 use Rattle.exchange_model.specs.World.{frames_of}
-use Rattle.multi_master.specs.Connection.{offer_at}
-use Rattle.multi_master.specs.Calls.{AppView, Call, Deliver, Tick, Nonce, ChangeApp, Meant, connection, cycle_in, meant, changed}
+use Rattle.multi_master.specs.Calls.{AppView, Call, Deliver, Tick, Nonce, ChangeApp, Meant, cycle_in, meant, changed_by}
 use Rattle.plant_model.specs.declared.event.PlantEvent.{PlantEvent}
 use Rattle.plant_model.specs.declared.event.PlantEvent.TheVariants as event
 use Rattle.plant_model.specs.declared.journal.JournalStep.{JournalStep}
@@ -77,19 +75,13 @@ masters b acts = meant (settings b) b.app (calls b acts)
 abbrev pub cycle_of : Beginning → Act → List Act → Option Answer
 cycle_of b act acts = option_and_then (λ call. cycle_in call (masters b acts)) (call_of b act)
 
--- the offer of a connection as a step
-abbrev pub offer_step : Meant → ℕ → JournalStep
-offer_step m link = step.Offer link (option_map_or offer_at (connection link m) [])
+-- an offer as a step, with the number of its connection
+abbrev pub offer_step : ℕ × List ℕ → JournalStep
+offer_step x = step.Offer x.0 x.1
 
--- the offers that a call changed, if there is one, after those before: one for each connection that has another offer
--- than before the call, in their order
-abbrev pub offers_by : Beginning → Option Call → List Call → List JournalStep
-offers_by b None before = []
-offers_by b (Some call) before = map (offer_step (meant (settings b) b.app (call ∷ before))) (changed (settings b) b.app (call ∷ before))
-
--- the offers that an act changed
+-- the offers that an act changed: one for each connection of which its cycle answered another offer, in their order
 abbrev pub offers : Beginning → Act → List Act → List JournalStep
-offers b act acts = offers_by b (call_of b act) (calls b acts)
+offers b act acts = map offer_step (changed_by (cycle_of b act acts) (masters b acts).connections)
 
 -- the steps of an act: its offers stand after a line of the script, and before a parcel that was pulled. What gave no
 -- parcel is no step

@@ -6,7 +6,7 @@ use Rattle.plant_conf.specs.declared.conf.LinkConf.{LinkConf}
 use Rattle.plant_model.specs.declared.event.PlantEvent.TheVariants as event
 use Rattle.plant_model.specs.declared.journal.JournalStep.{JournalStep}
 use Rattle.plant_model.specs.declared.journal.JournalStep.TheVariants as step
-use Rattle.plant_model.specs.Acts.{Beginning, Said, Event, App, Act, Happen, PullFrom, call_of, calls, offers, journal}
+use Rattle.plant_model.specs.Acts.{Beginning, Said, Event, App, Act, Happen, PullFrom, offers, journal}
 use Rattle.plant_model.specs.Pair.{is_tick}
 use Rattle.plant_model.specs.PlantReport.{in_tick, is_line, lines_due, lines_from, tick_lines, ticks_text}
 use Rattle.plant_model.specs.Promises.{line_step}
@@ -89,7 +89,7 @@ after_more b said old (Some parcel) done a =
           ∙ ap (λ (z : List JournalStep). z ++ line_steps more) a.none
           ∙ lines_append changed (step.Pulled parcel ∷ [])
           ∙ append-nil (line_steps changed)
-          ∙ no_lines_by b (call_of b (PullFrom (Some parcel))) (calls b done);
+          ∙ no_lines_by b (PullFrom (Some parcel)) done;
     }
 
 after_gifts : (b : Beginning) (said : Said) (old : List JournalStep) (parcels : List Parcel) (done : List Act) → After said old (journal b done) → After said old (journal b (map (λ parcel. PullFrom (Some parcel)) parcels ++ done))
@@ -111,8 +111,8 @@ after_pulls_at b (Event (event.Cut link cut)) old parcels done a = a
 after_pulls_at b (App app) old parcels done a = a
 
 after_line : (b : Beginning) (said : Said) (done : List Act) → After said (journal b done) (journal b (Happen said ∷ done))
-after_line b (Event e) done = record { rest = offers b (Happen (Event e)) done; is = refl; none = no_lines_by b (call_of b (Happen (Event e))) (calls b done) }
-after_line b (App app) done = record { rest = offers b (Happen (App app)) done; is = refl; none = no_lines_by b (call_of b (Happen (App app))) (calls b done) }
+after_line b (Event e) done = record { rest = offers b (Happen (Event e)) done; is = refl; none = no_lines_by b (Happen (Event e)) done }
+after_line b (App app) done = record { rest = offers b (Happen (App app)) done; is = refl; none = no_lines_by b (Happen (App app)) done }
 
 -- a turn
 pub after_turn : (b : Beginning) (said : Said) (parcels : List Parcel) (done : List Act) → After said (journal b done) (journal b (turn_acts said parcels ++ done))

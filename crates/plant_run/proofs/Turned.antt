@@ -30,7 +30,7 @@ use Rattle.plant_model.specs.declared.event.PlantLine.{PlantLine}
 use Rattle.plant_model.specs.declared.event.PlantLine.TheVariants as line
 use Rattle.plant_model.specs.declared.journal.JournalStep.{JournalStep}
 use Rattle.plant_model.specs.declared.journal.JournalStep.TheVariants as step
-use Rattle.plant_model.specs.Acts.{Beginning, Said, Event, App, Act, Start, call_of, journal, offers, uses, uses_after}
+use Rattle.plant_model.specs.Acts.{Beginning, Said, Event, App, Act, Start, journal, offers, uses, uses_after}
 use Rattle.plant_model.specs.FairPairs.{lengths_in, Fits}
 use Rattle.plant_run.specs.Given.{GivenCloses, GivenStands, named, rest_in, terms_of, waiting}
 use Rattle.plant_model.specs.Pair.{has_other, is_tick, lowest_other, ticks}
@@ -147,7 +147,7 @@ goes_on view t old new old_reactions new_reactions left next before mid after co
 started : (t : Terms) (v : PlantView) (h : ScriptHeading) → PlantStands t.begins v [] → h.lengths ≡ map lengths_in t.begins.links → RunStands t v t.spare h [] []
 started t v h stands lengths_are =
     let changed : List JournalStep = offers t.begins Start [] in
-    let none : line_steps changed ≡ [] = no_lines_by t.begins (call_of t.begins Start) [] in
+    let none : line_steps changed ≡ [] = no_lines_by t.begins Start [] in
     record {
       turns = [];
       stands = stands;
@@ -168,7 +168,7 @@ pub begun : {H : Type 0} (view : KindOf H → AppView) (conf : ConfView) (app : 
 unfolding started
 begun view conf app spare v reactions before after h starts fixed watched all lengths_are =
     let t : Terms = terms_of view conf app spare in
-    let none = no_lines_by t.begins (call_of t.begins Start) [] in
+    let none = no_lines_by t.begins Start [] in
     record {
       runs = started t v h starts.stands lengths_are;
       channel = starts.channel;

@@ -4,7 +4,7 @@ use Rattle.plant_core.specs.Link.{LinkView}
 use Rattle.multi_master.specs.Standing.{IsNumber}
 use Rattle.multi_master.proofs.Places.{all_at}
 use Rattle.plant_core.proofs.Acting.{noted_set, noted_less, fixed_set}
-use Rattle.plant_core.proofs.Offering.{offers_next}
+use Rattle.plant_core.proofs.Offering.{offers_all, offers_next}
 use Rattle.plant_core.proofs.offers.note_offers.Goals as goal
 
 pub loop-i-preserved : goal.loop-i-preserved
@@ -31,3 +31,6 @@ loop-i-preserved g c =
       len = omega (arith, c.note_offer.ensures.count, c.loop-i.invariant.len);
       capacity = omega (arith, c.note_offer.ensures.capacity, c.loop-i.invariant.capacity);
     }
+
+pub returns-clause-offers : goal.returns-clause-offers
+returns-clause-offers g c = offers_all _ c.changed-changed.result.now c.loop-i.i _ _ _ _ c.loop-i-test.false c.changed-changed.ensures.changed c.loop-i.invariant.offers
