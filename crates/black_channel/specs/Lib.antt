@@ -1,4 +1,5 @@
 pub mod Altered
+pub mod Calls
 pub mod Holds
 pub mod Listed
 pub mod Told

@@ -1,9 +1,8 @@
 -- What a channel tells of itself, and what each call makes of that.
-use Rattle.std.specs.Prelude.{◌≡◌, ℕ, ◌+◌, ◌-◌, ◌^◌, ◌≤◌, min, List, [], ◌∷◌, ◌++◌, Option, Some, None, IfSome, option_map}
+use Rattle.std.specs.Prelude.{◌≡◌, ℕ, ◌≤◌, List, [], ◌∷◌, ◌++◌, Option, Some, None, IfSome, option_map}
 use Rattle.fsoe_io.specs.Faults.{Rose}
 use Rattle.black_channel.specs.Holds.{Holds, IsForm, begun, pushed, pulled}
 use Rattle.black_channel.specs.declared.channel.Parcel.{Parcel}
-use Rattle.black_channel.specs.declared.channel.Place.{Place}
 
 -- what it holds, a count that rises where it gives nothing, and all parcels that were pushed and given, oldest first;
 -- each but the count may stay untold
@@ -12,10 +11,6 @@ pub record Told : Type 0 where
   pub empties : ℕ
   pub pushed : Option (List Parcel)
   pub given : Option (List Parcel)
-
--- a channel that tells what it holds and its count, and no parcels
-abbrev pub holding : Holds → ℕ → Told
-holding holds empties = record { holds = Some holds; empties = empties; pushed = None; given = None }
 
 -- a list that is told was told before, without this parcel at its end; from now on it may stay untold
 abbrev pub GrowsBy : Parcel → Option (List Parcel) → Option (List Parcel) → Type 0
@@ -42,10 +37,6 @@ pub record PushesParcel (parcel : Parcel) (old new : Told) : Type 0 where
   pub pushed : GrowsBy parcel old.pushed new.pushed
   pub given : new.given ≡ old.given
 
--- the parcel that a pull gives, by its answer and the frame that it wrote
-abbrev pub parcel_of : Option Place → List ℕ → Option Parcel
-parcel_of answer frame = option_map (λ place. record { to = place; frame = frame }) answer
-
 -- a pull that gives this parcel, or nothing
 pub record PullsParcel (parcel : Option Parcel) (old new : Told) : Type 0 where
   pub holds : new.holds ≡ option_map (λ held. (pulled held).holds) old.holds
@@ -55,8 +46,3 @@ pub record PullsParcel (parcel : Option Parcel) (old new : Told) : Type 0 where
   pub nothing : parcel ≡ None → Rose old.empties new.empties
   pub pushed : new.pushed ≡ old.pushed
   pub given : GrowsByGift parcel old.given new.given
-
--- the number of pulls that gave nothing, which stays at 2^64 - 1, after one more pull
-abbrev pub empties_after : Option Place → ℕ → ℕ
-empties_after (Some place) empties = empties
-empties_after None empties = min (empties + 1) (2 ^ 64 - 1)

@@ -2,7 +2,8 @@
 ghost use Rattle.std.specs.Prelude.{◌≡◌, ◌≤◌, ◌%◌, [], ◌∷◌, None, codes, length, List, IfOk};
 ghost use Rattle.std.specs.Option.{option_or};
 ghost use Rattle.black_channel.specs.Holds.{Chance, IsRing, generator_of, given_by, pulled, turned_frame};
-ghost use Rattle.black_channel.specs.Told.{Told, Begins, PushesParcel, PullsParcel, empties_after, holding, parcel_of};
+ghost use Rattle.black_channel.specs.Told.{Told, Begins, PushesParcel, PullsParcel};
+ghost use Rattle.black_channel.specs.Calls.{empties_after, holding, parcel_of};
 ghost use Rattle.black_channel.specs.declared.channel.Parcel.{Parcel};
 
 use crate::altering::altered;
@@ -27,7 +28,8 @@ pub struct HostileChannel {
 
 impl Model for HostileChannel {
     ghost use Rattle.black_channel.specs.Holds.{Chance, IsForm};
-    ghost use Rattle.black_channel.specs.Told.{Told, holding};
+    ghost use Rattle.black_channel.specs.Told.{Told};
+    ghost use Rattle.black_channel.specs.Calls.{holding};
 
     ghost Value = { Told };
 

@@ -1,7 +1,8 @@
 //! A channel that keeps order.
 ghost use Rattle.std.specs.Prelude.{◌≡◌, ◌≤◌, [], codes, length, IfOk};
 ghost use Rattle.black_channel.specs.Holds.{Ring};
-ghost use Rattle.black_channel.specs.Told.{Told, Begins, PushesParcel, PullsParcel, empties_after, holding, parcel_of};
+ghost use Rattle.black_channel.specs.Told.{Told, Begins, PushesParcel, PullsParcel};
+ghost use Rattle.black_channel.specs.Calls.{empties_after, holding, parcel_of};
 
 use crate::channel::{Channel, Place, empties_after};
 use crate::parcel_ring::ParcelRing;
@@ -19,7 +20,8 @@ pub struct PerfectChannel {
 
 impl Model for PerfectChannel {
     ghost use Rattle.black_channel.specs.Holds.{IsRing, Ring};
-    ghost use Rattle.black_channel.specs.Told.{Told, holding};
+    ghost use Rattle.black_channel.specs.Told.{Told};
+    ghost use Rattle.black_channel.specs.Calls.{holding};
 
     ghost Value = { Told };
 

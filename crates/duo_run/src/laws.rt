@@ -21,7 +21,7 @@ ghost use Rattle.schedule_file.specs.declared.pairs_line.PairsLine.TheVariants a
 ghost use Rattle.schedule_file.specs.declared.event.Event.{Event};
 ghost use Rattle.schedule_file.specs.declared.header_kind.HeaderKind.TheVariants as kind;
 ghost use Rattle.file_run.specs.Report.{refused_line};
-ghost use Rattle.end_model.specs.Entries.{entries};
+ghost use Rattle.end_model.specs.Runs.{entries};
 ghost use Rattle.end_model.specs.Step.{run};
 ghost use Rattle.exchange_model.specs.Ends.{of_end};
 ghost use Rattle.exchange_model.specs.Fair.{Fair};

@@ -17,8 +17,3 @@ entry_of s e x = record {
   outputs = outputs s (x ∷ e);
   terms = told_terms s (x ∷ e);
 }
-
--- what is told of each deed
-abbrev pub entries : Setup → List Deed → List Entry
-entries s [] = []
-entries s (x ∷ e) = entry_of s e x ∷ entries s e

@@ -1,12 +1,14 @@
 -- What a run of an end is: deeds, each of which is what the end does next, at moves that may come.
-use Rattle.param_load.specs.declared.profile.Profile.{Profile}
-use Rattle.param_load.specs.declared.entry.Move.TheVariants as move
-use Rattle.param_load.specs.declared.entry.Move.{Move}
+use Rattle.std.specs.Prelude.{◌≡◌, IsTrue, List, [], ◌∷◌, ◌++◌, length}
 use Rattle.param_load.specs.Profile.{allows_id}
-use Rattle.end_model.specs.Setup.{Setup, OfSlave, OfMaster, sends}
+use Rattle.param_load.specs.declared.entry.Entry.{Entry}
+use Rattle.param_load.specs.declared.entry.Move.{Move}
+use Rattle.param_load.specs.declared.entry.Move.TheVariants as move
+use Rattle.param_load.specs.declared.profile.Profile.{Profile}
 use Rattle.end_model.specs.Deed.{Deed}
+use Rattle.end_model.specs.Entries.{entry_of}
+use Rattle.end_model.specs.Setup.{Setup, OfMaster, OfSlave, sends}
 use Rattle.end_model.specs.Step.{step}
-use Rattle.std.specs.Prelude.{◌∷◌, [], List, ◌++◌, IsTrue, length, ◌≡◌}
 
 -- the setup is a master's
 abbrev pub IsMaster : Setup → Type 0
@@ -50,3 +52,8 @@ pub record IsNext (s : Setup) (x : Deed) (e : List Deed) : Type 0 where
 abbrev pub IsRun : Setup → List Deed → Type 0
 IsRun s [] = Unit {0}
 IsRun s (x ∷ e) = IsNext s x e × IsRun s e
+
+-- what is told of each deed
+abbrev pub entries : Setup → List Deed → List Entry
+entries s [] = []
+entries s (x ∷ e) = entry_of s e x ∷ entries s e

@@ -21,7 +21,7 @@ use Rattle.fsoe_base.specs.declared.did.Dropped.TheVariants as why
 use Rattle.end_model.specs.Setup.{Setup, OfMaster, OfSlave, receives}
 use Rattle.end_model.specs.Verdict.{Verdict, Valid, Drop, Refused, contents, verdict}
 use Rattle.end_model.specs.Step.{run}
-use Rattle.end_model.specs.Entries.{entries}
+use Rattle.end_model.specs.Runs.{entries}
 
 -- two bytes of safe data in each direction
 abbrev pub two_and_two : Lengths

@@ -2,9 +2,8 @@
 use Rattle.std.proofs.Common.{◌≡◌, ℕ, Bool, List, [], ◌∷◌, refl, sym, ap₂, ◌∙◌}
 use Rattle.fb_lib.specs.declared.kind.BlockKind.{BlockKind}
 use Rattle.fb_lib.specs.Cycle.{Cycle}
-use Rattle.fb_lib.specs.Value.{values}
+use Rattle.fb_lib.specs.Standing.{values, BlockStands, Stepped}
 use Rattle.fb_lib.specs.Steps.{BlockView}
-use Rattle.fb_lib.specs.Standing.{BlockStands, Stepped}
 
 pub stands : (k : BlockKind) (n : ℕ) (first last : BlockView) (e : List Cycle) (outputs : List Bool) → BlockStands k n first [] → Stepped first e outputs last → BlockStands k n last e
 stands k n first last [] [] new done = record { is = sym done ∙ new.is }

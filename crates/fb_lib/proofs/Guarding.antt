@@ -9,8 +9,9 @@ use Rattle.fb_lib.specs.declared.two_hand.TwoHand.{TwoHand}
 use Rattle.fb_lib.specs.declared.two_hand.TwoHand.TheVariants as hands
 use Rattle.fb_lib.specs.Cycle.{Cycle, first, second}
 use Rattle.fb_lib.specs.Value.{value}
-use Rattle.fb_lib.specs.Guarded.{is_guarded, AreOff, IsOffIfGuarded}
-use Rattle.fb_lib.specs.Steps.{kind_of, next_hands, is_on, next_held, told}
+use Rattle.fb_lib.specs.Guarded.{is_guarded}
+use Rattle.fb_lib.specs.Standing.{AreOff, IsOffIfGuarded, kind_of}
+use Rattle.fb_lib.specs.Steps.{next_hands, is_on, next_held, told}
 
 -- an input that is guarded is false
 off-at : (k : ℕ) (gs bs : List Bool) → AreOff gs bs → get_or gs k false ≡ true → get_or bs k false ≡ false

@@ -7,7 +7,7 @@ use Rattle.fb_lib.specs.Cycle.{Cycle, first, second}
 use Rattle.fb_lib.specs.LookBack.{is_now, run, before_run}
 use Rattle.fb_lib.specs.Value.{ticks, both, exactly_one, neither, is_ready, two_hand}
 use Rattle.fb_lib.specs.Steps.{risen, next_hands, is_on}
-use Rattle.fb_lib.specs.Standing.{hands_of}
+use Rattle.fb_lib.specs.Kept.{hands_of}
 use Rattle.fb_lib.proofs.Ticks.{ticks-more}
 
 -- the buttons, by what looking back finds: whether the block is on, whether it is ready, and for how long

@@ -10,7 +10,8 @@ use Rattle.fb_lib.specs.Cycle.{Cycle, first, second}
 use Rattle.fb_lib.specs.LookBack.{run, since}
 use Rattle.fb_lib.specs.Value.{ticks, since_input, Watched, disagrees, is_late, is_released, watched, feedback, value}
 use Rattle.fb_lib.specs.Steps.{BlockView, risen, next_held, next_block, told}
-use Rattle.fb_lib.specs.Standing.{held_of, BlockFollows, BlockGives}
+use Rattle.fb_lib.specs.Standing.{BlockFollows, BlockGives}
+use Rattle.fb_lib.specs.Kept.{held_of}
 use Rattle.fb_lib.proofs.Hands.{hands_of-next, is_on-hands_of}
 use Rattle.fb_lib.proofs.Ticks.{ticks-more, on_age-next, on_told-is, off_left-next, off_told-is}
 

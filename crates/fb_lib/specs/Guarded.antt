@@ -1,5 +1,5 @@
 -- Which blocks are false whenever some of their inputs are.
-use Rattle.std.specs.Prelude.{◌≡◌, Bool, true, false, ◌||◌, List, [], ◌∷◌, get_or}
+use Rattle.std.specs.Prelude.{Bool, true, false, ◌||◌, List, [], get_or}
 use Rattle.std.specs.List.{list_all, list_any}
 use Rattle.fb_lib.specs.declared.kind.BlockKind.{BlockKind}
 use Rattle.fb_lib.specs.declared.kind.BlockKind.TheVariants as kind
@@ -17,13 +17,3 @@ is_guarded kind.TwoHand gs = get_or gs 0 false || get_or gs 1 false
 is_guarded kind.OnDelay gs = get_or gs 0 false
 is_guarded kind.OffDelay gs = false
 is_guarded kind.Feedback gs = get_or gs 0 false
-
--- each input is false where the list says that it is guarded, and there are as many as the list has
-abbrev pub AreOff : List Bool → List Bool → Type 0
-AreOff [] [] = Unit {0}
-AreOff (g ∷ gs) (b ∷ bs) = (g ≡ true → b ≡ false) × AreOff gs bs
-AreOff _ _ = ⊥
-
--- what a block of this kind gives is false if it is guarded and its guarded inputs are false, whichever are guarded
-pub record IsOffIfGuarded (k : BlockKind) (ins : List Bool) (given : Bool) : Type 0 where
-  pub off : (gs : List Bool) → AreOff gs ins → is_guarded k gs ≡ true → given ≡ false

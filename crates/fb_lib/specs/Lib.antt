@@ -1,8 +1,9 @@
 pub mod Cycle
+pub mod Guarded
+pub mod Kept
 pub mod Kind
 pub mod LookBack
-pub mod Value
-pub mod Steps
-pub mod Standing
-pub mod Guarded
 pub mod Rows
+pub mod Standing
+pub mod Steps
+pub mod Value

@@ -3,7 +3,7 @@ use Rattle.std.specs.Prelude.{◌≡◌, ℕ, ◌==◌, true, false, List, [], �
 use Rattle.fb_lib.specs.declared.kind.BlockKind.{BlockKind}
 use Rattle.fb_lib.specs.declared.kind.BlockKind.TheVariants as kind
 use Rattle.fb_lib.specs.Cycle.{Cycle}
-use Rattle.fb_lib.specs.Value.{values}
+use Rattle.fb_lib.specs.Standing.{values}
 
 -- the cycle that a text is about to tell, and those before it, the newest first
 pub record Reading : Type 0 where

@@ -1,46 +1,15 @@
 -- A block stands for the cycles that it was stepped with, newest first: it doesn't keep them, and gives what looking
 -- back over them says.
-use Rattle.std.specs.Prelude.{◌≡◌, ℕ, ◌-◌, min, not, Bool, List, [], ◌∷◌, map, if◌then◌else◌}
-use Rattle.std.specs.List.{list_any}
+use Rattle.std.specs.Prelude.{◌≡◌, ℕ, Bool, true, false, List, [], ◌∷◌}
 use Rattle.fb_lib.specs.declared.held.Held.{Held}
 use Rattle.fb_lib.specs.declared.held.Held.TheVariants as held
 use Rattle.fb_lib.specs.declared.kind.BlockKind.{BlockKind}
 use Rattle.fb_lib.specs.declared.kind.BlockKind.TheVariants as kind
-use Rattle.fb_lib.specs.declared.two_hand.TwoHand.{TwoHand}
-use Rattle.fb_lib.specs.declared.two_hand.TwoHand.TheVariants as hands
-use Rattle.fb_lib.specs.Cycle.{Cycle, first, second}
-use Rattle.fb_lib.specs.LookBack.{is_now, run, before_run, since}
-use Rattle.fb_lib.specs.Value.{ticks, latch, estop, exactly_one, neither, two_hand, since_input, disagrees, is_late, is_released, watched, feedback, value}
+use Rattle.fb_lib.specs.Cycle.{Cycle}
+use Rattle.fb_lib.specs.Guarded.{is_guarded}
+use Rattle.fb_lib.specs.Kept.{block_of}
 use Rattle.fb_lib.specs.Steps.{BlockView}
-
--- the two buttons after these cycles
-abbrev pub hands_of : ℕ → List Cycle → TwoHand
-hands_of n e =
-    if two_hand n e
-    then hands.On
-    else (if is_now neither (before_run exactly_one e) then hands.Ready (ticks (run exactly_one e)) else hands.Spent)
-
--- what a block keeps after these cycles
-abbrev pub held_of : BlockKind → ℕ → List Cycle → Held
-held_of kind.Const0 n e = held.Const0
-held_of kind.Const1 n e = held.Const1
-held_of kind.And n e = held.And
-held_of kind.Or n e = held.Or
-held_of kind.Latch n e = held.Latch (record { on = latch e })
-held_of kind.Estop n e = held.Estop (record { on = estop e; ack = is_now second e })
-held_of kind.TwoHand n e = held.TwoHand (hands_of n e)
-held_of kind.OnDelay n e = held.OnDelay (record { age = min n (ticks (run first e)) })
-held_of kind.OffDelay n e = held.OffDelay (record { left = if list_any first e then n - ticks (since_input e) else 0 })
-held_of kind.Feedback n e =
-    held.Feedback (record {
-      on = feedback n e;
-      age = ticks (map (λ w. w.cycle) (run disagrees (watched n e)));
-      bad = since (is_late n) (λ w. not (is_released w)) (watched n e);
-    })
-
--- a block of this kind and number after these cycles
-abbrev pub block_of : BlockKind → ℕ → List Cycle → BlockView
-block_of k n e = record { kind = k; n = n; held = held_of k n e }
+use Rattle.fb_lib.specs.Value.{value}
 
 -- a block stands for these cycles: it is where they leave a new one of this kind and number
 pub record BlockStands (k : BlockKind) (n : ℕ) (v : BlockView) (e : List Cycle) : Type 0 where
@@ -59,3 +28,31 @@ abbrev pub Stepped : BlockView → List Cycle → List Bool → BlockView → Ty
 Stepped first [] [] last = first ≡ last
 Stepped first (c ∷ e) (given ∷ outputs) last = (v : BlockView) × Stepped first e outputs v × BlockGives v c given × BlockFollows v c last
 Stepped first _ _ last = ⊥
+
+-- each input is false where the list says that it is guarded, and there are as many as the list has
+abbrev pub AreOff : List Bool → List Bool → Type 0
+AreOff [] [] = Unit {0}
+AreOff (g ∷ gs) (b ∷ bs) = (g ≡ true → b ≡ false) × AreOff gs bs
+AreOff _ _ = ⊥
+
+-- what a block of this kind gives is false if it is guarded and its guarded inputs are false, whichever are guarded
+pub record IsOffIfGuarded (k : BlockKind) (ins : List Bool) (given : Bool) : Type 0 where
+  pub off : (gs : List Bool) → AreOff gs ins → is_guarded k gs ≡ true → given ≡ false
+
+-- the value in each cycle
+abbrev pub values : BlockKind → ℕ → List Cycle → List Bool
+values k n [] = []
+values k n (c ∷ e) = value k n (c ∷ e) ∷ values k n e
+
+-- the kind of a block that keeps this
+abbrev pub kind_of : Held → BlockKind
+kind_of held.Const0 = kind.Const0
+kind_of held.Const1 = kind.Const1
+kind_of held.And = kind.And
+kind_of held.Or = kind.Or
+kind_of (held.Latch _) = kind.Latch
+kind_of (held.Estop _) = kind.Estop
+kind_of (held.TwoHand _) = kind.TwoHand
+kind_of (held.OnDelay _) = kind.OnDelay
+kind_of (held.OffDelay _) = kind.OffDelay
+kind_of (held.Feedback _) = kind.Feedback

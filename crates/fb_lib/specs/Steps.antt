@@ -65,32 +65,6 @@ next_feedback n f ticked cmd fb =
     let bad = not (not cmd && fb) && (nat_lt n age || f.bad) in
     record { on = cmd && not bad; age = age; bad = bad }
 
--- the kind of a block that keeps this
-abbrev pub kind_of : Held → BlockKind
-kind_of held.Const0 = kind.Const0
-kind_of held.Const1 = kind.Const1
-kind_of held.And = kind.And
-kind_of held.Or = kind.Or
-kind_of (held.Latch _) = kind.Latch
-kind_of (held.Estop _) = kind.Estop
-kind_of (held.TwoHand _) = kind.TwoHand
-kind_of (held.OnDelay _) = kind.OnDelay
-kind_of (held.OffDelay _) = kind.OffDelay
-kind_of (held.Feedback _) = kind.Feedback
-
--- what a new block keeps
-abbrev pub new_held : BlockKind → Held
-new_held kind.Const0 = held.Const0
-new_held kind.Const1 = held.Const1
-new_held kind.And = held.And
-new_held kind.Or = held.Or
-new_held kind.Latch = held.Latch (record { on = false })
-new_held kind.Estop = held.Estop (record { on = false; ack = false })
-new_held kind.TwoHand = held.TwoHand hands.Spent
-new_held kind.OnDelay = held.OnDelay (record { age = 0 })
-new_held kind.OffDelay = held.OffDelay (record { left = 0 })
-new_held kind.Feedback = held.Feedback (record { on = false; age = 0; bad = false })
-
 -- what a block with this number keeps after one more cycle
 abbrev pub next_held : ℕ → Held → Cycle → Held
 next_held n held.Const0 c = held.Const0

@@ -96,8 +96,3 @@ value kind.TwoHand n e = two_hand n e
 value kind.OnDelay n e = on_delay n e
 value kind.OffDelay n e = off_delay n e
 value kind.Feedback n e = feedback n e
-
--- the value in each cycle
-abbrev pub values : BlockKind → ℕ → List Cycle → List Bool
-values k n [] = []
-values k n (c ∷ e) = value k n (c ∷ e) ∷ values k n e

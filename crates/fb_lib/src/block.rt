@@ -1,8 +1,7 @@
 //! A function block.
 ghost use Rattle.std.specs.Prelude.{◌≡◌, ◌<◌, IsTrue, [], length};
 ghost use Rattle.fb_lib.specs.Kind.{takes};
-ghost use Rattle.fb_lib.specs.Standing.{BlockStands, BlockFollows, BlockGives};
-ghost use Rattle.fb_lib.specs.Guarded.{IsOffIfGuarded};
+ghost use Rattle.fb_lib.specs.Standing.{BlockStands, BlockFollows, BlockGives, IsOffIfGuarded};
 ghost use Rattle.fb_lib.specs.Steps.{next_block, told};
 
 use crate::held::Held;
@@ -17,7 +16,8 @@ pub struct Block {
 }
 
 impl Model for Block {
-    ghost use Rattle.fb_lib.specs.Steps.{BlockView, kind_of};
+    ghost use Rattle.fb_lib.specs.Steps.{BlockView};
+    ghost use Rattle.fb_lib.specs.Standing.{kind_of};
 
     ghost Value = { BlockView };
 

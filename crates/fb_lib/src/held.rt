@@ -1,9 +1,11 @@
 //! What a block keeps between cycles.
-ghost use Rattle.std.specs.Prelude.{◌≡◌, IsTrue, length};
+ghost use Rattle.std.specs.Prelude.{◌≡◌, ℕ, IsTrue, [], length};
 ghost use Rattle.std.specs.List.{list_all, list_any};
 ghost use Rattle.fb_lib.specs.declared.held.Held.TheVariants as held;
 ghost use Rattle.fb_lib.specs.Kind.{takes};
-ghost use Rattle.fb_lib.specs.Steps.{kind_of, new_held, next_held, told};
+ghost use Rattle.fb_lib.specs.Kept.{held_of};
+ghost use Rattle.fb_lib.specs.Standing.{kind_of};
+ghost use Rattle.fb_lib.specs.Steps.{next_held, told};
 
 use crate::delays::{OffDelay, OnDelay};
 use crate::estop::Estop;
@@ -30,7 +32,7 @@ pub(crate) enum Held {
 impl Held {
     /// What a new block of this kind keeps: its values are 0 and false.
     pub(crate) fn new(kind: BlockKind) -> Held
-        ensures { result ≡ new_held kind }
+        ensures { (n : ℕ) → result ≡ held_of kind n [] }
     {
         match kind {
             BlockKind::Const0 => Held::Const0,

@@ -4,10 +4,10 @@ ghost use Rattle.fb_lib.specs.declared.kind.BlockKind.{BlockKind};
 ghost use Rattle.fb_lib.specs.declared.kind.TheConstants.{MOST_INPUTS};
 ghost use Rattle.fb_lib.specs.Cycle.{Cycle};
 ghost use Rattle.fb_lib.specs.Kind.{most_inputs};
-ghost use Rattle.fb_lib.specs.Value.{value, values};
+ghost use Rattle.fb_lib.specs.Value.{value};
+ghost use Rattle.fb_lib.specs.Standing.{values, BlockStands, Stepped, AreOff};
 ghost use Rattle.fb_lib.specs.Steps.{BlockView};
-ghost use Rattle.fb_lib.specs.Standing.{BlockStands, Stepped};
-ghost use Rattle.fb_lib.specs.Guarded.{is_guarded, AreOff};
+ghost use Rattle.fb_lib.specs.Guarded.{is_guarded};
 ghost use Rattle.fb_lib.specs.Rows.{EstopRow, OnDelayRow, OffDelayRow, TwoHandRow, FeedbackRow};
 
 /// The constant is the limit of the definitions.

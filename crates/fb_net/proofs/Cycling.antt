@@ -12,10 +12,10 @@ use Rattle.fb_net.specs.Outputs.{bits_on, driven_images}
 use Rattle.fb_net.specs.NetView.{NetView, plan}
 use Rattle.fb_net.specs.Guarded.{is_output_guarded}
 use Rattle.fb_net.specs.Steps.{run_values, run_blocks, holds_of, net_rule}
-use Rattle.fb_net.specs.Meaning.{net_holds, rule_of, guards_of, net_answer}
+use Rattle.fb_net.specs.Meaning.{net_holds, rule_of, guards_of}
+use Rattle.fb_net.specs.Ran.{net_answer, Ran}
 use Rattle.fb_net.specs.Standing.{BlocksStand, NetFollows, NetGives, KeepsPlan}
 use Rattle.fb_net.specs.Ready.{AllReady}
-use Rattle.fb_net.specs.Ran.{Ran}
 use Rattle.fb_net.proofs.Looking.{values_are, blocks_stand}
 use Rattle.fb_net.proofs.Holding.{all_restored-back, plan_stays}
 use Rattle.fb_net.proofs.Guarding.{off_output}

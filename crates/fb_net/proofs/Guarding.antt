@@ -9,7 +9,8 @@ use Rattle.fsoe_base.specs.Image.{bit_of}
 use Rattle.fb_lib.specs.declared.kind.BlockKind.{BlockKind}
 use Rattle.fb_lib.specs.Cycle.{Cycle}
 use Rattle.fb_lib.specs.Steps.{next_held, told}
-use Rattle.fb_lib.specs.Guarded.{is_guarded, AreOff}
+use Rattle.fb_lib.specs.Guarded.{is_guarded}
+use Rattle.fb_lib.specs.Standing.{AreOff}
 use Rattle.fb_lib.proofs.Guarding.{told_off, value_off as block_off}
 use Rattle.fb_net.specs.declared.wire.Wire.{Wire}
 use Rattle.fb_net.specs.declared.wire.Wire.TheVariants as wire

@@ -6,8 +6,9 @@ use Rattle.fb_lib.specs.declared.kind.BlockKind.{BlockKind}
 use Rattle.fb_lib.specs.declared.kind.BlockKind.TheVariants as kind
 use Rattle.fb_lib.specs.declared.two_hand.TwoHand.TheVariants as hands
 use Rattle.fb_lib.specs.Cycle.{Cycle}
-use Rattle.fb_lib.specs.Steps.{BlockView, kind_of}
-use Rattle.fb_lib.specs.Standing.{held_of}
+use Rattle.fb_lib.specs.Steps.{BlockView}
+use Rattle.fb_lib.specs.Standing.{kind_of}
+use Rattle.fb_lib.specs.Kept.{held_of}
 use Rattle.fb_net.specs.declared.spec.BlockSpec.{BlockSpec}
 use Rattle.fb_net.specs.Values.{NetCycle, NetBlock}
 use Rattle.fb_net.specs.NetView.{net_block, plan}

@@ -1,8 +1,8 @@
 //! A net of function blocks.
 ghost use Rattle.std.specs.Prelude.{◌≡◌, map, length};
 ghost use Rattle.failsafe_io.specs.Application.{GuardsBy};
-ghost use Rattle.fb_net.specs.Meaning.{net_holds, rule_of, guards_of, net_answer};
-ghost use Rattle.fb_net.specs.Ran.{Ran};
+ghost use Rattle.fb_net.specs.Meaning.{net_holds, rule_of, guards_of};
+ghost use Rattle.fb_net.specs.Ran.{net_answer, Ran};
 ghost use Rattle.fb_net.specs.Standing.{NetFollows, NetGives, KeepsPlan};
 
 use crate::cycle::{drive_outputs, run_blocks};

@@ -3,8 +3,7 @@ use Rattle.std.proofs.Common.{◌≡◌, ℕ, ◌+◌, List, subst, ◌∙◌}
 use Rattle.std.specs.Prelude.{Result, Ok, Err}
 use Rattle.std.specs.declared.option.Option.{Option}
 use Rattle.fsoe_io.specs.Faults.{Rose}
-use Rattle.file_run.specs.Halt.{Blames, Declines, Goes, Stalls}
-use Rattle.file_run.specs.WholeLines.{TookOneAtMost}
+use Rattle.file_run.specs.Halt.{Blames, Declines, Goes, Stalls, TookOneAtMost}
 use Rattle.file_run.specs.declared.halt.Halt.{Halt}
 use Rattle.file_run.specs.declared.halt.Halt.TheVariants as halt
 

@@ -7,8 +7,8 @@ use Rattle.std.proofs.lemmas.List.{append-nil, length-append, length_push}
 use Rattle.std.proofs.lemmas.Option.{IfSome_then}
 use Rattle.fsoe_io.specs.Faults.{Rose}
 use Rattle.fsoe_io.specs.Line.{HasNoNewline, most_held}
-use Rattle.fsoe_io.specs.Output.{OutputView, Loses, Passes, most_waiting}
-use Rattle.fsoe_io.specs.Sink.{Grew}
+use Rattle.fsoe_io.specs.Output.{OutputView, Loses, Passes}
+use Rattle.fsoe_io.specs.Sink.{most_waiting, Grew}
 use Rattle.fsoe_io.specs.declared.status.Ended.{Ended}
 use Rattle.fsoe_io.specs.declared.status.Status.{Status}
 use Rattle.fsoe_io.specs.declared.status.Status.TheVariants as status

@@ -6,10 +6,11 @@ use Rattle.std.specs.Io.KnownBytes.{Consumes, prepend_known}
 use Rattle.std.proofs.lemmas.List.{append-nil, length-append, length_push}
 use Rattle.std.proofs.lemmas.List.Elements.{All-append, All-nil, All-push}
 use Rattle.fsoe_io.proofs.Taken.{consumes_then}
-use Rattle.fsoe_io.specs.Line.{Held, IsLine, most_held}
-use Rattle.file_run.specs.Halt.{Halts, Goes, Stalls}
+use Rattle.fsoe_io.specs.Line.{IsLine, most_held}
+use Rattle.fsoe_io.specs.LineReader.{Held}
+use Rattle.file_run.specs.Halt.{Halts, Goes, Stalls, TookOneAtMost}
 use Rattle.file_run.specs.NextLine.{from_line}
-use Rattle.file_run.specs.WholeLines.{TookLines, TookOneAtMost, joined}
+use Rattle.file_run.specs.WholeLines.{TookLines, joined}
 use Rattle.file_run.specs.declared.halt.Halt.{Halt}
 use Rattle.file_run.specs.declared.halt.Halt.TheVariants as halt
 

@@ -2,8 +2,7 @@
 use Rattle.std.specs.Prelude.{◌≡◌, ℕ, ◌+◌, ◌≤◌, List, [], ◌∷◌, ◌++◌, length, IfSome, ◌⊎◌, Err}
 use Rattle.std.specs.Io.KnownBytes.{prepend_known, Consumes}
 use Rattle.std.specs.declared.option.Option.{Option}
-use Rattle.fsoe_io.specs.Output.{most_waiting}
-use Rattle.fsoe_io.specs.Sink.{Grew}
+use Rattle.fsoe_io.specs.Sink.{most_waiting, Grew}
 use Rattle.fsoe_io.specs.declared.status.Ended.{Ended}
 use Rattle.fsoe_io.specs.declared.status.Status.{Status}
 use Rattle.fsoe_io.specs.declared.status.Status.TheVariants as status

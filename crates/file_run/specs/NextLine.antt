@@ -2,7 +2,8 @@
 use Rattle.std.specs.Prelude.{◌≡◌, ℕ, List, [], ◌∷◌, ◌++◌, Result, Ok, Err, IfSome}
 use Rattle.std.specs.declared.option.Option.{Option}
 use Rattle.std.specs.Io.KnownBytes.{Consumes, prepend_known}
-use Rattle.fsoe_io.specs.Line.{Held, IsLine}
+use Rattle.fsoe_io.specs.Line.{IsLine}
+use Rattle.fsoe_io.specs.LineReader.{Held}
 use Rattle.schedule_file.specs.Input.{lines_of}
 use Rattle.file_run.specs.Refusal.{input_cause}
 use Rattle.file_run.specs.declared.halt.Halt.{Halt}

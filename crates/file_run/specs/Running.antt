@@ -3,8 +3,8 @@ use Rattle.std.specs.Prelude.{◌≡◌, ℕ, ◌+◌, ◌*◌, ◌≤◌, ◌<�
 use Rattle.std.specs.declared.option.Option.{Option}
 use Rattle.std.specs.Io.KnownBytes.{Consumes, prepend_known}
 use Rattle.fsoe_io.specs.Line.{most_held}
-use Rattle.fsoe_io.specs.Output.{OutputView, most_waiting}
-use Rattle.fsoe_io.specs.Sink.{Grew}
+use Rattle.fsoe_io.specs.Output.{OutputView}
+use Rattle.fsoe_io.specs.Sink.{most_waiting, Grew}
 use Rattle.fsoe_io.specs.declared.status.Ended.{Ended}
 use Rattle.schedule_file.specs.Input.{InputCause, InputFormat, InputOf, lines_of, texts, steps, with_room, stop_at, input_read}
 use Rattle.schedule_file.specs.Limits.{max_events}

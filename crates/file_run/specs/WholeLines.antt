@@ -16,10 +16,6 @@ pub record TookLines (count : ℕ) (old new : Option (List ℕ)) : Type 0 where
   pub counts : length lines ≡ count
   pub taken : Consumes old new (joined lines)
 
--- a whole line was taken, or nothing
-abbrev pub TookOneAtMost : Option (List ℕ) → Option (List ℕ) → Type 0
-TookOneAtMost old new = (lines : ℕ) × (lines ≤ 1) × TookLines lines old new
-
 -- so many whole lines were taken from a source, and what else was read of it a reader holds
 pub record ReadsTo (lines : ℕ) (old left : Option (List ℕ)) : Type 0 where
   pub held : List ℕ

@@ -1,7 +1,8 @@
 //! The text of an event, or of the end, in its parts.
 ghost use Rattle.std.specs.Prelude.{◌≡◌, ◌+◌, ◌*◌, ◌++◌, ◌^◌, ◌≤◌, ◌<◌, length, OnOk};
-ghost use Rattle.fsoe_io.specs.Faults.{HasCause};
-ghost use Rattle.fsoe_io.specs.Output.{Puts, most_waiting};
+ghost use Rattle.fsoe_io.specs.Calls.{HasCause};
+ghost use Rattle.fsoe_io.specs.Output.{Puts};
+ghost use Rattle.fsoe_io.specs.Sink.{most_waiting};
 ghost use Rattle.file_run.specs.Ending.{Writes};
 ghost use Rattle.file_run.specs.Machine.{IsStanding, Keeps};
 

@@ -1,6 +1,6 @@
 //! How a run ends: its last line and all that waits is sent.
 ghost use Rattle.std.specs.Prelude.{◌≡◌, ◌+◌, ◌++◌, ◌^◌, ◌≤◌, ◌<◌, [], length, OnOk};
-ghost use Rattle.fsoe_io.specs.Faults.{HasCause};
+ghost use Rattle.fsoe_io.specs.Calls.{HasCause};
 ghost use Rattle.fsoe_io.specs.Line.{IsLine};
 ghost use Rattle.fsoe_io.specs.Output.{Puts};
 ghost use Rattle.file_run.specs.Ending.{Writes};

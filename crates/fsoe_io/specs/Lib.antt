@@ -1,9 +1,10 @@
-pub mod Faults
-pub mod Sink
-pub mod Planned
-pub mod Ends
+pub mod Calls
 pub mod Desk
-pub mod Status
+pub mod Ends
+pub mod Faults
 pub mod Line
 pub mod LineReader
 pub mod Output
+pub mod Planned
+pub mod Sink
+pub mod Status

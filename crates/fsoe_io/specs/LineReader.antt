@@ -1,14 +1,26 @@
--- What a reader of lines answers.
+-- What a reader of lines holds, and what it answers.
 use Rattle.std.specs.Prelude.{◌≡◌, ℕ, ◌+◌, ◌≤◌, ◌<◌, Bool, true, false, List, [], ◌∷◌, ◌++◌, length, take, slice_index, IfSome, Some, None, Ok, Err}
 use Rattle.std.specs.Io.KnownBytes.{Consumes, IsAtEnd, Keeps}
 use Rattle.std.specs.declared.result.Result.{Result}
 use Rattle.std.specs.declared.option.Option.{Option}
 use Rattle.fsoe_io.specs.Faults.{Rose}
-use Rattle.fsoe_io.specs.Line.{Held, Numbered, IsLine, HasNoNewline}
+use Rattle.fsoe_io.specs.Line.{IsLine, HasNoNewline}
 use Rattle.fsoe_io.specs.declared.line.LineFault.{LineFault}
 use Rattle.fsoe_io.specs.declared.line.LineFault.TheVariants.{Read, Long, NoNewline}
 use Rattle.fsoe_io.specs.declared.line_reader.Front as front
 use Rattle.fsoe_io.specs.declared.line_reader.Front.TheVariants as front_as
+
+-- a line without its newline, and its number from 1
+pub record Numbered : Type 0 where
+  pub number : ℕ
+  pub bytes : List ℕ
+
+-- the bytes that were taken from a source and stand in no line yet, how many lines were given, and the last of these,
+-- until the next one is asked for
+pub record Held : Type 0 where
+  pub bytes : List ℕ
+  pub lines : ℕ
+  pub line : List ℕ
 
 -- the next line is longer than a line may be
 abbrev pub IsTooLong : List ℕ → Type 0

@@ -3,10 +3,6 @@ use Rattle.std.specs.Prelude.{◌≡◌, ℕ, ◌+◌, ◌<◌, List, ◌++◌, 
 use Rattle.std.specs.declared.option.Option.{Option}
 use Rattle.fsoe_io.specs.Sink.{Grew}
 
--- the most bytes that wait
-abbrev pub most_waiting : ℕ
-most_waiting = 4096
-
 -- the bytes that wait, and how many went to the sink before
 pub record OutputView : Type 0 where
   pub bytes : List ℕ

@@ -13,7 +13,7 @@ pub struct Line {
 
 impl Model for Line {
     ghost use Rattle.std.specs.Prelude.{◌≤◌, take};
-    ghost use Rattle.fsoe_io.specs.Line.{Numbered};
+    ghost use Rattle.fsoe_io.specs.LineReader.{Numbered};
 
     ghost Value = { Numbered };
 

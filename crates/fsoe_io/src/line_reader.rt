@@ -1,7 +1,7 @@
 //! Lines from a source.
 ghost use Rattle.std.specs.Prelude.{◌≡◌, ◌+◌, ◌-◌, ◌^◌, ◌≤◌, ◌<◌, false, [], length, take, drop, IsTrue, IfSome, Some};
 ghost use Rattle.std.specs.Io.KnownBytes.{prepend_known};
-ghost use Rattle.fsoe_io.specs.Faults.{HasCause};
+ghost use Rattle.fsoe_io.specs.Calls.{HasCause};
 ghost use Rattle.fsoe_io.specs.Line.{IsLine, most_held};
 ghost use Rattle.fsoe_io.specs.LineReader.{Reads, given, last_line, BeginsAs, Fills, Counts, Blames, Stalls};
 
@@ -53,8 +53,7 @@ pub struct LineReader {
 
 impl Model for LineReader {
     ghost use Rattle.std.specs.Prelude.{◌-◌, ◌≤◌, take, drop};
-    ghost use Rattle.fsoe_io.specs.Line.{Held};
-    ghost use Rattle.fsoe_io.specs.LineReader.{BeginsAs};
+    ghost use Rattle.fsoe_io.specs.LineReader.{Held, BeginsAs};
 
     ghost Value = { Held };
 

@@ -1,9 +1,8 @@
 //! Sinks in memory.
 ghost use Rattle.std.specs.Prelude.{◌≡◌, ◌+◌, ◌-◌, ◌≤◌, ◌<◌, ◌||◌, Some, None, [], length, min, ◌++◌, IfOk, IfSome, IsNone, SomeIff, is_err};
 ghost use Rattle.fsoe_io.specs.Ends.{finds_no_room, refusals_after, store_faults};
-ghost use Rattle.fsoe_io.specs.Faults.{HasCause};
+ghost use Rattle.fsoe_io.specs.Calls.{HasCause, TakesSome, WriteGrows};
 ghost use Rattle.fsoe_io.specs.Planned.{is_next_listed, with_one_more};
-ghost use Rattle.fsoe_io.specs.Sink.{TakesSome, WriteGrows};
 
 use crate::planned::PlannedCalls;
 use crate::sink::Sink;

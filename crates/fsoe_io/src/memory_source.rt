@@ -2,7 +2,7 @@
 ghost use Rattle.std.specs.Io.KnownBytes.{ReadConsumes};
 ghost use Rattle.std.specs.Io.{ReadsAtMost};
 ghost use Rattle.std.specs.Prelude.{◌≡◌, ◌<◌, Some, List, ℕ, length, min, is_err, IfOk};
-ghost use Rattle.fsoe_io.specs.Faults.{HasCause};
+ghost use Rattle.fsoe_io.specs.Calls.{HasCause};
 ghost use Rattle.fsoe_io.specs.Planned.{is_next_listed, planned_faults, with_one_more};
 
 use crate::planned::PlannedCalls;

@@ -1,7 +1,8 @@
 //! A buffer in front of a sink.
 ghost use Rattle.std.specs.Prelude.{◌≡◌, ◌+◌, ◌^◌, ◌≤◌, ◌<◌, [], ◌++◌, length, OnOk};
-ghost use Rattle.fsoe_io.specs.Faults.{HasCause};
-ghost use Rattle.fsoe_io.specs.Output.{Puts, most_waiting};
+ghost use Rattle.fsoe_io.specs.Calls.{HasCause};
+ghost use Rattle.fsoe_io.specs.Output.{Puts};
+ghost use Rattle.fsoe_io.specs.Sink.{most_waiting};
 
 use crate::put::put_all;
 use crate::sink::Sink;

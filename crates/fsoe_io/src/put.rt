@@ -1,6 +1,6 @@
 //! Writing all of some bytes.
 ghost use Rattle.std.specs.Prelude.{◌<◌, length, take, MatchResult, IfErr};
-ghost use Rattle.fsoe_io.specs.Faults.{HasCause};
+ghost use Rattle.fsoe_io.specs.Calls.{HasCause};
 ghost use Rattle.fsoe_io.specs.Sink.{Grew};
 
 use crate::sink::Sink;

@@ -1,8 +1,7 @@
 //! A byte output.
 ghost use Rattle.std.specs.Prelude.{List, ℕ};
 ghost use Rattle.std.specs.declared.option.Option.{Option};
-ghost use Rattle.fsoe_io.specs.Faults.{HasCause};
-ghost use Rattle.fsoe_io.specs.Sink.{WriteGrows, TakesSome};
+ghost use Rattle.fsoe_io.specs.Calls.{HasCause, WriteGrows, TakesSome};
 
 use crate::source::Failed;
 

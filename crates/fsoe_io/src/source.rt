@@ -3,7 +3,7 @@ ghost use Rattle.std.specs.Prelude.{List, ℕ};
 ghost use Rattle.std.specs.declared.option.Option.{Option};
 ghost use Rattle.std.specs.Io.{ReadsAtMost};
 ghost use Rattle.std.specs.Io.KnownBytes.{ReadConsumes};
-ghost use Rattle.fsoe_io.specs.Faults.{HasCause};
+ghost use Rattle.fsoe_io.specs.Calls.{HasCause};
 
 /// A call of a source or a sink failed.
 #[derive(Clone, Copy, Debug, PartialEq, Eq)]

@@ -2,8 +2,7 @@
 ghost use Rattle.std.specs.Prelude.{◌≡◌, List, None, ℕ};
 ghost use Rattle.std.specs.Io.{ReadsAtMost};
 ghost use Rattle.std.specs.Io.KnownBytes.{ReadConsumes, WriteAppends};
-ghost use Rattle.fsoe_io.specs.Faults.{HasCause};
-ghost use Rattle.fsoe_io.specs.Sink.{TakesSome, WriteGrows};
+ghost use Rattle.fsoe_io.specs.Calls.{HasCause, TakesSome, WriteGrows};
 
 use crate::sink::Sink;
 use crate::source::{Failed, Source};

@@ -26,7 +26,8 @@ use Rattle.end_model.proofs.Links.{taken_crc}
 use Rattle.end_model.proofs.ReadBack.{read_back}
 use Rattle.master_core.specs.declared.phase.Phase.TheVariants as phase
 use Rattle.fsoe_base.specs.Did.{takes as accepts}
-use Rattle.seq_chain.specs.Chain.{fresh, chain_sent, frame_sent}
+use Rattle.seq_chain.specs.Chain.{fresh}
+use Rattle.seq_chain.specs.Session.{chain_sent, frame_sent}
 use Rattle.master_core.specs.Master.{Outcome, drops, makes_due, begins, answered_by}
 use Rattle.master_core.specs.Master as machine
 use Rattle.master_core.specs.ViewOf.{Notes, notes_of, view_in}

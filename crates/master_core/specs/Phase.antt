@@ -8,9 +8,8 @@ use Rattle.fsoe_base.specs.declared.command.State.TheVariants as state
 use Rattle.fsoe_base.specs.Codes.{command_not_allowed}
 use Rattle.seq_chain.specs.declared.chain.Chain.{Chain}
 use Rattle.seq_chain.specs.declared.session.Session.{Session}
-use Rattle.seq_chain.specs.Chain.{fits_next}
+use Rattle.seq_chain.specs.Session.{fits_next, chain_in, last_in}
 use Rattle.seq_chain.specs.Reset.{reset_frame}
-use Rattle.seq_chain.specs.Session.{chain_in, last_in}
 use Rattle.seq_chain.specs.Opened.{session_fault}
 use Rattle.seq_chain.specs.SessionFrame.{SessionFrameView}
 use Rattle.param_load.specs.declared.master_settings.MasterSettings.{MasterSettings}

@@ -3,8 +3,7 @@ use Rattle.std.specs.Prelude.{ℕ, List, Result, Ok, Err, replicate, if◌then�
 use Rattle.fsoe_base.specs.declared.command.Code.{Code}
 use Rattle.fsoe_base.specs.declared.command.Command.{Command}
 use Rattle.fsoe_base.specs.Codes.{wrong_data}
-use Rattle.seq_chain.specs.Chain.{frame_sent}
-use Rattle.seq_chain.specs.Session.{first_session, session_taken, session_sent}
+use Rattle.seq_chain.specs.Session.{frame_sent, first_session, session_taken, session_sent}
 use Rattle.seq_chain.specs.SessionFrame.{SessionFrameView}
 use Rattle.param_load.specs.declared.upload.Progress.{Progress}
 use Rattle.param_load.specs.declared.upload.Progress.TheVariants as progress

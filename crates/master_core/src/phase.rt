@@ -36,13 +36,12 @@ fn has_conn(settings: &MasterSettings, command: Command, field: u16) -> bool
 impl Phase {
     ghost use Rattle.std.specs.Prelude.{◌≡◌, ◌≤◌, length, Some, IfOk, option_copied};
     ghost use Rattle.std.specs.Result.{result_err};
-    ghost use Rattle.seq_chain.specs.Chain.{tested};
+    ghost use Rattle.seq_chain.specs.Session.{tested, HasPassed};
     ghost use Rattle.master_core.specs.declared.states.Due.{Due};
     ghost use Rattle.master_core.specs.declared.states.Exchange.{Exchange};
     ghost use Rattle.master_core.specs.declared.phase.Phase.TheVariants as phase;
     ghost use Rattle.master_core.specs.Kit.{connection_download, parameter_download};
     ghost use Rattle.master_core.specs.States.{with_download, first_data};
-    ghost use Rattle.seq_chain.specs.Session.{HasPassed};
     ghost use Rattle.seq_chain.specs.Opened.{is_repeat};
     ghost use Rattle.end_model.specs.Setup.{OfMaster, receives};
     ghost use Rattle.master_core.specs.Phase.{IsUnder, IsBegin, IsSession, IsConnection, IsParameter, state_of, is_reset, session_of, chain_of, kept_in, allows, fault, next_phase, placed, sent_phase, due_frame, outputs_in, terms_in};

@@ -14,7 +14,7 @@ use Rattle.plant_conf.specs.declared.key.KeyName.TheVariants as name
 use Rattle.plant_conf.specs.Forms.{number, block_kind, wires}
 use Rattle.param_load.specs.SameConn.{same_conn}
 use Rattle.plant_conf.specs.Keys.{PlantKeys, key_of, required, optional, block, drive, bound}
-use Rattle.fb_lib.specs.Standing.{block_of}
+use Rattle.fb_lib.specs.Kept.{block_of}
 use Rattle.fb_lib.specs.declared.kind.BlockKind.{BlockKind}
 use Rattle.fb_net.specs.declared.wire.Wire.{Wire}
 use Rattle.plant_conf.specs.Meaning.{has_too_many, few_tables, apart, plant_keys, connections, all_of, document_meaning}

@@ -2,7 +2,7 @@
 -- stands for where it isn't, and what its value may be.
 use Rattle.std.specs.Prelude.{ℕ, ◌-◌, ◌^◌, length, List, [], Option, Some, None, Result, Ok}
 use Rattle.toml.specs.Data.{Data, Members, get_member}
-use Rattle.fb_lib.specs.Standing.{block_of}
+use Rattle.fb_lib.specs.Kept.{block_of}
 use Rattle.fb_net.specs.declared.spec.BlockSpec.{BlockSpec}
 use Rattle.fb_net.specs.declared.spec.Drive.{Drive}
 use Rattle.param_load.specs.declared.app_rule.AppRule.{AppRule}

@@ -8,7 +8,8 @@ use Rattle.schedule_file.specs.Fields.{◌>>=◌, value_or, next_field, number_1
 use Rattle.schedule_file.specs.FieldsRead.{not_hex}
 use Rattle.schedule_file.specs.declared.line_cause.LineCause.{LineCause}
 use Rattle.schedule_file.specs.declared.line_cause.LineCause.TheVariants as cause
-use Rattle.process_image.specs.EventLine.{write_line, write_behind, written_at, not_written, cause_or}
+use Rattle.process_image.specs.EventLine.{write_line, write_behind, written_at}
+use Rattle.process_image.specs.Said.{not_written, cause_or}
 use Rattle.process_image.specs.declared.event.ImageEvent.TheVariants as event
 use Rattle.process_image.specs.declared.event.ImageLine.TheVariants as line
 

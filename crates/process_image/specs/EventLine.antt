@@ -38,11 +38,6 @@ end_at slot ends = value_or cause.NoLink (numbered slot ends)
 abbrev pub bare_line : ImageLine → List (List ℕ) → Result ImageLine LineCause
 bare_line says fields = map_ok (λ none. says) (no_field fields)
 
--- a cause, or the one for want of a value that comes before it
-abbrev pub cause_or : {A : Type 0} → LineCause → Result A LineCause → LineCause
-cause_or cause (Ok x) = cause
-cause_or cause (Err e) = e
-
 -- bytes from a place on, which lie inside an input image of this size
 abbrev pub written_at : ℕ → List ℕ → ℕ → Result ImageLine LineCause
 written_at size bytes at = if nat_le (at + length bytes) size then Ok (line.Step (event.Write at bytes)) else Err cause.Position
@@ -61,13 +56,6 @@ abbrev pub write_line : ℕ → List (List ℕ) → Result ImageLine LineCause
 write_line size fields = do
   place ← next_field fields
   write_behind size place.0 place.1
-
--- why a place says nothing that is written with these fields behind it, of which none is bytes: there isn't one, the
--- place is no number, or there are no bytes
-abbrev pub not_written : List ℕ → List (List ℕ) → LineCause
-not_written place [] = cause.Fields
-not_written place (digits ∷ []) = cause_or cause.Hex (number_16 place)
-not_written place (digits ∷ next ∷ more) = cause.Fields
 
 -- safe data bytes, exactly as many as the end of the slot sends
 abbrev pub put_line : List SlotEnd → List (List ℕ) → Result ImageLine LineCause

@@ -2,7 +2,8 @@
 ghost use Rattle.std.specs.Prelude.{◌≡◌, MatchOption, None, Some};
 ghost use Rattle.schedule_file.specs.Field.{fields_of};
 ghost use Rattle.schedule_file.specs.FieldsRead.{Becomes};
-ghost use Rattle.process_image.specs.EventLine.{write_behind, not_written};
+ghost use Rattle.process_image.specs.EventLine.{write_behind};
+ghost use Rattle.process_image.specs.Said.{not_written};
 
 use crate::event::ImageEvent;
 use fsoe_base::ByteList;

@@ -36,11 +36,6 @@ node_said end count profile (Some word.Nonce) fields = nonce_line end profile fi
 node_said end count profile (Some word.Local) fields = bare_line (line.Step (event.Local end)) fields
 node_said end count profile (Some word.End) fields = bare_line line.End fields
 
--- the same of an event: the word `end` is that of none
-abbrev pub node_event_said : End → ℕ → Profile → Word → List (List ℕ) → Result ScheduleLine LineCause
-node_event_said end count profile word.End fields = Err cause.Word
-node_event_said end count profile word fields = node_said end count profile (Some word) fields
-
 -- what the fields of a line say, of which the first is its word
 abbrev pub node_said_by : End → ℕ → Profile → List (List ℕ) → Result ScheduleLine LineCause
 node_said_by end count profile [] = Err cause.Word

@@ -1,14 +1,16 @@
 -- Which events the pairs of a schedule may have, and how their lines begin.
-use Rattle.schedule_file.specs.declared.pairs_line.PairsLine.{PairsLine}
-use Rattle.schedule_file.specs.Event.{Fits}
-use Rattle.schedule_file.specs.declared.pairs_line.PairsLine.TheVariants as said
+use Rattle.std.specs.Prelude.{◌≡◌, ℕ, Bool, true, false, List, ◌∷◌, ◌++◌, Option, Some, None, decimal}
+use Rattle.fsoe_base.specs.declared.command.End.{End}
+use Rattle.param_load.specs.declared.profile.Profile.{Profile}
 use Rattle.schedule_file.specs.declared.event.Event.{Event}
-use Rattle.schedule_file.specs.PairsEvent.{numbered}
+use Rattle.schedule_file.specs.declared.header_kind.HeaderKind.TheVariants as kind
 use Rattle.schedule_file.specs.declared.pairs_line.PairsEvent.{PairsEvent}
 use Rattle.schedule_file.specs.declared.pairs_line.PairsEvent.TheVariants as event
-use Rattle.param_load.specs.declared.profile.Profile.{Profile}
-use Rattle.std.specs.Prelude.{ℕ, Option, None, decimal, Some, ◌∷◌, List, ◌++◌, true, Bool, false}
-use Rattle.fsoe_base.specs.declared.command.End.{End}
+use Rattle.schedule_file.specs.declared.pairs_line.PairsLine.{PairsLine}
+use Rattle.schedule_file.specs.declared.pairs_line.PairsLine.TheVariants as said
+use Rattle.schedule_file.specs.Event.{Fits}
+use Rattle.schedule_file.specs.Header.{Heading}
+use Rattle.schedule_file.specs.PairsEvent.{numbered}
 
 -- an event fits the ends of a pair, where both are found what they send and their profiles
 abbrev pub FitsEnds : Option (End → ℕ) → Option (End → Profile) → Event → Type 0
@@ -38,3 +40,7 @@ line_of_event (event.One pair what) = said.One pair what
 abbrev pub said_in : Bool → PairsEvent → PairsLine
 said_in true kept = said.End
 said_in false kept = line_of_event kept
+
+-- the header describes both ends of a pair
+abbrev pub IsPair : Heading → Type 0
+IsPair h = h.kind ≡ kind.Pair

@@ -1,7 +1,7 @@
 -- A header of several pairs as far as it is read: its first line, and for each pair a `pair` line and the lines that
 -- the header of one pair has between its first line and `go`, which are read as those of such a header. At last comes
 -- `go`.
-use Rattle.std.specs.Prelude.{◌≡◌, ℕ, ◌+◌, ◌==◌, ◌&&◌, nat_le, Bool, true, false, length, List, [], ◌∷◌, ◌++◌, codes, Result, Ok, Err, if◌then◌else◌}
+use Rattle.std.specs.Prelude.{ℕ, ◌+◌, ◌==◌, ◌&&◌, nat_le, Bool, true, false, length, List, [], ◌∷◌, ◌++◌, codes, Result, Ok, Err, if◌then◌else◌}
 use Rattle.std.specs.Str.{bytes_eq}
 use Rattle.schedule_file.specs.Field.{fields_of}
 use Rattle.schedule_file.specs.Fields.{◌>>=◌, one_field, number_16}
@@ -95,7 +95,3 @@ pairs_text_taken other h text = pairs_fields_taken h text (fields_of text)
 -- a header after its next line, or why that line is refused
 abbrev pub pairs_heading_after : PairsHeading → List ℕ → Result PairsHeading LineCause
 pairs_heading_after h text = pairs_text_taken h.stage h text
-
--- the header describes both ends of a pair
-abbrev pub IsPair : Heading → Type 0
-IsPair h = h.kind ≡ kind.Pair

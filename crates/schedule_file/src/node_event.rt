@@ -2,8 +2,8 @@
 ghost use Rattle.std.specs.Prelude.{◌≡◌, IfOk, OnOk, OnErr};
 ghost use Rattle.fsoe_base.specs.LengthsOf.{length_of};
 ghost use Rattle.schedule_file.specs.Event.{FitsNode, LineFits};
-ghost use Rattle.schedule_file.specs.FieldsRead.{fields_after, Becomes};
-ghost use Rattle.schedule_file.specs.NodeEvent.{word_of, node_event_said, node_line};
+ghost use Rattle.schedule_file.specs.FieldsRead.{fields_after, Becomes, node_event_said};
+ghost use Rattle.schedule_file.specs.NodeEvent.{word_of, node_line};
 
 use crate::event::{Event, ScheduleLine};
 use crate::event_line::{

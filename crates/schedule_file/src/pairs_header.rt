@@ -8,7 +8,8 @@ ghost use Rattle.schedule_file.specs.Header.{IsMasterOf, IsSlaveOf};
 ghost use Rattle.schedule_file.specs.Input.{heading_profile, own_length};
 ghost use Rattle.schedule_file.specs.NodeHeader.{may_end};
 ghost use Rattle.schedule_file.specs.PairsEvent.{numbered};
-ghost use Rattle.schedule_file.specs.PairsHeader.{IsPair, last_taken, pair_begun, next_pair, pair_taken, pairs_fields_taken, pairs_heading_after, pairs_heading_is_whole, pairs_heading_new, pairs_of, pairs_title_taken};
+ghost use Rattle.schedule_file.specs.PairsHeader.{last_taken, pair_begun, next_pair, pair_taken, pairs_fields_taken, pairs_heading_after, pairs_heading_is_whole, pairs_heading_new, pairs_of, pairs_title_taken};
+ghost use Rattle.schedule_file.specs.PairsFit.{IsPair};
 ghost use Rattle.schedule_file.specs.PairsLinesLeft.{pairs_lines_left};
 
 use crate::field::{cut, number_16, one_field};
@@ -57,7 +58,8 @@ pub struct PairsHeader {
 
 impl Model for PairsHeader {
     ghost use Rattle.std.specs.Prelude.{◌≤◌, ◌<◌, All, vec_capacity, vec_len};
-    ghost use Rattle.schedule_file.specs.PairsHeader.{IsPair, PairsHeading};
+    ghost use Rattle.schedule_file.specs.PairsHeader.{PairsHeading};
+    ghost use Rattle.schedule_file.specs.PairsFit.{IsPair};
     ghost use Rattle.schedule_file.specs.declared.pairs_header.TheConstants.{MOST_PAIRS};
 
     ghost Value = { PairsHeading };

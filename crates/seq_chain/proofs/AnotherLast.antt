@@ -9,7 +9,8 @@ use Rattle.fsoe_frame.specs.Parts.{Frame}
 use Rattle.seq_chain.specs.declared.link.Link.{Link}
 use Rattle.seq_chain.specs.Cover.{place, cover, first_of, crc_0}
 use Rattle.seq_chain.specs.Numbers.{following, stepped, number_of}
-use Rattle.seq_chain.specs.Sealing.{fits, steps_again}
+use Rattle.seq_chain.specs.Sealing.{fits}
+use Rattle.seq_chain.specs.Differences.{steps_again}
 use Rattle.seq_chain.specs.FreshIds.{SteppedAlikeAfter, step_in_last}
 use Rattle.seq_chain.proofs.ToldApart.{last_told, first_group, crc_0_is}
 use Rattle.seq_chain.proofs.OneChange.{refused, fitting}

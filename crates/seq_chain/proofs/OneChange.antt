@@ -7,8 +7,8 @@ use Rattle.fsoe_frame.specs.Parts.{Frame, AreBytes}
 use Rattle.seq_chain.specs.declared.link.Link.{Link}
 use Rattle.seq_chain.specs.Cover.{cover, crcs_from, crcs, first_of, crc_0}
 use Rattle.seq_chain.specs.Numbers.{next, following, stepped, repeats_crc, number_of}
-use Rattle.seq_chain.specs.Sealing.{fits, steps_again}
-use Rattle.seq_chain.specs.Differences.{DifferAt, DifferInCommand, DifferInConnection, DifferInGroup, DifferInCrc, SteppedAlike}
+use Rattle.seq_chain.specs.Sealing.{fits}
+use Rattle.seq_chain.specs.Differences.{steps_again, DifferAt, DifferInCommand, DifferInConnection, DifferInGroup, DifferInCrc, SteppedAlike}
 use Rattle.seq_chain.proofs.ToldApart.{command_told, connection_told, groups_told, first_group, crc_0_is}
 
 pub refused : (b : Bool) → b ≢ true → b ≡ false

@@ -3,7 +3,8 @@ use Rattle.std.proofs.Common.{ℕ, List, IsTrue, refl}
 use Rattle.std.specs.Cmp.Lexicographic.{bytes_decides}
 use Rattle.fsoe_frame.specs.Parts.{Frame}
 use Rattle.seq_chain.specs.declared.chain.Chain.{Chain}
-use Rattle.seq_chain.specs.Chain.{sealed_by, fits_next, turned}
+use Rattle.seq_chain.specs.Chain.{sealed_by, turned}
+use Rattle.seq_chain.specs.Session.{fits_next}
 
 -- the peer's next frame is what its chain seals
 pub next_fits : (chain : Chain) (conn cmd : ℕ) (load : List ℕ) → IsTrue (fits_next (turned chain) (sealed_by chain conn cmd load))

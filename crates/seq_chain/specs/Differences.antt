@@ -1,10 +1,11 @@
 -- What two frames differ in, and how their numbers go.
-use Rattle.std.specs.Prelude.{◌≡◌, ◌≢◌, ℕ, zero, suc, ◌+◌, List, ◌∷◌, length, Option}
+use Rattle.std.specs.Prelude.{◌≡◌, ◌≢◌, ℕ, zero, suc, ◌+◌, List, ◌∷◌, length, Option, Bool}
 use Rattle.fsoe_crc.specs.Turned.{turned_bits}
 use Rattle.seq_chain.specs.declared.link.Link.{Link}
 use Rattle.fsoe_frame.specs.Layout.{groups}
 use Rattle.fsoe_frame.specs.Parts.{Frame}
-use Rattle.seq_chain.specs.Sealing.{steps_again}
+use Rattle.seq_chain.specs.Cover.{crc_0}
+use Rattle.seq_chain.specs.Numbers.{repeats_crc}
 
 -- two lists differ at this place, counted from 0, and nowhere else
 abbrev pub DifferAt : {A : Type 0} → ℕ → List A → List A → Type 0
@@ -48,6 +49,10 @@ turned_within _ _ = 0
 -- in how many bits two frames of one length differ
 abbrev pub turned_in_frames : Frame → Frame → ℕ
 turned_in_frames f g = turned_bits f.cmd g.cmd + turned_within f.load g.load + turned_within f.crcs g.crcs + turned_bits f.conn g.conn
+
+-- whether the number of a frame is stepped once more, since else it would have the CRC_0 of the frame before it
+abbrev pub steps_again : ℕ → Option Link → Frame → Bool
+steps_again last before frame = repeats_crc (λ n. crc_0 last frame.conn n frame.cmd frame.load) before
 
 -- the second step of the number comes for both frames or for neither
 abbrev pub SteppedAlike : ℕ → Option Link → Frame → Frame → Type 0

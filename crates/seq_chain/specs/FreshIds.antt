@@ -2,7 +2,7 @@
 use Rattle.std.specs.Prelude.{◌≡◌, ℕ, ◌+◌, ◌*◌, List, [], ◌∷◌, Option}
 use Rattle.seq_chain.specs.declared.link.Link.{Link}
 use Rattle.fsoe_frame.specs.Parts.{Frame}
-use Rattle.seq_chain.specs.Sealing.{steps_again}
+use Rattle.seq_chain.specs.Differences.{steps_again}
 
 -- the first group of a load as a number, low byte first
 abbrev pub first_number : List ℕ → ℕ

@@ -18,11 +18,6 @@ abbrev pub last_crc : Option Link → ℕ
 last_crc None = 0
 last_crc (Some link) = link.crc
 
--- the CRC_0 of the last frame, if there is one
-abbrev pub crc_noted : Option Link → Option ℕ
-crc_noted None = None
-crc_noted (Some link) = Some link.crc
-
 -- a number, stepped once more where the frame would have the CRC_0 of the one before it
 abbrev pub stepped : ℕ → Bool → ℕ
 stepped n same = if same then next n else n

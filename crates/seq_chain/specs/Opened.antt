@@ -1,5 +1,5 @@
 -- The tests of a delivered frame, in order: first those that need no session. The order is this profile's own.
-use Rattle.std.specs.Prelude.{◌≡◌, ℕ, ◌==◌, Bool, List, length, Option, Some, None, Result, Ok, Err, if◌then◌else◌, not, nat_eq, false}
+use Rattle.std.specs.Prelude.{ℕ, ◌==◌, Bool, List, length, Option, Some, None, Result, Ok, Err, if◌then◌else◌, not, nat_eq, false}
 use Rattle.std.specs.Cmp.Lexicographic.{pointwise}
 use Rattle.fsoe_base.specs.declared.command.Code.{Code}
 use Rattle.fsoe_base.specs.declared.command.Command.{Command}
@@ -30,11 +30,6 @@ opened l repeats bytes =
     if length bytes == frame_len l
     then (if repeats then opened_as.Drop dropped.Repeat else command_opened (frame_of l bytes) (command_of (frame_of l bytes).cmd))
     else opened_as.Drop dropped.Length
-
--- a frame of a session has l bytes of safe data
-abbrev pub HasLen : ℕ → Opened → Type 0
-HasLen l (opened_as.OfSession f) = length f.frame.load ≡ l
-HasLen l _ = Unit {0}
 
 -- whether these are the bytes of the frame that is kept as taken last
 abbrev pub is_repeat : Option (List ℕ) → List ℕ → Bool

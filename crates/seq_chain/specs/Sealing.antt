@@ -3,8 +3,8 @@ use Rattle.std.specs.Prelude.{ℕ, List, Bool, Option, nat_eq}
 use Rattle.std.specs.Cmp.Lexicographic.{pointwise}
 use Rattle.seq_chain.specs.declared.link.Link.{Link}
 use Rattle.fsoe_frame.specs.Parts.{Frame}
-use Rattle.seq_chain.specs.Cover.{crcs, crc_0, first_of}
-use Rattle.seq_chain.specs.Numbers.{repeats_crc, number_of}
+use Rattle.seq_chain.specs.Cover.{crcs, first_of}
+use Rattle.seq_chain.specs.Numbers.{number_of}
 
 -- the frame that a sender makes: its CRCs are those under its number
 abbrev pub sealed : ℕ → Option Link → ℕ → ℕ → List ℕ → Frame
@@ -17,7 +17,3 @@ fits last before frame = pointwise nat_eq frame.crcs (sealed last before frame.c
 -- what is noted of a frame: its number and its CRC_0
 abbrev pub noted : ℕ → Option Link → Frame → Link
 noted last before frame = record { number = number_of last before frame.conn frame.cmd frame.load; crc = first_of frame.crcs }
-
--- whether the number of a frame is stepped once more, since else it would have the CRC_0 of the frame before it
-abbrev pub steps_again : ℕ → Option Link → Frame → Bool
-steps_again last before frame = repeats_crc (λ n. crc_0 last frame.conn n frame.cmd frame.load) before

@@ -2,8 +2,9 @@
 
 ghost use Rattle.std.specs.Prelude.{◌≡◌, length, IsTrue, Some};
 ghost use Rattle.fsoe_base.specs.Lengths.{is_length, group_count};
-ghost use Rattle.seq_chain.specs.Numbers.{following, crc_noted};
-ghost use Rattle.seq_chain.specs.Chain.{fresh, chain_sent, frame_sent, fits_next, tested, after_taken, turned};
+ghost use Rattle.seq_chain.specs.Numbers.{following};
+ghost use Rattle.seq_chain.specs.Session.{crc_noted, chain_sent, frame_sent, fits_next, tested};
+ghost use Rattle.seq_chain.specs.Chain.{fresh, after_taken, turned};
 
 use crate::compare::crcs_are;
 use crate::link::{Link, crc_of, crc_or_zero, following_number, number_with_crcs};

@@ -3,7 +3,8 @@
 ghost use Rattle.std.specs.Prelude.{◌≡◌, length, IsTrue};
 ghost use Rattle.fsoe_base.specs.Lengths.{is_length, group_count};
 ghost use Rattle.seq_chain.specs.Cover.{crcs};
-ghost use Rattle.seq_chain.specs.Numbers.{next, following, last_crc, crc_noted, number_of};
+ghost use Rattle.seq_chain.specs.Numbers.{next, following, last_crc, number_of};
+ghost use Rattle.seq_chain.specs.Session.{crc_noted};
 
 use crate::cover::{Crcs, crcs_into};
 

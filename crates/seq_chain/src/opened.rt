@@ -3,7 +3,8 @@
 ghost use Rattle.std.specs.Prelude.{◌≡◌, IsTrue};
 ghost use Rattle.fsoe_base.specs.Command.{command_byte};
 ghost use Rattle.fsoe_base.specs.Lengths.{is_length};
-ghost use Rattle.seq_chain.specs.Opened.{opened, reset_opened, HasLen};
+ghost use Rattle.seq_chain.specs.Opened.{opened, reset_opened};
+ghost use Rattle.seq_chain.specs.Session.{HasLen};
 ghost use Rattle.seq_chain.specs.Reset as reset;
 
 use crate::reset::reset_view;

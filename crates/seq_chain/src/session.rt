@@ -2,8 +2,7 @@
 ghost use Rattle.std.specs.Prelude.{◌≡◌, length, IsTrue, Some, IfOk, option_copied};
 ghost use Rattle.std.specs.Result.{result_err};
 ghost use Rattle.fsoe_base.specs.Lengths.{is_length};
-ghost use Rattle.seq_chain.specs.Chain.{fits_next, tested, frame_sent};
-ghost use Rattle.seq_chain.specs.Session.{first_session, session_taken, session_sent, chain_in, last_in};
+ghost use Rattle.seq_chain.specs.Session.{fits_next, tested, frame_sent, first_session, session_taken, session_sent, chain_in, last_in};
 ghost use Rattle.seq_chain.specs.Opened as words;
 
 use crate::chain::Chain;

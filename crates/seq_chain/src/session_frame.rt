@@ -91,7 +91,8 @@ pub struct SessionFrame<'a> {
 }
 
 impl<'a> Model for SessionFrame<'a> {
-    ghost use Rattle.seq_chain.specs.SessionFrame.{SessionFrameView, IsSessionFrame};
+    ghost use Rattle.seq_chain.specs.SessionFrame.{SessionFrameView};
+    ghost use Rattle.seq_chain.specs.Session.{IsSessionFrame};
 
     ghost Value = { SessionFrameView };
 

@@ -12,7 +12,8 @@ use Rattle.fsoe_base.specs.Lengths.{frame_len}
 use Rattle.fsoe_frame.specs.Parts.{AreBytes, bytes_of, frame_of}
 use Rattle.fsoe_frame.proofs.Places.{Whole, FrameAt, whole, frame_at}
 use Rattle.seq_chain.specs.declared.chain.Chain.{Chain}
-use Rattle.seq_chain.specs.Chain.{after_taken, chain_sent, frame_sent}
+use Rattle.seq_chain.specs.Chain.{after_taken}
+use Rattle.seq_chain.specs.Session.{chain_sent, frame_sent}
 use Rattle.seq_chain.specs.Cover.{first_of}
 use Rattle.seq_chain.specs.Sealing as sealing
 use Rattle.seq_chain.specs.SessionFrame.{SessionFrameView}

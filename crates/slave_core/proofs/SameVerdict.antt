@@ -12,7 +12,7 @@ use Rattle.fsoe_base.specs.Lengths.{frame_len}
 use Rattle.fsoe_frame.specs.Parts.{Frame, frame_of}
 use Rattle.seq_chain.specs.declared.opened.Opened.{Opened}
 use Rattle.seq_chain.specs.declared.opened.Opened.TheVariants as opened_as
-use Rattle.seq_chain.specs.Chain.{fits_next}
+use Rattle.seq_chain.specs.Session.{fits_next}
 use Rattle.seq_chain.specs.Cover.{first_of}
 use Rattle.seq_chain.specs.Opened.{opened}
 use Rattle.seq_chain.specs.Sealing as sealing

@@ -8,8 +8,7 @@ use Rattle.fsoe_base.specs.declared.command.Code.{Code}
 use Rattle.seq_chain.specs.declared.chain.Chain.{Chain}
 use Rattle.seq_chain.specs.declared.link.Link.{Link}
 use Rattle.seq_chain.specs.declared.session.Session.{Session}
-use Rattle.seq_chain.specs.Chain.{fits_next}
-use Rattle.seq_chain.specs.Session.{HasPassed, chain_in, last_in}
+use Rattle.seq_chain.specs.Session.{fits_next, HasPassed, chain_in, last_in}
 use Rattle.seq_chain.specs.Opened.{session_fault}
 use Rattle.seq_chain.specs.SessionFrame.{SessionFrameView}
 use Rattle.param_load.specs.declared.slave_settings.SlaveSettings.{SlaveSettings}

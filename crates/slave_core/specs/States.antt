@@ -5,8 +5,7 @@ use Rattle.fsoe_base.specs.declared.command.Command.{Command}
 use Rattle.fsoe_base.specs.declared.command.Command.TheVariants as command
 use Rattle.fsoe_base.specs.Codes.{wrong_data}
 use Rattle.seq_chain.specs.declared.session.Session.{Session}
-use Rattle.seq_chain.specs.Chain.{frame_sent}
-use Rattle.seq_chain.specs.Session.{first_session, session_taken, session_sent}
+use Rattle.seq_chain.specs.Session.{frame_sent, first_session, session_taken, session_sent}
 use Rattle.seq_chain.specs.SessionFrame.{SessionFrameView}
 use Rattle.param_load.specs.Contents.{app_part}
 use Rattle.param_load.specs.Payload.{session_payload, number_at, piece_from, padded}

@@ -20,8 +20,7 @@ pub(crate) enum Now {
 impl Now {
     ghost use Rattle.std.specs.Prelude.{◌≡◌, ◌<◌, IsTrue, Some, IfOk, OnOk, option_copied};
     ghost use Rattle.std.specs.Result.{result_err};
-    ghost use Rattle.seq_chain.specs.Chain.{tested};
-    ghost use Rattle.seq_chain.specs.Session.{HasPassed};
+    ghost use Rattle.seq_chain.specs.Session.{tested, HasPassed};
     ghost use Rattle.seq_chain.specs.Opened.{is_repeat};
     ghost use Rattle.end_model.specs.Setup.{OfSlave, receives};
     ghost use Rattle.fsoe_base.specs.declared.command.State.TheVariants as state;

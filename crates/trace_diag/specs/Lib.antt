@@ -3,6 +3,7 @@ pub mod Conforms
 pub mod Judged
 pub mod Kept
 pub mod Lines
+pub mod LinesLeft
 pub mod Ran
 pub mod Report
 pub mod Schedule

@@ -39,16 +39,6 @@ is_done _ = false
 abbrev pub trace_is_whole : TraceHeading → Bool
 trace_is_whole h = is_done h.stage
 
--- the lines that a header may still have
-abbrev pub lines_from : Stage → ℕ
-lines_from stage.Start = 3
-lines_from stage.Title = 2
-lines_from stage.Lengths = 1
-lines_from stage.Done = 0
-
-abbrev pub trace_lines_left : TraceHeading → ℕ
-trace_lines_left h = lines_from h.stage
-
 -- a header with its lengths
 abbrev pub lengths_taken : LengthsLine → TraceHeading
 lengths_taken l = record { stage = stage.Lengths; master = l.master; slave = l.slave }

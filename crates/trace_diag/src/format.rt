@@ -15,7 +15,8 @@ pub struct TraceFormat;
 
 impl Format for TraceFormat {
     ghost use Rattle.std.specs.Prelude.{false};
-    ghost use Rattle.trace_diag.specs.Lines.{trace_format, trace_line, trace_lines_left};
+    ghost use Rattle.trace_diag.specs.Lines.{trace_format, trace_line};
+    ghost use Rattle.trace_diag.specs.LinesLeft.{trace_lines_left};
 
     type Header = TraceHeader;
 

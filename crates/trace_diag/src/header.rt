@@ -2,7 +2,8 @@
 ghost use Rattle.std.specs.Prelude.{◌≡◌, ◌≢◌, ◌<◌, IfOk, MatchResult, OnOk, Ok, Err};
 ghost use Rattle.schedule_file.specs.FieldsRead.{fields_after, Becomes};
 ghost use Rattle.schedule_file.specs.HeaderLine.{lengths_line};
-ghost use Rattle.trace_diag.specs.Lines.{heading_new, line_taken, title_taken, trace_heading_after, trace_is_whole, trace_lines_left, word_taken};
+ghost use Rattle.trace_diag.specs.Lines.{heading_new, line_taken, title_taken, trace_heading_after, trace_is_whole, word_taken};
+ghost use Rattle.trace_diag.specs.LinesLeft.{trace_lines_left};
 ghost use Rattle.trace_diag.specs.Report.{AreLengths};
 
 use fsoe_base::Lengths;

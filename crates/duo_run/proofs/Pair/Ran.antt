@@ -5,7 +5,7 @@ use Rattle.param_load.specs.declared.entry.Entry.{Entry}
 use Rattle.param_load.specs.declared.master_settings.MasterSettings.{MasterSettings}
 use Rattle.param_load.specs.declared.slave_settings.SlaveSettings.{SlaveSettings}
 use Rattle.schedule_file.specs.declared.event.Event.{Event}
-use Rattle.end_model.specs.Entries.{entries}
+use Rattle.end_model.specs.Runs.{entries}
 use Rattle.end_model.specs.Step.{run}
 use Rattle.exchange_model.specs.Ends.{of_end}
 use Rattle.exchange_model.specs.Fair.{Fair}

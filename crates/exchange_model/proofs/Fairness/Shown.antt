@@ -19,8 +19,8 @@ use Rattle.end_model.specs.Deed.{Deed, ticked}
 use Rattle.end_model.specs.Payloads.{terms}
 use Rattle.end_model.specs.Readiness.{state_of, told_in}
 use Rattle.end_model.specs.Outputs.{is_process, zeros, held_up, out_after, out}
-use Rattle.end_model.specs.Runs.{IsRun}
-use Rattle.end_model.specs.Entries.{entry_of, entries}
+use Rattle.end_model.specs.Runs.{IsRun, entries}
+use Rattle.end_model.specs.Entries.{entry_of}
 use Rattle.end_model.specs.Reactions.{Reaction, Answers}
 use Rattle.end_model.proofs.SoundRuns.{reacted}
 use Rattle.end_model.proofs.Taken.{data_after}

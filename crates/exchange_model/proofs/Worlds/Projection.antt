@@ -13,9 +13,9 @@ use Rattle.schedule_file.specs.declared.event.Event.TheVariants as event
 use Rattle.end_model.specs.Setup.{Setup}
 use Rattle.end_model.specs.Deed.{Deed}
 use Rattle.end_model.specs.Step.{step, run}
-use Rattle.end_model.specs.Runs.{IsProper, IsNext, IsRun}
+use Rattle.end_model.specs.Runs.{IsProper, IsNext, IsRun, entries}
 use Rattle.end_model.specs.Reactions.{IsReaction}
-use Rattle.end_model.specs.Entries.{entry_of, entries}
+use Rattle.end_model.specs.Entries.{entry_of}
 use Rattle.end_model.proofs.Runs.{run_append}
 use Rattle.end_model.proofs.SoundRuns.{reacted}
 use Rattle.exchange_model.specs.Ends.{same_end, peer, of_end}

@@ -1,6 +1,6 @@
 use Rattle.std.proofs.Common.{◌≡◌, ℕ, ◌+◌, ◌-◌, ◌≤◌, ◌<◌, List, ◌++◌, length, take, arith, ap, ◌∙◌}
 use Rattle.std.proofs.lemmas.List.{length-take-le, length-take, length-drop}
-use Rattle.fsoe_io.specs.Line.{Held}
+use Rattle.fsoe_io.specs.LineReader.{Held}
 use Rattle.fsoe_io.proofs.Buffer.{filled, shifted}
 use Rattle.fsoe_io.proofs.line_reader.LineReader.fill.Goals as goal
 

@@ -1,6 +1,6 @@
 use Rattle.std.proofs.Common.{◌+◌, ◌-◌, ◌≤◌, length, drop, arith, ap, ◌∙◌}
 use Rattle.std.proofs.lemmas.List.{length-take}
-use Rattle.fsoe_io.specs.Line.{Held}
+use Rattle.fsoe_io.specs.LineReader.{Held}
 use Rattle.fsoe_io.proofs.Buffer.{rest_after}
 use Rattle.fsoe_io.proofs.line_reader.LineReader.take_line.Goals as goal
 

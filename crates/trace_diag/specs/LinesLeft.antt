@@ -1,0 +1,15 @@
+-- How many lines the header of a trace may still have.
+use Rattle.std.specs.Prelude.{ℕ}
+use Rattle.trace_diag.specs.declared.header.Stage.{Stage}
+use Rattle.trace_diag.specs.declared.header.Stage.TheVariants as stage
+use Rattle.trace_diag.specs.Lines.{TraceHeading}
+
+-- the lines that a header may still have
+abbrev pub lines_from : Stage → ℕ
+lines_from stage.Start = 3
+lines_from stage.Title = 2
+lines_from stage.Lengths = 1
+lines_from stage.Done = 0
+
+abbrev pub trace_lines_left : TraceHeading → ℕ
+trace_lines_left h = lines_from h.stage
