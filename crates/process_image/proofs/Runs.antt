@@ -10,7 +10,7 @@ use Rattle.fsoe_io.specs.declared.status.Status.TheVariants as status
 use Rattle.param_load.specs.Profile.{allows_id}
 use Rattle.schedule_file.specs.EventLine.{switch_of}
 use Rattle.schedule_file.specs.Field.{bytes_said, fields_of}
-use Rattle.schedule_file.specs.Fields.{map_ok, next_field, no_field, one_field, number_16, number_32, value_or}
+use Rattle.schedule_file.specs.Fields.{map_ok, by_word, next_field, no_field, one_field, number_16, number_32, value_or}
 use Rattle.schedule_file.specs.Input.{Refused, own_length, heading_profile}
 use Rattle.schedule_file.proofs.Sound.{each, known}
 use Rattle.schedule_file.specs.declared.line_cause.LineCause.{LineCause}
@@ -24,7 +24,7 @@ use Rattle.end_core.proofs.Either.{setup_is}
 use Rattle.end_core.specs.Core.{setup_of}
 use Rattle.end_core.specs.Standing.{IsNew}
 use Rattle.process_image.specs.Calls.{deeds}
-use Rattle.process_image.specs.EventLine.{end_at, id_at, image_said, image_said_by, image_line, word_of}
+use Rattle.process_image.specs.EventLine.{end_at, id_at, image_said, image_line, word_of}
 use Rattle.process_image.specs.Header.{ImageHeading, slots_of}
 use Rattle.process_image.specs.Places.{Place, Plan, numbered}
 use Rattle.process_image.specs.Fault.{places_from, plan_of, IsMadeOf}
@@ -160,7 +160,7 @@ said-fits size ends v (Some word.Reset) fields h =
     each (one_field fields) _ _ (λ field. each (number_16 field) _ _ (λ slot. known (end_at slot ends) _ (λ end. numbered slot ends ≡ Some end) _ (found (numbered slot ends)) (λ end e. (h.ends_are slot end e).0)))
 said-fits size ends v (Some word.End) fields h = bare line.End (no_field fields) (OnStep (FitsImages v)) tt
 
-fields-fit : (size : ℕ) (ends : List SlotEnd) (v : ImagesView) (fields : List (List ℕ)) → HaveEnds size ends v → IfOk (image_said_by size ends fields) (OnStep (FitsImages v))
+fields-fit : (size : ℕ) (ends : List SlotEnd) (v : ImagesView) (fields : List (List ℕ)) → HaveEnds size ends v → IfOk (by_word cause.Word (λ word. image_said size ends (word_of word)) fields) (OnStep (FitsImages v))
 fields-fit size ends v [] h = tt
 fields-fit size ends v (first ∷ fields) h = said-fits size ends v (word_of first) fields h
 

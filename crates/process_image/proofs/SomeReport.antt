@@ -1,25 +1,25 @@
 -- Each input of images has a report: a header that is whole says settings of each end.
-use Rattle.std.proofs.Common.{◌≡◌, ◌+◌, ℕ, suc, List, [], ◌∷◌, ◌++◌, Bool, true, false, All, length, reverse, Option, Some, None, IfSome, refl}
-use Rattle.std.specs.Prelude.{IfOk, Result, Ok, Err, if◌then◌else◌}
+use Rattle.std.proofs.Common.{◌≡◌, ◌+◌, ℕ, suc, List, [], ◌∷◌, All, length, reverse, Option, Some, None, IfSome, refl}
+use Rattle.std.specs.Prelude.{IfOk, Ok, Err, if◌then◌else◌}
 use Rattle.std.specs.List.{AllZip}
-use Rattle.std.proofs.lemmas.List.Elements.{All-head, All-tail, All-nil, All-cons}
+use Rattle.std.proofs.lemmas.List.Elements.{All-head, All-tail, All-nil, All-push}
 use Rattle.fsoe_base.specs.declared.command.End.{End}
 use Rattle.fsoe_base.specs.declared.command.End.TheVariants as side
 use Rattle.schedule_file.specs.Field.{fields_of}
-use Rattle.schedule_file.specs.Fields.{next_field, one_field, number_16}
+use Rattle.schedule_file.specs.Fields.{by_word, next_field, one_field, number_16}
 use Rattle.schedule_file.specs.Header.{heading_is_whole}
-use Rattle.schedule_file.specs.Input.{InputCause, Stop, WholeHeaderOf, header_step, header_in, header_read, input_by, input_read, lines_of}
+use Rattle.schedule_file.specs.Input.{Stop, input_read}
 use Rattle.schedule_file.specs.NodeHeader.{kind_after, is_end_line, may_end, node_heading_after}
 use Rattle.schedule_file.specs.declared.header_kind.HeaderKind.TheVariants as kind
-use Rattle.schedule_file.specs.declared.line_cause.LineCause.{LineCause}
 use Rattle.schedule_file.specs.declared.line_cause.LineCause.TheVariants as cause
+use Rattle.schedule_file.proofs.Headed.{either, headed}
 use Rattle.schedule_file.proofs.Sound.{Sound, each, known, after_sound, new_sound, master_settings, slave_settings}
 use Rattle.std.specs.Prelude.{codes, ◌&&◌, ◌==◌, nat_le, not}
 use Rattle.std.specs.Str.{bytes_eq}
 use Rattle.file_run.specs.Report.{last_line}
 use Rattle.end_model.specs.Setup.{Setup, OfMaster, OfSlave}
 use Rattle.process_image.specs.Places.{AreNumbered, Place, Plan}
-use Rattle.process_image.specs.Header.{ImageHeading, slot_begun, slots_begun, slots_of, end_of, size_line, slot_line, size_taken, is_open, slot_taken, fits_images, with_last, own_taken, line_taken, image_fields_taken, image_text_taken, image_heading_after, image_heading_new, image_heading_is_whole}
+use Rattle.process_image.specs.Header.{ImageHeading, slot_begun, slots_begun, slots_of, end_of, size_line, slot_line, size_taken, is_open, slot_taken, fits_images, with_last, own_taken, line_taken}
 use Rattle.process_image.specs.Ran.{image_format}
 use Rattle.process_image.specs.Report.{IsEndOf, IsSlotOf, IsPlanOf, IsImageReport, report_of}
 use Rattle.process_image.specs.declared.event.ImageEvent.{ImageEvent}
@@ -39,27 +39,15 @@ AreSound h = All IsSound h.before × IsSound h.last
 begun-sound : (at_in at_out : ℕ) → IsSound (slot_begun at_in at_out)
 begun-sound at_in at_out = new_sound (kind.Node side.Slave)
 
-all-snoc : {A : Type 0} (P : A → Type 0) (xs : List A) (x : A) → All P xs → P x → All P (xs ++ x ∷ [])
-all-snoc P [] x h p = All-cons P x [] p (All-nil P)
-all-snoc P (y ∷ xs) x h p = All-cons P y (xs ++ x ∷ []) (All-head P y xs h) (all-snoc P xs x (All-tail P y xs h) p)
-
 begun-all : (s : Stage) (before : List SlotHeader) (last : SlotHeader) → All IsSound before → IsSound last → All IsSound (slots_begun s before last)
 begun-all stage.Start before last h p = All-nil IsSound
 begun-all stage.Title before last h p = All-nil IsSound
 begun-all stage.Size before last h p = All-nil IsSound
 begun-all stage.Refused before last h p = All-nil IsSound
-begun-all stage.Slots before last h p = all-snoc IsSound before last h p
-begun-all stage.Done before last h p = all-snoc IsSound before last h p
+begun-all stage.Slots before last h p = All-push IsSound before last h p
+begun-all stage.Done before last h p = All-push IsSound before last h p
 
 -- a header after one more line
-chosen : {A : Type 0} (b : Bool) (r : Result A LineCause) (c : LineCause) (P : A → Type 0) → IfOk r P → IfOk (if b then r else Err c) P
-chosen true r c P h = h
-chosen false r c P h = tt
-
-either : {A : Type 0} (b : Bool) (r t : Result A LineCause) (P : A → Type 0) → IfOk r P → IfOk t P → IfOk (if b then r else t) P
-either true r t P h i = h
-either false r t P h i = i
-
 slot-sound : (n : ℕ) (fields : List (List ℕ)) → IfOk (slot_line n fields) IsSound
 slot-sound n fields =
     each (next_field fields) _ IsSound (λ first. each (next_field first.1) _ IsSound (λ second. each (one_field second.1) _ IsSound (λ third. each (number_16 first.0) _ IsSound (λ k. each (number_16 second.0) _ IsSound
@@ -83,48 +71,16 @@ own-taken h text s =
     (λ own sound. with-last h (record h.last { own = own }) s sound)
 
 line-taken : (st : Stage) (h : ImageHeading) (text first : List ℕ) (fields : List (List ℕ)) → AreSound h → IfOk (line_taken st h text first fields) AreSound
-line-taken stage.Title h text first fields s = chosen (bytes_eq first (codes "size")) (size_taken h fields) cause.Header AreSound (size-taken h fields s)
-line-taken stage.Size h text first fields s = chosen (bytes_eq first (codes "slot")) (slot_taken h fields) cause.Header AreSound (slot-taken h fields s)
+line-taken stage.Start h text first fields s = either (bytes_eq text (codes "fsoe 1 image")) (Ok (record h { stage = stage.Title })) (Err cause.Header) AreSound s tt
+line-taken stage.Title h text first fields s = either (bytes_eq first (codes "size")) (size_taken h fields) (Err cause.Header) AreSound (size-taken h fields s) tt
+line-taken stage.Size h text first fields s = either (bytes_eq first (codes "slot")) (slot_taken h fields) (Err cause.Header) AreSound (slot-taken h fields s) tt
 line-taken stage.Slots h text first fields s = either (bytes_eq first (codes "slot") && may_end h.last.own) (slot_taken h fields) (own_taken h text) AreSound (slot-taken h fields s) (own-taken h text s)
-line-taken stage.Start h text first fields s = tt
 line-taken stage.Done h text first fields s = tt
 line-taken stage.Refused h text first fields s = tt
 
-fields-taken : (h : ImageHeading) (text : List ℕ) (fields : List (List ℕ)) → AreSound h → IfOk (image_fields_taken h text fields) AreSound
+fields-taken : (h : ImageHeading) (text : List ℕ) (fields : List (List ℕ)) → AreSound h → IfOk (by_word cause.Header (line_taken h.stage h text) fields) AreSound
 fields-taken h text [] s = tt
 fields-taken h text (first ∷ fields) s = line-taken h.stage h text first fields s
-
-text-taken : (st : Stage) (h : ImageHeading) (text : List ℕ) → AreSound h → IfOk (image_text_taken st h text) AreSound
-text-taken stage.Start h text s = tested (bytes_eq text (codes "fsoe 1 image")) (record h { stage = stage.Title }) cause.Header AreSound (λ e. s)
-text-taken stage.Title h text s = fields-taken h text (fields_of text) s
-text-taken stage.Size h text s = fields-taken h text (fields_of text) s
-text-taken stage.Slots h text s = fields-taken h text (fields_of text) s
-text-taken stage.Done h text s = fields-taken h text (fields_of text) s
-text-taken stage.Refused h text s = fields-taken h text (fields_of text) s
-
--- so when it is whole
-step-by : (done : Bool) (h : ImageHeading) (number : ℕ) (rest : List (Result (List ℕ) InputCause)) (later : Result (WholeHeaderOf ImageHeading) Stop) → AreSound h → IfOk later (λ whole. AreSound whole.heading)
-    → IfOk (if done then Ok (record { heading = h; lines = number; rest = rest }) else later) (λ whole. AreSound whole.heading)
-step-by true h number rest later s next = s
-step-by false h number rest later s next = next
-
-step-sound : (r : Result ImageHeading LineCause) (number : ℕ) (rest : List (Result (List ℕ) InputCause)) (go_on : ImageHeading → Result (WholeHeaderOf ImageHeading) Stop) → IfOk r AreSound
-    → ((h : ImageHeading) → AreSound h → IfOk (go_on h) (λ whole. AreSound whole.heading)) → IfOk (header_step image_heading_is_whole number rest go_on r) (λ whole. AreSound whole.heading)
-step-sound (Ok h) number rest go_on s next = step-by (image_heading_is_whole h) h number rest (go_on h) s (next h s)
-step-sound (Err e) number rest go_on s next = tt
-
-lines-sound : (number : ℕ) (h : ImageHeading) (lines : List (Result (List ℕ) InputCause)) → AreSound h → IfOk (header_in image_format number h lines) (λ whole. AreSound whole.heading)
-lines-sound number h [] s = tt
-lines-sound number h (Err why ∷ rest) s = tt
-lines-sound number h (Ok text ∷ rest) s =
-    step-sound (image_heading_after h text) number rest (λ next. header_in image_format (number + 1) next rest) (text-taken h.stage h text s) (λ next sound. lines-sound (number + 1) next rest sound)
-
-input-by : (r : Result (WholeHeaderOf ImageHeading) Stop) → IfOk r (λ whole. AreSound whole.heading) → IfSome (input_by image_format r).heading AreSound
-input-by (Ok whole) s = s
-input-by (Err stop) s = tt
-
-input-sound : (bytes : List ℕ) → IfSome (input_read image_format bytes).heading AreSound
-input-sound bytes = input-by (header_read image_format bytes) (lines-sound 1 image_heading_new (lines_of bytes) (All-nil IsSound, begun-sound 0 0))
 
 -- then there are slots as it says
 end-by : (s : SlotHeader) (e : End) → end_of s ≡ e → IsSound s → (t : Setup) × IsEndOf s t
@@ -150,4 +106,4 @@ report-by None events stop s = (last_line 0 stop, refl)
 report-by (Some h) events stop s = let plan = plan-of h s in (report_of plan.0 (reverse events) stop, (plan.0, plan.1, refl))
 
 pub some_report : (bytes : List ℕ) → (text : List ℕ) × IsImageReport (input_read image_format bytes).heading (input_read image_format bytes).events (input_read image_format bytes).stop text
-some_report bytes = report-by (input_read image_format bytes).heading (input_read image_format bytes).events (input_read image_format bytes).stop (input-sound bytes)
+some_report bytes = report-by (input_read image_format bytes).heading (input_read image_format bytes).events (input_read image_format bytes).stop (headed image_format AreSound (All-nil IsSound, begun-sound 0 0) (λ h text s. fields-taken h text (fields_of text) s) bytes)

@@ -28,6 +28,7 @@ use Rattle.schedule_file.specs.declared.place.Place.{Place}
 use Rattle.schedule_file.specs.declared.place.Place.TheVariants as place
 use Rattle.schedule_file.specs.declared.place.Word.{Word}
 use Rattle.schedule_file.specs.declared.place.Word.TheVariants as word
+use Rattle.schedule_file.proofs.Headed.{either}
 use Rattle.end_model.specs.Setup.{Setup, OfMaster, OfSlave, sends, receives}
 use Rattle.end_core.specs.Core.{setup_of}
 use Rattle.process_image.specs.Fault.{first_outside, first_with, pair_or, first_pair, first_fault, places_from, plan_of, slot_spans, IsMadeOf}
@@ -160,10 +161,6 @@ fields-goes h (first ∷ fields) = admitted-goes h (header_word_of first) fields
 titled : (h : Heading) (b : Bool) → IfOk (if b then Ok (record h { place = place.Title }) else Err cause.Header) (Goes h)
 titled h true = inr (inl refl)
 titled h false = tt
-
-either : {A : Type 0} (b : Bool) (r t : Result A LineCause) (P : A → Type 0) → IfOk r P → IfOk t P → IfOk (if b then r else t) P
-either true r t P h i = h
-either false r t P h i = i
 
 after-goes : (h : Heading) (text : List ℕ) → IfOk (heading_after h text) (Goes h)
 after-goes h text = either (is_start h.place) (title_taken h text) (fields_taken h (fields_of text)) (Goes h) (titled h (bytes_eq text (title_of h.kind))) (fields-goes h (fields_of text))

@@ -1,12 +1,12 @@
 -- What a line says that stands after the header of images. The causes come in their order: the word, the number of
 -- fields, a number, a slot that doesn't exist, the hexadecimal bytes, a length, a position.
-use Rattle.std.specs.Prelude.{ℕ, ◌+◌, ◌==◌, nat_le, length, List, [], ◌∷◌, codes, Option, Some, None, Result, Ok, Err, if◌then◌else◌}
+use Rattle.std.specs.Prelude.{ℕ, ◌+◌, ◌==◌, nat_le, length, List, [], codes, Option, Some, None, Result, Ok, Err, if◌then◌else◌}
 use Rattle.std.specs.Str.{bytes_eq}
 use Rattle.fsoe_base.specs.Lengths.{most_data}
 use Rattle.param_load.specs.Profile.{allows_id}
 use Rattle.schedule_file.specs.EventLine.{switch_of}
 use Rattle.schedule_file.specs.Field.{bytes_said, fields_of}
-use Rattle.schedule_file.specs.Fields.{◌>>=◌, map_ok, value_or, next_field, no_field, one_field, number_16, number_32}
+use Rattle.schedule_file.specs.Fields.{◌>>=◌, map_ok, value_or, by_word, next_field, no_field, one_field, number_16, number_32}
 use Rattle.schedule_file.specs.declared.line_cause.LineCause.{LineCause}
 use Rattle.schedule_file.specs.declared.line_cause.LineCause.TheVariants as cause
 use Rattle.process_image.specs.Places.{numbered}
@@ -112,11 +112,6 @@ image_said size ends (Some word.Nonce) fields = nonce_line ends fields
 image_said size ends (Some word.Reset) fields = reset_line ends fields
 image_said size ends (Some word.End) fields = bare_line line.End fields
 
--- what the fields of a line say, of which the first is its word
-abbrev pub image_said_by : ℕ → List SlotEnd → List (List ℕ) → Result ImageLine LineCause
-image_said_by size ends [] = Err cause.Word
-image_said_by size ends (first ∷ fields) = image_said size ends (word_of first) fields
-
 -- what a line says to images
 abbrev pub image_line : ℕ → List SlotEnd → List ℕ → Result ImageLine LineCause
-image_line size ends text = image_said_by size ends (fields_of text)
+image_line size ends text = by_word cause.Word (λ word. image_said size ends (word_of word)) (fields_of text)

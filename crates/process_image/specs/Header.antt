@@ -9,7 +9,7 @@ use Rattle.fsoe_base.specs.declared.command.End.{End}
 use Rattle.fsoe_base.specs.declared.command.End.TheVariants as side
 use Rattle.schedule_file.specs.EventLine.{delivered_len}
 use Rattle.schedule_file.specs.Field.{fields_of}
-use Rattle.schedule_file.specs.Fields.{◌>>=◌, next_field, one_field, number_16}
+use Rattle.schedule_file.specs.Fields.{◌>>=◌, by_word, next_field, one_field, number_16}
 use Rattle.schedule_file.specs.Header.{heading_is_whole, wants_profile}
 use Rattle.schedule_file.specs.Input.{own_length}
 use Rattle.schedule_file.specs.NodeHeader.{heading_begun, node_heading_after, is_end_line, may_end}
@@ -128,28 +128,15 @@ own_taken h text = do
   own ← node_heading_after h.last.own text
   with_last h (record h.last { own = own })
 
--- a header after a later line, by its first field and those after it: after the first line comes `size`, then the first
--- `slot`, and where the lines of a slot may end the next one
+-- a header after a line, by its first field and those after it: after the title comes `size`, then the first `slot`, and
+-- where the lines of a slot may end the next one
 abbrev pub line_taken : Stage → ImageHeading → List ℕ → List ℕ → List (List ℕ) → Result ImageHeading LineCause
+line_taken stage.Start h text first fields = if bytes_eq text (codes "fsoe 1 image") then Ok (record h { stage = stage.Title }) else Err cause.Header
 line_taken stage.Title h text first fields = if bytes_eq first (codes "size") then size_taken h fields else Err cause.Header
 line_taken stage.Size h text first fields = if bytes_eq first (codes "slot") then slot_taken h fields else Err cause.Header
 line_taken stage.Slots h text first fields = if bytes_eq first (codes "slot") && may_end h.last.own then slot_taken h fields else own_taken h text
 line_taken other h text first fields = Err cause.Header
 
--- the same by all its fields
-abbrev pub image_fields_taken : ImageHeading → List ℕ → List (List ℕ) → Result ImageHeading LineCause
-image_fields_taken h text [] = Err cause.Header
-image_fields_taken h text (first ∷ fields) = line_taken h.stage h text first fields
-
--- a header after its first line
-abbrev pub image_title_taken : ImageHeading → List ℕ → Result ImageHeading LineCause
-image_title_taken h text = if bytes_eq text (codes "fsoe 1 image") then Ok (record h { stage = stage.Title }) else Err cause.Header
-
--- a header after its next line, by how far it is
-abbrev pub image_text_taken : Stage → ImageHeading → List ℕ → Result ImageHeading LineCause
-image_text_taken stage.Start h text = image_title_taken h text
-image_text_taken other h text = image_fields_taken h text (fields_of text)
-
 -- a header after its next line, or why that line is refused
 abbrev pub image_heading_after : ImageHeading → List ℕ → Result ImageHeading LineCause
-image_heading_after h text = image_text_taken h.stage h text
+image_heading_after h text = by_word cause.Header (line_taken h.stage h text) (fields_of text)

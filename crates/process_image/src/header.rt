@@ -1,11 +1,10 @@
 //! The header of images, line by line.
 ghost use Rattle.std.specs.Prelude.{◌≡◌, ◌≤◌, ◌<◌, ◌⊎◌, [], ◌∷◌, ◌++◌, IsTrue, IfOk, OnOk, None, length, map};
 ghost use Rattle.std.specs.List.{AllZip, list_any};
-ghost use Rattle.schedule_file.specs.Field.{fields_of};
 ghost use Rattle.schedule_file.specs.FieldsRead.{fields_after, Becomes};
 ghost use Rattle.schedule_file.specs.NodeHeader.{may_end};
 ghost use Rattle.process_image.specs.Fault.{first_fault, plan_of, IsMadeOf};
-ghost use Rattle.process_image.specs.Header.{image_heading_new, image_heading_is_whole, image_heading_after, image_fields_taken, image_title_taken, size_line, slot_line, slot_begun, size_taken, slot_taken, own_taken, slots_of, fits_images, heading_spans, end_of, is_size};
+ghost use Rattle.process_image.specs.Header.{image_heading_new, image_heading_is_whole, image_heading_after, size_line, slot_line, slot_begun, size_taken, slot_taken, own_taken, slots_of, fits_images, heading_spans, end_of, is_size};
 ghost use Rattle.process_image.specs.LinesLeft.{image_lines_left};
 ghost use Rattle.process_image.specs.Places.{overlap};
 ghost use Rattle.process_image.specs.Report.{end_terms};
@@ -257,30 +256,12 @@ impl ImageHeader {
         ensures next { Becomes result self.new (image_heading_after self.old line.now) }
         ensures fewer { OnOk result (image_lines_left self.new < image_lines_left self.old) }
     {
-        match self.stage {
-            Stage::Start => self.read_title(line),
-            _ => self.read_fields(line),
-        }
-    }
-
-    fn read_title(&mut self, line: &[u8]) -> Result<(), LineCause>
-        requires { self.old.stage ≡ Stage.Start }
-        ensures next { Becomes result self.new (image_title_taken self.old line.now) }
-        ensures fewer { OnOk result (image_lines_left self.new < image_lines_left self.old) }
-    {
-        if line != b"fsoe 1 image".as_slice() {
-            return Err(LineCause::Header);
-        }
-        self.stage = Stage::Title;
-        Ok(())
-    }
-
-    fn read_fields(&mut self, line: &[u8]) -> Result<(), LineCause>
-        ensures next { Becomes result self.new (image_fields_taken self.old line.now (fields_of line.now)) }
-        ensures fewer { OnOk result (image_lines_left self.new < image_lines_left self.old) }
-    {
         let (first, fields) = cut(line);
         match self.stage {
+            Stage::Start if line == b"fsoe 1 image".as_slice() => {
+                self.stage = Stage::Title;
+                Ok(())
+            }
             Stage::Title if first == b"size".as_slice() => self.take_size(fields),
             Stage::Size if first == b"slot".as_slice() => self.take_slot(fields),
             Stage::Slots if first == b"slot".as_slice() && self.last.own.may_end() => {

@@ -13,10 +13,10 @@ use Rattle.fsoe_base.specs.declared.lengths.TheConstants.{MOST_DATA, MOST_FRAME}
 use Rattle.schedule_file.specs.Event.{Fits, FitsEnd, OnStep}
 use Rattle.schedule_file.specs.EventLine.{not_zero, reference_of, switch_of, delivered_len, altered_line}
 use Rattle.schedule_file.specs.Field.{fields_of, is_number, number_said, bytes_said}
-use Rattle.schedule_file.specs.Fields.{◌>>=◌, value_or, next_field, no_field, one_field, number_16, number_32, one_hex_field}
+use Rattle.schedule_file.specs.Fields.{◌>>=◌, value_or, by_word, next_field, no_field, one_field, number_16, number_32, one_hex_field}
 use Rattle.schedule_file.specs.Header.{Heading}
 use Rattle.schedule_file.specs.Input.{InputFormat, Stop, WholeHeaderOf, header_of, own_length, heading_profile, said_after, before_more, event_of, steps, texts, input_by, input_of, schedule_format}
-use Rattle.schedule_file.specs.NodeEvent.{word_of, node_said, node_said_by}
+use Rattle.schedule_file.specs.NodeEvent.{word_of, node_said}
 use Rattle.schedule_file.specs.PairEvent.{pair_word_of, pair_said, pair_said_by}
 use Rattle.schedule_file.specs.declared.event.Event.{Event}
 use Rattle.schedule_file.specs.declared.event.ScheduleLine.{ScheduleLine}
@@ -105,7 +105,7 @@ pair_line_fits : (sends : End → ℕ) (profiles : End → Profile) (fields : Li
 pair_line_fits sends profiles [] = tt
 pair_line_fits sends profiles (first ∷ fields) = said_fits sends profiles (pair_word_of first) fields
 
-node_line_fits : (end : End) (count : ℕ) (profile : Profile) (fields : List (List ℕ)) → IfOk (node_said_by end count profile fields) (OnStep (FitsEnd end count profile))
+node_line_fits : (end : End) (count : ℕ) (profile : Profile) (fields : List (List ℕ)) → IfOk (by_word cause.Word (λ word. node_said end count profile (word_of word)) fields) (OnStep (FitsEnd end count profile))
 node_line_fits end count profile [] = tt
 node_line_fits end count profile (first ∷ fields) = node_said_fits end count profile (word_of first) fields
 

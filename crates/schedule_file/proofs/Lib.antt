@@ -8,6 +8,7 @@ pub mod HexDigits
 pub mod ReadBack
 pub mod FewEvents
 pub mod AfterEnd
+pub mod Headed
 pub mod Sound
 pub mod HexAlone
 pub mod Rooms

@@ -1,19 +1,19 @@
 -- What a line of several pairs says to one of them fits it, and so do the events of an input of several pairs.
-use Rattle.std.proofs.Common.{◌≡◌, ℕ, Bool, true, false, List, [], ◌∷◌, All, map, subst}
-use Rattle.std.specs.Prelude.{IfOk, IfSome, Result, Ok, Some, codes, if◌then◌else◌}
+use Rattle.std.proofs.Common.{◌≡◌, ℕ, List, [], ◌∷◌, All, map, subst}
+use Rattle.std.specs.Prelude.{IfOk, IfSome, Ok, Some, codes}
 use Rattle.std.specs.Str.{bytes_eq}
 use Rattle.std.proofs.lemmas.Result.{IfOk-at_ok}
 use Rattle.fsoe_base.specs.declared.command.End.{End}
 use Rattle.param_load.specs.declared.profile.Profile.{Profile}
 use Rattle.schedule_file.specs.Field.{fields_of}
-use Rattle.schedule_file.specs.Fields.{no_field}
+use Rattle.schedule_file.specs.Fields.{by_word, no_field}
 use Rattle.schedule_file.specs.Input.{header_read, heading_profile, own_length}
-use Rattle.schedule_file.specs.PairsEvent.{common_line, is_digits, numbered_line, pairs_said_by}
+use Rattle.schedule_file.specs.PairsEvent.{common_line, is_digits, numbered_line, pairs_said}
 use Rattle.schedule_file.specs.PairsFit.{PairsLineFits, line_of_event}
 use Rattle.schedule_file.specs.PairsHeader.{PairsHeading, pairs_of}
 use Rattle.schedule_file.specs.PairsInput.{pairs_format, pairs_input, pairs_said_after}
 use Rattle.schedule_file.specs.PairsLine.{pairs_event_of}
-use Rattle.schedule_file.specs.declared.line_cause.LineCause.{LineCause}
+use Rattle.schedule_file.specs.declared.line_cause.LineCause.TheVariants as cause
 use Rattle.schedule_file.specs.declared.pairs_line.PairsEvent.{PairsEvent}
 use Rattle.schedule_file.specs.declared.pairs_line.PairsEvent.TheVariants as event
 use Rattle.schedule_file.specs.declared.pairs_line.PairsLine.{PairsLine}
@@ -21,20 +21,17 @@ use Rattle.schedule_file.specs.declared.pairs_line.PairsLine.TheVariants as said
 use Rattle.schedule_file.proofs.Fitting.{input_is}
 use Rattle.schedule_file.proofs.Pairs.{numbered_fits}
 use Rattle.schedule_file.proofs.Sound.{IfOk-every, IfOk-map}
-
-line_by : (b : Bool) (r t : Result PairsLine LineCause) (P : PairsLine → Type 0) → IfOk r P → IfOk t P → IfOk (if b then r else t) P
-line_by true r t P h i = h
-line_by false r t P h i = i
+use Rattle.schedule_file.proofs.Headed.{either}
 
 common_fits : (sends : List (End → ℕ)) (profiles : List (End → Profile)) (first : List ℕ) (fields : List (List ℕ)) → IfOk (common_line first fields) (PairsLineFits sends profiles)
 common_fits sends profiles first fields =
-    line_by (bytes_eq first (codes "t")) _ _ (PairsLineFits sends profiles) (IfOk-map (no_field fields) _ _ (IfOk-every (no_field fields) _ (λ none. tt)))
-    (line_by (bytes_eq first (codes "end")) _ _ (PairsLineFits sends profiles) (IfOk-map (no_field fields) _ _ (IfOk-every (no_field fields) _ (λ none. tt))) tt)
+    either (bytes_eq first (codes "t")) _ _ (PairsLineFits sends profiles) (IfOk-map (no_field fields) _ _ (IfOk-every (no_field fields) _ (λ none. tt)))
+    (either (bytes_eq first (codes "end")) _ _ (PairsLineFits sends profiles) (IfOk-map (no_field fields) _ _ (IfOk-every (no_field fields) _ (λ none. tt))) tt)
 
-line_fits : (sends : List (End → ℕ)) (profiles : List (End → Profile)) (fields : List (List ℕ)) → IfOk (pairs_said_by sends profiles fields) (PairsLineFits sends profiles)
+line_fits : (sends : List (End → ℕ)) (profiles : List (End → Profile)) (fields : List (List ℕ)) → IfOk (by_word cause.Word (pairs_said sends profiles) fields) (PairsLineFits sends profiles)
 line_fits sends profiles [] = tt
 line_fits sends profiles (first ∷ fields) =
-    line_by (is_digits first) (numbered_line sends profiles first fields) (common_line first fields) (PairsLineFits sends profiles) (numbered_fits sends profiles first fields) (common_fits sends profiles first fields)
+    either (is_digits first) (numbered_line sends profiles first fields) (common_line first fields) (PairsLineFits sends profiles) (numbered_fits sends profiles first fields) (common_fits sends profiles first fields)
 
 -- the event of a line is its line again
 in_line : (P : PairsLine → Type 0) (line : PairsLine) (x : PairsEvent) → pairs_event_of line ≡ Some x → P line → P (line_of_event x)

@@ -8,8 +8,10 @@ use Rattle.fsoe_base.specs.declared.command.End.{End}
 use Rattle.param_load.specs.declared.profile.Profile.{Profile}
 use Rattle.schedule_file.specs.EventText.{IsOfTypes, event_text}
 use Rattle.schedule_file.specs.Field.{fields_of, is_space, number_said}
+use Rattle.schedule_file.specs.Fields.{by_word}
+use Rattle.schedule_file.specs.declared.line_cause.LineCause.TheVariants as cause
 use Rattle.schedule_file.specs.PairEvent.{event_said, pair_line, pair_said, pair_said_by, pair_word_of}
-use Rattle.schedule_file.specs.PairsEvent.{common_line, is_digits, numbered, numbered_line, pairs_line, pairs_said_by}
+use Rattle.schedule_file.specs.PairsEvent.{common_line, is_digits, numbered, numbered_line, pairs_line, pairs_said}
 use Rattle.schedule_file.specs.PairsFit.{FitsEnds, FitsPair, with_pair}
 use Rattle.schedule_file.specs.declared.event.Event.{Event}
 use Rattle.schedule_file.specs.declared.event.ScheduleLine.TheVariants as line
@@ -32,16 +34,16 @@ word_said own profile word.End [] event e = cc
 word_said own profile word.End (field ∷ fields) event e = cc
 
 -- the word of a line, and the fields after it
-by_word : (sends : List (End → ℕ)) (profiles : List (End → Profile)) (pair : ℕ) (own : End → ℕ) (profile : End → Profile) (digits first : List ℕ) (fields : List (List ℕ)) (w : Option PairWord) (event : Event)
+of_word : (sends : List (End → ℕ)) (profiles : List (End → Profile)) (pair : ℕ) (own : End → ℕ) (profile : End → Profile) (digits first : List ℕ) (fields : List (List ℕ)) (w : Option PairWord) (event : Event)
     → number_said 65535 digits ≡ Some pair → numbered pair sends ≡ Some own → numbered pair profiles ≡ Some profile → pair_word_of first ≡ w → pair_said own profile w fields ≡ Ok (line.Step event)
     → numbered_line sends profiles digits (first ∷ fields) ≡ Ok (said.One pair event)
-by_word sends profiles pair own profile digits first fields (Some word) event number s p e says = rw (e, number, s, p, word_said own profile word fields event says) refl
-by_word sends profiles pair own profile digits first fields None event number s p e says = cc
+of_word sends profiles pair own profile digits first fields (Some word) event number s p e says = rw (e, number, s, p, word_said own profile word fields event says) refl
+of_word sends profiles pair own profile digits first fields None event number s p e says = cc
 
 by_fields : (sends : List (End → ℕ)) (profiles : List (End → Profile)) (pair : ℕ) (own : End → ℕ) (profile : End → Profile) (digits : List ℕ) (fields : List (List ℕ)) (event : Event)
     → number_said 65535 digits ≡ Some pair → numbered pair sends ≡ Some own → numbered pair profiles ≡ Some profile → pair_said_by own profile fields ≡ Ok (line.Step event)
     → numbered_line sends profiles digits fields ≡ Ok (said.One pair event)
-by_fields sends profiles pair own profile digits (first ∷ fields) event number s p says = by_word sends profiles pair own profile digits first fields (pair_word_of first) event number s p refl says
+by_fields sends profiles pair own profile digits (first ∷ fields) event number s p says = of_word sends profiles pair own profile digits first fields (pair_word_of first) event number s p refl says
 by_fields sends profiles pair own profile digits [] event number s p says = cc
 
 pub numbered_said : (sends : List (End → ℕ)) (profiles : List (End → Profile)) (pair : ℕ) (own : End → ℕ) (profile : End → Profile) (text : List ℕ) (event : Event) → pair < 65536
@@ -49,7 +51,7 @@ pub numbered_said : (sends : List (End → ℕ)) (profiles : List (End → Profi
 numbered_said sends profiles pair own profile text event lt s p says =
     let wide : pair < 2 ^ 64 = omega (arith, lt) in
     let digits : is_digits (decimal pair) ≡ true = rw (digits-decimal pair wide) (grind (arith, nat_tests, decimal_nonempty pair wide)) in
-    ap (pairs_said_by sends profiles) (slice_split_at is_space (decimal pair) 32 text (no_space-decimal pair wide) refl)
+    ap (by_word cause.Word (pairs_said sends profiles)) (slice_split_at is_space (decimal pair) 32 text (no_space-decimal pair wide) refl)
     ∙ ap (λ (b : Bool). if b then numbered_line sends profiles (decimal pair) (fields_of text) else common_line (decimal pair) (fields_of text)) digits
     ∙ by_fields sends profiles pair own profile (decimal pair) (fields_of text) event (number_said-decimal 65535 pair wide (omega (arith, lt))) s p says
 

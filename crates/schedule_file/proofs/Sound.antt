@@ -21,12 +21,12 @@ use Rattle.param_load.specs.declared.profile.Profile.TheVariants as profile
 use Rattle.param_load.specs.declared.slave_settings.SlaveSettings.{SlaveSettings}
 use Rattle.schedule_file.specs.Field.{fields_of, some_bytes}
 use Rattle.schedule_file.specs.Fields.{◌>>=◌, map_ok, value_or, next_field, no_field, one_field, number_16, one_hex_field}
-use Rattle.schedule_file.specs.Header.{Heading, heading_new, heading_after, heading_is_whole, profile_given, profile_taken, heading_with, title_taken, fields_taken, IsMasterOf, IsSlaveOf}
+use Rattle.schedule_file.specs.Header.{Heading, heading_new, heading_after, profile_given, profile_taken, heading_with, title_taken, fields_taken, IsMasterOf, IsSlaveOf}
 use Rattle.schedule_file.specs.HeaderKind.{title_of}
 use Rattle.schedule_file.specs.HeaderLine.{profile_line, lengths_line, end_numbers, master_line, slave_line, any_line, listed_line, rule_line, range_line, header_line}
 use Rattle.schedule_file.specs.Event.{InRange, RuleInRange}
 use Rattle.schedule_file.specs.HeaderPart.{lows_of, highs_of, list_with, rule_begun, rule_with_bytes, rule_with_pairs, master_with_app, slave_with_bytes, slave_with_pairs, profile_for}
-use Rattle.schedule_file.specs.Input.{InputCause, Stop, WholeHeader, header_step, header_in, lines_of, header_of, input_by, input_of, schedule_format}
+use Rattle.schedule_file.specs.Input.{input_of, schedule_format}
 use Rattle.schedule_file.specs.Place.{is_start, admitted, header_word_of}
 use Rattle.schedule_file.specs.declared.header_kind.HeaderKind.{HeaderKind}
 use Rattle.schedule_file.specs.declared.header_line.HeaderLine.{HeaderLine}
@@ -42,6 +42,7 @@ use Rattle.schedule_file.specs.declared.place.Place.{Place}
 use Rattle.schedule_file.specs.declared.place.Place.TheVariants as place
 use Rattle.schedule_file.specs.declared.place.Word.{Word}
 use Rattle.schedule_file.specs.declared.place.Word.TheVariants as word
+use Rattle.schedule_file.proofs.Headed.{either, headed}
 
 -- lengths that settings may have
 pub record AreLengths (line : LengthsLine) : Type 0 where
@@ -225,39 +226,16 @@ fields_sound h [] s = tt
 fields_sound h (first ∷ fields) s =
     each (admitted h.kind h.place (header_word_of first)) _ _ (λ word. known (header_line word fields) _ _ _ (line_sound word fields) (λ line range. each (profile_given h word) _ _ (λ given. taken_sound h line range s)))
 
-after_by : (b : Bool) (h : Heading) (text : List ℕ) → Sound h → IfOk (if b then title_taken h text else fields_taken h (fields_of text)) Sound
-after_by true h text s = title_sound (bytes_eq text (title_of h.kind)) h s
-after_by false h text s = fields_sound h (fields_of text) s
-
 pub after_sound : (h : Heading) (text : List ℕ) → Sound h → IfOk (heading_after h text) Sound
-after_sound h text s = after_by (is_start h.place) h text s
+after_sound h text s = either (is_start h.place) (title_taken h text) (fields_taken h (fields_of text)) Sound (title_sound (bytes_eq text (title_of h.kind)) h s) (fields_sound h (fields_of text) s)
 
 -- a whole header says such values
-step_by : (done : Bool) (h : Heading) (number : ℕ) (rest : List (Result (List ℕ) InputCause)) (later : Result WholeHeader Stop) → Sound h → IfOk later (λ whole. Sound whole.heading)
-    → IfOk (if done then Ok (record { heading = h; lines = number; rest = rest }) else later) (λ whole. Sound whole.heading)
-step_by true h number rest later s next = s
-step_by false h number rest later s next = next
-
-step_sound : (r : Result Heading LineCause) (number : ℕ) (rest : List (Result (List ℕ) InputCause)) (go_on : Heading → Result WholeHeader Stop) → IfOk r Sound
-    → ((h : Heading) → Sound h → IfOk (go_on h) (λ whole. Sound whole.heading)) → IfOk (header_step heading_is_whole number rest go_on r) (λ whole. Sound whole.heading)
-step_sound (Ok h) number rest go_on s next = step_by (heading_is_whole h) h number rest (go_on h) s (next h s)
-step_sound (Err cause) number rest go_on s next = tt
-
-lines_sound : (kind : HeaderKind) (number : ℕ) (h : Heading) (lines : List (Result (List ℕ) InputCause)) → Sound h → IfOk (header_in (schedule_format kind) number h lines) (λ whole. Sound whole.heading)
-lines_sound kind number h [] s = tt
-lines_sound kind number h (Err why ∷ rest) s = tt
-lines_sound kind number h (Ok text ∷ rest) s =
-    step_sound (heading_after h text) number rest (λ next. header_in (schedule_format kind) (number + 1) next rest) (after_sound h text s) (λ next sound. lines_sound kind (number + 1) next rest sound)
-
 pub new_sound : (kind : HeaderKind) → Sound (heading_new kind)
 new_sound kind = (
   record { master = refl; slave = refl },
   record { conn = omega arith; watchdog = omega arith; allowed = profile_allows 0 },
   record { hand = omega arith; most = omega arith; acceptable = refl; allowed = profile_allows 0 },
 )
-
-header_sound : (kind : HeaderKind) (lines : List (Result (List ℕ) InputCause)) → IfOk (header_in (schedule_format kind) 1 (heading_new kind) lines) (λ whole. Sound whole.heading)
-header_sound kind lines = lines_sound kind 1 (heading_new kind) lines (new_sound kind)
 
 -- there are settings with these values
 abbrev lengths_of : (h : Heading) → Sound h → Lengths
@@ -297,12 +275,8 @@ slave_settings h s =
     (ss, (refl, refl, record { lengths_are = refl; address_is = refl; hand_is = refl; most_is = refl; rule_is = refl; nonce_is = refl; profile_is = refl }))
 
 -- the header of an input, where it is whole, gives settings of both ends
-heading_sound : (kind : HeaderKind) (r : Result WholeHeader Stop) → IfOk r (λ whole. Sound whole.heading) → IfSome (input_by (schedule_format kind) r).heading Sound
-heading_sound kind (Ok whole) s = s
-heading_sound kind (Err stop) s = tt
-
 input_sound : (kind : HeaderKind) (bytes : List ℕ) → IfSome (input_of kind bytes).heading Sound
-input_sound kind bytes = heading_sound kind (header_of kind bytes) (header_sound kind (lines_of bytes))
+input_sound kind = headed (schedule_format kind) Sound (new_sound kind) after_sound
 
 pub gives_master : (kind : HeaderKind) (bytes : List ℕ) → IfSome (input_of kind bytes).heading (λ h. (ms : MasterSettings) × IsMasterOf h ms)
 gives_master kind bytes = IfSome_then (input_of kind bytes).heading (input_sound kind bytes) (λ h s. master_settings h s)

@@ -10,15 +10,20 @@ abbrev pub ◌>>=◌ : {A B : Type 0} → Result A LineCause → (A → Result B
 Ok x >>= f = f x
 Err e >>= f = Err e
 
+-- a value, or the cause for want of it
+abbrev pub value_or : {A : Type 0} → LineCause → Option A → Result A LineCause
+value_or cause (Some x) = Ok x
+value_or cause None = Err cause
+
 -- what is made of the value, where there is one
 abbrev pub map_ok : {A B : Type 0} → (A → B) → Result A LineCause → Result B LineCause
 map_ok f (Ok x) = Ok (f x)
 map_ok f (Err e) = Err e
 
--- a value, or the cause for want of it
-abbrev pub value_or : {A : Type 0} → LineCause → Option A → Result A LineCause
-value_or cause (Some x) = Ok x
-value_or cause None = Err cause
+-- what is said by the first field, a word, and those after it; without a field the line is refused for this cause
+abbrev pub by_word : {A : Type 0} → LineCause → (List ℕ → List (List ℕ) → Result A LineCause) → List (List ℕ) → Result A LineCause
+by_word cause said [] = Err cause
+by_word cause said (word ∷ fields) = said word fields
 
 -- a field and those after it
 abbrev pub next_field : List (List ℕ) → Result (List ℕ × List (List ℕ)) LineCause

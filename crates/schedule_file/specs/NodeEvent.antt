@@ -1,10 +1,11 @@
 -- What a line says that stands after the header of a node.
-use Rattle.std.specs.Prelude.{List, [], ◌∷◌, ℕ, codes, Option, Some, None, Result, Err, if◌then◌else◌}
+use Rattle.std.specs.Prelude.{List, [], ℕ, codes, Option, Some, None, Result, Err, if◌then◌else◌}
 use Rattle.std.specs.Str.{bytes_eq}
 use Rattle.fsoe_base.specs.declared.command.End.{End}
 use Rattle.param_load.specs.declared.profile.Profile.{Profile}
 use Rattle.schedule_file.specs.EventLine.{bare_line, raw_line, put_line, hold_line, nonce_line}
 use Rattle.schedule_file.specs.Field.{fields_of}
+use Rattle.schedule_file.specs.Fields.{by_word}
 use Rattle.schedule_file.specs.declared.event.Event.TheVariants as event
 use Rattle.schedule_file.specs.declared.event.ScheduleLine.{ScheduleLine}
 use Rattle.schedule_file.specs.declared.event.ScheduleLine.TheVariants as line
@@ -36,11 +37,6 @@ node_said end count profile (Some word.Nonce) fields = nonce_line end profile fi
 node_said end count profile (Some word.Local) fields = bare_line (line.Step (event.Local end)) fields
 node_said end count profile (Some word.End) fields = bare_line line.End fields
 
--- what the fields of a line say, of which the first is its word
-abbrev pub node_said_by : End → ℕ → Profile → List (List ℕ) → Result ScheduleLine LineCause
-node_said_by end count profile [] = Err cause.Word
-node_said_by end count profile (first ∷ fields) = node_said end count profile (word_of first) fields
-
 -- what a line says to the node at this end, which sends so many safe data bytes
 abbrev pub node_line : End → ℕ → Profile → List ℕ → Result ScheduleLine LineCause
-node_line end count profile text = node_said_by end count profile (fields_of text)
+node_line end count profile text = by_word cause.Word (λ word. node_said end count profile (word_of word)) (fields_of text)

@@ -1,11 +1,12 @@
 -- What a line says that stands after the header of a pair.
-use Rattle.std.specs.Prelude.{List, [], ◌∷◌, ℕ, codes, Option, Some, None, Result, Err, if◌then◌else◌}
+use Rattle.std.specs.Prelude.{List, [], ℕ, codes, Option, Some, None, Result, Err, if◌then◌else◌}
 use Rattle.std.specs.Str.{bytes_eq}
 use Rattle.fsoe_base.specs.declared.command.End.{End}
 use Rattle.fsoe_base.specs.declared.command.End.TheVariants as side
 use Rattle.param_load.specs.declared.profile.Profile.{Profile}
 use Rattle.schedule_file.specs.EventLine.{bare_line, deliver_line, altered_line, raw_line, put_line, hold_line, nonce_line}
 use Rattle.schedule_file.specs.Field.{fields_of}
+use Rattle.schedule_file.specs.Fields.{by_word}
 use Rattle.schedule_file.specs.declared.event.Event.TheVariants as event
 use Rattle.schedule_file.specs.declared.event.ScheduleLine.{ScheduleLine}
 use Rattle.schedule_file.specs.declared.event.ScheduleLine.TheVariants as line
@@ -61,8 +62,7 @@ event_said sends profiles word fields = pair_said sends profiles (Some word) fie
 
 -- what the fields of a line say, of which the first is its word
 abbrev pub pair_said_by : (End → ℕ) → (End → Profile) → List (List ℕ) → Result ScheduleLine LineCause
-pair_said_by sends profiles [] = Err cause.Word
-pair_said_by sends profiles (first ∷ fields) = pair_said sends profiles (pair_word_of first) fields
+pair_said_by sends profiles = by_word cause.Word (λ word. pair_said sends profiles (pair_word_of word))
 
 -- what a line says to both ends, which send so many safe data bytes and have these profiles
 abbrev pub pair_line : (End → ℕ) → (End → Profile) → List ℕ → Result ScheduleLine LineCause

@@ -1,13 +1,13 @@
 -- What a line says that stands after the header of several pairs: `t`, a tick of all pairs; `end`; or the number of a
 -- pair, from 1, and an event of this pair. The causes come in their order over the whole line, so those of the event
 -- that come before that of its pair count.
-use Rattle.std.specs.Prelude.{ℕ, zero, suc, nat_lt, nat_le, ◌&&◌, length, List, [], ◌∷◌, Bool, codes, Option, Some, None, Result, Ok, Err, slice_get, if◌then◌else◌}
+use Rattle.std.specs.Prelude.{ℕ, zero, suc, nat_lt, nat_le, ◌&&◌, length, List, [], Bool, codes, Option, Some, None, Result, Ok, Err, slice_get, if◌then◌else◌}
 use Rattle.std.specs.Str.{bytes_eq, all_ascii_digits}
 use Rattle.fsoe_base.specs.declared.command.End.{End}
 use Rattle.param_load.specs.declared.profile.Profile.{Profile}
 use Rattle.param_load.specs.declared.profile.Profile.TheVariants as profile
 use Rattle.schedule_file.specs.Field.{fields_of, number_said}
-use Rattle.schedule_file.specs.Fields.{◌>>=◌, map_ok, value_or, next_field, no_field}
+use Rattle.schedule_file.specs.Fields.{◌>>=◌, map_ok, value_or, by_word, next_field, no_field}
 use Rattle.schedule_file.specs.LineCause.{cause_order}
 use Rattle.schedule_file.specs.PairEvent.{pair_word_of, event_said}
 use Rattle.schedule_file.specs.declared.event.ScheduleLine.{ScheduleLine}
@@ -72,11 +72,10 @@ common_line first fields =
     else if bytes_eq first (codes "end") then map_ok (λ none. said.End) (no_field fields)
     else Err cause.Word
 
--- what the fields of a line say
-abbrev pub pairs_said_by : List (End → ℕ) → List (End → Profile) → List (List ℕ) → Result PairsLine LineCause
-pairs_said_by sends profiles [] = Err cause.Word
-pairs_said_by sends profiles (first ∷ fields) = if is_digits first then numbered_line sends profiles first fields else common_line first fields
+-- what the fields of a line say that begins so
+abbrev pub pairs_said : List (End → ℕ) → List (End → Profile) → List ℕ → List (List ℕ) → Result PairsLine LineCause
+pairs_said sends profiles first fields = if is_digits first then numbered_line sends profiles first fields else common_line first fields
 
 -- what a line says to pairs whose ends send so many safe data bytes and have these profiles
 abbrev pub pairs_line : List (End → ℕ) → List (End → Profile) → List ℕ → Result PairsLine LineCause
-pairs_line sends profiles text = pairs_said_by sends profiles (fields_of text)
+pairs_line sends profiles text = by_word cause.Word (pairs_said sends profiles) (fields_of text)

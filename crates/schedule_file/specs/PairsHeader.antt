@@ -4,7 +4,7 @@
 use Rattle.std.specs.Prelude.{ℕ, ◌+◌, ◌==◌, ◌&&◌, nat_le, Bool, true, false, length, List, [], ◌∷◌, ◌++◌, codes, Result, Ok, Err, if◌then◌else◌}
 use Rattle.std.specs.Str.{bytes_eq}
 use Rattle.schedule_file.specs.Field.{fields_of}
-use Rattle.schedule_file.specs.Fields.{◌>>=◌, one_field, number_16}
+use Rattle.schedule_file.specs.Fields.{◌>>=◌, by_word, one_field, number_16}
 use Rattle.schedule_file.specs.Header.{Heading, heading_new, heading_after, heading_is_whole}
 use Rattle.schedule_file.specs.Limits.{most_pairs}
 use Rattle.schedule_file.specs.NodeHeader.{may_end}
@@ -71,27 +71,14 @@ last_taken h text = do
   last ← heading_after h.last text
   Ok (record h { stage = stage_after last; last = last })
 
--- a header after a later line, by its first field and those after it: after the first line comes the first `pair`, and
--- where the lines of a pair may end, the next one or `go`
+-- a header after a line, by its first field and those after it: after the title comes the first `pair`, and where the
+-- lines of a pair may end, the next one or `go`
 abbrev pub pairs_line_taken : PairsStage → PairsHeading → List ℕ → List ℕ → List (List ℕ) → Result PairsHeading LineCause
+pairs_line_taken stage.Start h text first fields = if bytes_eq text (codes "fsoe 2 pairs") then Ok (record h { stage = stage.Title }) else Err cause.Header
 pairs_line_taken stage.Title h text first fields = if bytes_eq first (codes "pair") then pair_taken h fields else Err cause.Header
 pairs_line_taken stage.Pairs h text first fields = if bytes_eq first (codes "pair") && may_end h.last then pair_taken h fields else last_taken h text
 pairs_line_taken other h text first fields = Err cause.Header
 
--- the same by all its fields
-abbrev pub pairs_fields_taken : PairsHeading → List ℕ → List (List ℕ) → Result PairsHeading LineCause
-pairs_fields_taken h text [] = Err cause.Header
-pairs_fields_taken h text (first ∷ fields) = pairs_line_taken h.stage h text first fields
-
--- a header after its first line
-abbrev pub pairs_title_taken : PairsHeading → List ℕ → Result PairsHeading LineCause
-pairs_title_taken h text = if bytes_eq text (codes "fsoe 2 pairs") then Ok (record h { stage = stage.Title }) else Err cause.Header
-
--- a header after its next line, by how far it is
-abbrev pub pairs_text_taken : PairsStage → PairsHeading → List ℕ → Result PairsHeading LineCause
-pairs_text_taken stage.Start h text = pairs_title_taken h text
-pairs_text_taken other h text = pairs_fields_taken h text (fields_of text)
-
 -- a header after its next line, or why that line is refused
 abbrev pub pairs_heading_after : PairsHeading → List ℕ → Result PairsHeading LineCause
-pairs_heading_after h text = pairs_text_taken h.stage h text
+pairs_heading_after h text = by_word cause.Header (pairs_line_taken h.stage h text) (fields_of text)

@@ -2,13 +2,12 @@
 ghost use Rattle.std.specs.Prelude.{◌≡◌, ◌⊎◌, ◌+◌, ◌<◌, ◌≤◌, IfOk, IfSome, IsTrue, OnErr, OnOk, Some, length, map};
 ghost use Rattle.fsoe_base.specs.LengthsOf.{length_of};
 ghost use Rattle.schedule_file.specs.Event.{profile_of};
-ghost use Rattle.schedule_file.specs.Field.{fields_of};
 ghost use Rattle.schedule_file.specs.FieldsRead.{fields_after, Becomes};
 ghost use Rattle.schedule_file.specs.Header.{IsMasterOf, IsSlaveOf};
 ghost use Rattle.schedule_file.specs.Input.{heading_profile, own_length};
 ghost use Rattle.schedule_file.specs.NodeHeader.{may_end};
 ghost use Rattle.schedule_file.specs.PairsEvent.{numbered};
-ghost use Rattle.schedule_file.specs.PairsHeader.{last_taken, pair_begun, next_pair, pair_taken, pairs_fields_taken, pairs_heading_after, pairs_heading_is_whole, pairs_heading_new, pairs_of, pairs_title_taken};
+ghost use Rattle.schedule_file.specs.PairsHeader.{last_taken, pair_begun, next_pair, pair_taken, pairs_heading_after, pairs_heading_is_whole, pairs_heading_new, pairs_of};
 ghost use Rattle.schedule_file.specs.PairsFit.{IsPair};
 ghost use Rattle.schedule_file.specs.PairsLinesLeft.{pairs_lines_left};
 
@@ -138,30 +137,12 @@ impl PairsHeader {
         ensures next { Becomes result self.new (pairs_heading_after self.old line.now) }
         ensures fewer { OnOk result (pairs_lines_left self.new < pairs_lines_left self.old) }
     {
-        match self.stage {
-            PairsStage::Start => self.read_title(line),
-            _ => self.read_fields(line),
-        }
-    }
-
-    fn read_title(&mut self, line: &[u8]) -> Result<(), LineCause>
-        requires { self.old.stage ≡ PairsStage.Start }
-        ensures next { Becomes result self.new (pairs_title_taken self.old line.now) }
-        ensures fewer { OnOk result (pairs_lines_left self.new < pairs_lines_left self.old) }
-    {
-        if line != b"fsoe 2 pairs".as_slice() {
-            return Err(LineCause::Header);
-        }
-        self.stage = PairsStage::Title;
-        Ok(())
-    }
-
-    fn read_fields(&mut self, line: &[u8]) -> Result<(), LineCause>
-        ensures next { Becomes result self.new (pairs_fields_taken self.old line.now (fields_of line.now)) }
-        ensures fewer { OnOk result (pairs_lines_left self.new < pairs_lines_left self.old) }
-    {
         let (first, fields) = cut(line);
         match self.stage {
+            PairsStage::Start if line == b"fsoe 2 pairs".as_slice() => {
+                self.stage = PairsStage::Title;
+                Ok(())
+            }
             PairsStage::Title if first == b"pair".as_slice() => self.take_pair(fields),
             PairsStage::Pairs if first == b"pair".as_slice() && self.last.may_end() => {
                 self.take_pair(fields)

@@ -17,7 +17,7 @@ use Rattle.fsoe_base.specs.declared.lengths.TheConstants.{MOST_FRAME}
 use Rattle.fsoe_frame.specs.Parts.{AreBytes}
 use Rattle.fsoe_io.specs.declared.status.Ended.{Ended}
 use Rattle.schedule_file.specs.Field.{bytes_said, fields_of, some_bytes}
-use Rattle.schedule_file.specs.Fields.{map_ok, next_field, no_field, number_16, one_field, one_hex_field, value_or, ◌>>=◌}
+use Rattle.schedule_file.specs.Fields.{map_ok, by_word, next_field, no_field, number_16, one_field, one_hex_field, value_or, ◌>>=◌}
 use Rattle.schedule_file.specs.HeaderLine.{lengths_line}
 use Rattle.schedule_file.specs.Input.{before_more, header_in, header_read, header_step, input_by, input_read, lines_of, steps, texts, with_room, AtEnd, InputCause, Refused, Stop, WholeHeaderOf}
 use Rattle.schedule_file.specs.declared.header_line.LengthsLine.{LengthsLine}
@@ -28,7 +28,7 @@ use Rattle.file_run.specs.Ran.{EndsWhole}
 use Rattle.file_run.specs.Report.{refused_line}
 use Rattle.file_run.specs.Reporting.{refused_at, ReportsSoFar}
 use Rattle.trace_diag.specs.Judged.{first_difference, AreOfBytes, NotesFrame, TraceStands, TraceView, judge_reporting, DiagnosisStands}
-use Rattle.trace_diag.specs.Lines.{fields_taken, frame_line, frame_said, heading_new, lengths_taken, line_taken, trace_format, trace_heading_after, trace_is_whole, trace_line, trace_said, trace_said_by, word_taken, TraceHeading}
+use Rattle.trace_diag.specs.Lines.{frame_line, frame_said, heading_new, lengths_taken, line_taken, trace_format, trace_heading_after, trace_is_whole, trace_line, trace_said, TraceHeading}
 use Rattle.trace_diag.specs.Report.{ended_by, frames_line, verdict_lines, AreLengths, DiagnoseReports}
 use Rattle.trace_diag.specs.Settings.{settings_told}
 use Rattle.trace_diag.specs.Trace.{Noted}
@@ -83,25 +83,19 @@ any-holds : {A : Type 0} (r : Result A LineCause) → HoldsOf (λ x. Unit {0}) r
 any-holds (Ok x) = tt
 any-holds (Err why) = tt
 
-word-holds : (at : Stage) (h : TraceHeading) (word : List ℕ) (fields : List (List ℕ)) → HasLengths h → HoldsOf HasLengths (word_taken at h word fields)
-word-holds stage.Start h word fields k = tt
-word-holds stage.Title h word fields k =
+line-holds : (at : Stage) (h : TraceHeading) (text word : List ℕ) (fields : List (List ℕ)) → HasLengths h → HoldsOf HasLengths (line_taken at h text word fields)
+line-holds stage.Start h text word fields k = if-holds HasLengths (bytes_eq text (codes "fsoe 1 trace")) (Ok (record h { stage = stage.Title })) (Err cause.Header) k tt
+line-holds stage.Title h text word fields k =
     if-holds HasLengths (bytes_eq word (codes "lengths")) (map_ok lengths_taken (lengths_line fields)) (Err cause.Header)
     (map-holds (λ (l : LengthsLine). AreValid l.master l.slave) HasLengths lengths_taken (lengths_line fields) (lengths-valid fields) (λ l valid. valid)) tt
-word-holds stage.Lengths h word fields k =
+line-holds stage.Lengths h text word fields k =
     if-holds HasLengths (bytes_eq word (codes "go")) (map_ok (λ none. record h { stage = stage.Done }) (no_field fields)) (Err cause.Header)
     (map-holds (λ x. Unit {0}) HasLengths (λ none. record h { stage = stage.Done }) (no_field fields) (any-holds (no_field fields)) (λ x u. k)) tt
-word-holds stage.Done h word fields k = tt
+line-holds stage.Done h text word fields k = tt
 
-fields-hold : (at : Stage) (h : TraceHeading) (fields : List (List ℕ)) → HasLengths h → HoldsOf HasLengths (fields_taken at h fields)
-fields-hold at h [] k = tt
-fields-hold at h (word ∷ fields) k = word-holds at h word fields k
-
-line-holds : (at : Stage) (h : TraceHeading) (text : List ℕ) → HasLengths h → HoldsOf HasLengths (line_taken at h text)
-line-holds stage.Start h text k = if-holds HasLengths (bytes_eq text (codes "fsoe 1 trace")) (Ok (record h { stage = stage.Title })) (Err cause.Header) k tt
-line-holds stage.Title h text k = fields-hold stage.Title h (fields_of text) k
-line-holds stage.Lengths h text k = fields-hold stage.Lengths h (fields_of text) k
-line-holds stage.Done h text k = fields-hold stage.Done h (fields_of text) k
+fields-hold : (h : TraceHeading) (text : List ℕ) (fields : List (List ℕ)) → HasLengths h → HoldsOf HasLengths (by_word cause.Header (line_taken h.stage h text) fields)
+fields-hold h text [] k = tt
+fields-hold h text (word ∷ fields) k = line-holds h.stage h text word fields k
 
 -- a header that is done has valid lengths, and no input ends in its header
 abbrev IsHeaded : Result (WholeHeaderOf TraceHeading) Stop → Type 0
@@ -122,7 +116,7 @@ headed-in : (number : ℕ) (h : TraceHeading) (lines : List (Result (List ℕ) I
 headed-in number h [] k = tt
 headed-in number h (Err why ∷ rest) k = tt
 headed-in number h (Ok text ∷ rest) k =
-    step-headed number rest (λ next. header_in trace_format (number + 1) next rest) (trace_heading_after h text) (line-holds h.stage h text k) (λ next valid. headed-in (number + 1) next rest valid)
+    step-headed number rest (λ next. header_in trace_format (number + 1) next rest) (trace_heading_after h text) (fields-hold h text (fields_of text) k) (λ next valid. headed-in (number + 1) next rest valid)
 
 -- frames of bytes are so in either order
 reverse-bytes : (t : List Noted) → AreOfBytes t → AreOfBytes (reverse t)
@@ -225,7 +219,7 @@ word-so P word fields field-so =
     (if-holds (IsSaidSo P) (bytes_eq word (codes "end")) (map_ok (λ none. says.Last) (no_field fields)) (Err cause.Word)
     (map-holds (λ x. Unit {0}) (IsSaidSo P) (λ none. says.Last) (no_field fields) (any-holds (no_field fields)) (λ x u. tt)) tt))
 
-said-so : (P : List ℕ → Type 0) (fields : List (List ℕ)) → IsFieldSo P → HoldsOf (IsSaidSo P) (trace_said_by fields)
+said-so : (P : List ℕ → Type 0) (fields : List (List ℕ)) → IsFieldSo P → HoldsOf (IsSaidSo P) (by_word cause.Word trace_said fields)
 said-so P [] field-so = tt
 said-so P (word ∷ fields) field-so = word-so P word fields field-so
 

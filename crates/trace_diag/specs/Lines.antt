@@ -2,13 +2,13 @@
 -- a line says which end sent a frame, and the frame: `m` for the master and `s` for the slave, with 1 to 255 bytes in
 -- hexadecimal; and the last is `end`. The first cause for which a line is refused is found as in other inputs. This
 -- grammar is this profile's own.
-use Rattle.std.specs.Prelude.{ℕ, Bool, true, false, ◌==◌, List, [], ◌∷◌, length, codes, Option, Some, None, Result, Ok, Err, if◌then◌else◌}
+use Rattle.std.specs.Prelude.{ℕ, Bool, true, false, ◌==◌, List, [], length, codes, Option, Some, None, Result, Ok, Err, if◌then◌else◌}
 use Rattle.std.specs.Str.{bytes_eq}
 use Rattle.fsoe_base.specs.declared.command.End.{End}
 use Rattle.fsoe_base.specs.declared.command.End.TheVariants as end_name
 use Rattle.fsoe_base.specs.Lengths.{most_frame}
 use Rattle.schedule_file.specs.Field.{fields_of}
-use Rattle.schedule_file.specs.Fields.{map_ok, no_field, one_hex_field}
+use Rattle.schedule_file.specs.Fields.{map_ok, by_word, no_field, one_hex_field}
 use Rattle.schedule_file.specs.HeaderLine.{lengths_line}
 use Rattle.schedule_file.specs.Input.{InputFormat}
 use Rattle.schedule_file.specs.Limits.{max_events}
@@ -43,27 +43,16 @@ trace_is_whole h = is_done h.stage
 abbrev pub lengths_taken : LengthsLine → TraceHeading
 lengths_taken l = record { stage = stage.Lengths; master = l.master; slave = l.slave }
 
--- a header after its first line, or why that is refused
-abbrev pub title_taken : TraceHeading → List ℕ → Result TraceHeading LineCause
-title_taken h text = if bytes_eq text (codes "fsoe 1 trace") then Ok (record h { stage = stage.Title }) else Err cause.Header
-
--- a header after a line by its fields, of which the first is a word that may stand there, or why the line is refused
-abbrev pub word_taken : Stage → TraceHeading → List ℕ → List (List ℕ) → Result TraceHeading LineCause
-word_taken stage.Title h word fields = if bytes_eq word (codes "lengths") then map_ok lengths_taken (lengths_line fields) else Err cause.Header
-word_taken stage.Lengths h word fields = if bytes_eq word (codes "go") then map_ok (λ none. record h { stage = stage.Done }) (no_field fields) else Err cause.Header
-word_taken _ h word fields = Err cause.Header
-
-abbrev pub fields_taken : Stage → TraceHeading → List (List ℕ) → Result TraceHeading LineCause
-fields_taken at h [] = Err cause.Header
-fields_taken at h (word ∷ fields) = word_taken at h word fields
-
-abbrev pub line_taken : Stage → TraceHeading → List ℕ → Result TraceHeading LineCause
-line_taken stage.Start h text = title_taken h text
-line_taken at h text = fields_taken at h (fields_of text)
+-- a header after a line, by its word and the fields after it: the title, the lengths and `go`
+abbrev pub line_taken : Stage → TraceHeading → List ℕ → List ℕ → List (List ℕ) → Result TraceHeading LineCause
+line_taken stage.Start h text word fields = if bytes_eq text (codes "fsoe 1 trace") then Ok (record h { stage = stage.Title }) else Err cause.Header
+line_taken stage.Title h text word fields = if bytes_eq word (codes "lengths") then map_ok lengths_taken (lengths_line fields) else Err cause.Header
+line_taken stage.Lengths h text word fields = if bytes_eq word (codes "go") then map_ok (λ none. record h { stage = stage.Done }) (no_field fields) else Err cause.Header
+line_taken stage.Done h text word fields = Err cause.Header
 
 -- a header after its next line, or why that line is refused
 abbrev pub trace_heading_after : TraceHeading → List ℕ → Result TraceHeading LineCause
-trace_heading_after h text = line_taken h.stage h text
+trace_heading_after h text = by_word cause.Header (line_taken h.stage h text) (fields_of text)
 
 -- a frame of 1 to 255 bytes
 abbrev pub frame_line : End → List (List ℕ) → Result TraceLine LineCause
@@ -77,14 +66,9 @@ trace_said word fields =
     else if bytes_eq word (codes "end") then map_ok (λ none. says.Last) (no_field fields)
     else Err cause.Word
 
--- what the fields of a line say, of which the first is its word
-abbrev pub trace_said_by : List (List ℕ) → Result TraceLine LineCause
-trace_said_by [] = Err cause.Word
-trace_said_by (first ∷ fields) = trace_said first fields
-
 -- what a line of a trace says after the header
 abbrev pub trace_line : List ℕ → Result TraceLine LineCause
-trace_line text = trace_said_by (fields_of text)
+trace_line text = by_word cause.Word trace_said (fields_of text)
 
 -- the frame that a line says; the last line says none
 abbrev pub frame_said : TraceLine → Option Noted

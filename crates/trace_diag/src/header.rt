@@ -1,8 +1,8 @@
 //! The header of a recorded trace, line by line.
-ghost use Rattle.std.specs.Prelude.{◌≡◌, ◌≢◌, ◌<◌, IfOk, MatchResult, OnOk, Ok, Err};
+ghost use Rattle.std.specs.Prelude.{◌≡◌, ◌<◌, IfOk, MatchResult, OnOk, Ok, Err};
 ghost use Rattle.schedule_file.specs.FieldsRead.{fields_after, Becomes};
 ghost use Rattle.schedule_file.specs.HeaderLine.{lengths_line};
-ghost use Rattle.trace_diag.specs.Lines.{heading_new, line_taken, title_taken, trace_heading_after, trace_is_whole, word_taken};
+ghost use Rattle.trace_diag.specs.Lines.{heading_new, trace_heading_after, trace_is_whole};
 ghost use Rattle.trace_diag.specs.LinesLeft.{trace_lines_left};
 ghost use Rattle.trace_diag.specs.Report.{AreLengths};
 
@@ -97,63 +97,19 @@ impl TraceHeader {
         ensures next { Becomes result self.new (trace_heading_after self.old line.now) }
         ensures fewer { OnOk result (trace_lines_left self.new < trace_lines_left self.old) }
     {
-        match self.stage {
-            Stage::Start => self.read_title(line),
-            _ => self.read_fields(line),
-        }
-    }
-
-    /// The first line.
-    fn read_title(&mut self, line: &[u8]) -> Result<(), LineCause>
-        requires { self.old.stage ≡ Stage.Start }
-        ensures next { Becomes result self.new (title_taken self.old line.now) }
-        ensures fewer { OnOk result (self.new.stage ≡ Stage.Title) }
-    {
-        if line == b"fsoe 1 trace".as_slice() {
-            self.stage = Stage::Title;
-            Ok(())
-        } else {
-            Err(LineCause::Header)
-        }
-    }
-
-    /// A line after the first.
-    fn read_fields(&mut self, line: &[u8]) -> Result<(), LineCause>
-        requires { self.old.stage ≢ Stage.Start }
-        ensures next { Becomes result self.new (line_taken self.old.stage self.old line.now) }
-        ensures fewer { OnOk result (trace_lines_left self.new < trace_lines_left self.old) }
-    {
         let (word, fields) = cut(line);
         match self.stage {
-            Stage::Title => self.take_lengths(word, fields),
-            Stage::Lengths => self.take_go(word, fields),
-            _ => Err(LineCause::Header),
+            Stage::Start if line == b"fsoe 1 trace".as_slice() => self.stage = Stage::Title,
+            Stage::Title if word == b"lengths".as_slice() => {
+                self.lengths = read_lengths(fields)?;
+                self.stage = Stage::Lengths;
+            }
+            Stage::Lengths if word == b"go".as_slice() => {
+                no_field(fields)?;
+                self.stage = Stage::Done;
+            }
+            _ => return Err(LineCause::Header),
         }
-    }
-
-    fn take_lengths(&mut self, word: &[u8], fields: Option<&[u8]>) -> Result<(), LineCause>
-        ensures next { Becomes result self.new (word_taken Stage.Title self.old word.now (fields_after fields.entry)) }
-        ensures fewer { OnOk result (self.new.stage ≡ Stage.Lengths) }
-    {
-        if word == b"lengths".as_slice() {
-            self.lengths = read_lengths(fields)?;
-            self.stage = Stage::Lengths;
-            Ok(())
-        } else {
-            Err(LineCause::Header)
-        }
-    }
-
-    fn take_go(&mut self, word: &[u8], fields: Option<&[u8]>) -> Result<(), LineCause>
-        ensures next { Becomes result self.new (word_taken Stage.Lengths self.old word.now (fields_after fields.entry)) }
-        ensures fewer { OnOk result (self.new.stage ≡ Stage.Done) }
-    {
-        if word == b"go".as_slice() {
-            no_field(fields)?;
-            self.stage = Stage::Done;
-            Ok(())
-        } else {
-            Err(LineCause::Header)
-        }
+        Ok(())
     }
 }

@@ -5,19 +5,20 @@ use Rattle.std.specs.Str.{bytes_eq}
 use Rattle.std.proofs.lemmas.Fmt.{decimal_digit}
 use Rattle.std.proofs.lemmas.Slice.Eq.{bytes_eq-Decides}
 use Rattle.schedule_file.specs.Field.{fields_of}
-use Rattle.schedule_file.specs.Fields.{◌>>=◌}
+use Rattle.schedule_file.specs.Fields.{◌>>=◌, by_word}
 use Rattle.schedule_file.specs.Header.{Heading, fields_taken, heading_after, heading_is_whole, title_taken}
 use Rattle.schedule_file.specs.Input.{heading_profile, own_length, said_after}
 use Rattle.schedule_file.specs.NodeHeader.{may_end}
 use Rattle.schedule_file.specs.PairsEvent.{pairs_line}
 use Rattle.schedule_file.specs.PairsFit.{with_pair}
-use Rattle.schedule_file.specs.PairsHeader.{PairsHeading, last_taken, pair_taken, pairs_begun, pairs_fields_taken, pairs_heading_after, pairs_of, stage_after}
+use Rattle.schedule_file.specs.PairsHeader.{PairsHeading, last_taken, pair_taken, pairs_begun, pairs_line_taken, pairs_heading_after, pairs_of, stage_after}
 use Rattle.schedule_file.specs.PairsInput.{pairs_said_after}
 use Rattle.schedule_file.specs.Place.{is_start}
 use Rattle.schedule_file.specs.declared.event.Event.{Event}
 use Rattle.schedule_file.specs.declared.event.ScheduleLine.TheVariants as said
 use Rattle.schedule_file.specs.declared.header_kind.HeaderKind.TheVariants as kind
 use Rattle.schedule_file.specs.declared.line_cause.LineCause.{LineCause}
+use Rattle.schedule_file.specs.declared.line_cause.LineCause.TheVariants as cause
 use Rattle.schedule_file.specs.declared.pairs_header.PairsStage.{PairsStage}
 use Rattle.schedule_file.specs.declared.pairs_header.PairsStage.TheVariants as stage
 use Rattle.schedule_file.specs.declared.pairs_line.PairsLine.TheVariants as pairs_said
@@ -37,7 +38,7 @@ no_pair_line h next line first fields true e taken =
     let never : fields_taken h (codes "pair" ∷ fields) ≡ Ok next = ap (λ (f : List ℕ). fields_taken h (f ∷ fields)) (sym is) ∙ taken in
     cc
 
-by_fields : (h next : Heading) (line : List ℕ) (fields : List (List ℕ)) → fields_taken h fields ≡ Ok next → pairs_fields_taken (begun h) line fields ≡ last_taken (begun h) line
+by_fields : (h next : Heading) (line : List ℕ) (fields : List (List ℕ)) → fields_taken h fields ≡ Ok next → by_word cause.Header (pairs_line_taken stage.Pairs (begun h) line) fields ≡ last_taken (begun h) line
 by_fields h next line [] taken = cc
 by_fields h next line (first ∷ fields) taken = no_pair_line h next line first fields (bytes_eq first (codes "pair")) refl taken
 

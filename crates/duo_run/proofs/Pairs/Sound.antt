@@ -1,20 +1,20 @@
 -- Each header of several pairs that is whole says settings of both ends of each.
-use Rattle.std.proofs.Common.{◌+◌, ℕ, List, [], ◌∷◌, Bool, true, false, All, length, Option, Some, None, IfSome, refl}
-use Rattle.std.specs.Prelude.{IfOk, Result, Ok, Err, if◌then◌else◌, codes, ◌&&◌}
+use Rattle.std.proofs.Common.{◌+◌, ℕ, List, [], ◌∷◌, All, length, Option, Some, None, IfSome, refl}
+use Rattle.std.specs.Prelude.{IfOk, Ok, Err, codes, ◌&&◌}
 use Rattle.std.specs.List.{AllZip}
 use Rattle.std.specs.Str.{bytes_eq}
 use Rattle.std.proofs.lemmas.List.Elements.{All-head, All-tail, All-nil, All-push}
 use Rattle.schedule_file.specs.Field.{fields_of}
+use Rattle.schedule_file.specs.Fields.{by_word}
 use Rattle.schedule_file.specs.Header.{Heading, heading_after}
-use Rattle.schedule_file.specs.Input.{InputCause, Stop, WholeHeaderOf, header_step, header_in, header_read, input_by, lines_of}
 use Rattle.schedule_file.specs.NodeHeader.{may_end}
-use Rattle.schedule_file.specs.PairsHeader.{PairsHeading, last_taken, next_pair, pair_begun, pair_taken, pairs_begun, pairs_fields_taken, pairs_heading_after, pairs_heading_is_whole, pairs_heading_new, pairs_line_taken, pairs_of, pairs_text_taken}
+use Rattle.schedule_file.specs.PairsHeader.{PairsHeading, last_taken, next_pair, pair_begun, pair_taken, pairs_begun, pairs_line_taken, pairs_of}
 use Rattle.schedule_file.specs.PairsInput.{pairs_format, pairs_input}
 use Rattle.schedule_file.specs.declared.header_kind.HeaderKind.TheVariants as kind
-use Rattle.schedule_file.specs.declared.line_cause.LineCause.{LineCause}
 use Rattle.schedule_file.specs.declared.line_cause.LineCause.TheVariants as cause
 use Rattle.schedule_file.specs.declared.pairs_header.PairsStage.{PairsStage}
 use Rattle.schedule_file.specs.declared.pairs_header.PairsStage.TheVariants as stage
+use Rattle.schedule_file.proofs.Headed.{either, headed}
 use Rattle.schedule_file.proofs.Sound.{Sound, each, known, after_sound, new_sound, master_settings, slave_settings}
 use Rattle.duo_run.specs.Pairs.{Pair}
 use Rattle.duo_run.specs.PairsReport.{ArePairs, IsPairOf}
@@ -34,14 +34,6 @@ pairs-sound stage.Pairs before last h p = All-push Sound before last h p
 pairs-sound stage.Done before last h p = All-push Sound before last h p
 
 -- a header after one more line
-chosen : {A : Type 0} (b : Bool) (r : Result A LineCause) (c : LineCause) (P : A → Type 0) → IfOk r P → IfOk (if b then r else Err c) P
-chosen true r c P h = h
-chosen false r c P h = tt
-
-either : {A : Type 0} (b : Bool) (r t : Result A LineCause) (P : A → Type 0) → IfOk r P → IfOk t P → IfOk (if b then r else t) P
-either true r t P h i = h
-either false r t P h i = i
-
 pair-sound : (h : PairsHeading) (fields : List (List ℕ)) → AreSound h → IfOk (pair_taken h fields) AreSound
 pair-sound h fields s = each (next_pair (length (pairs_of h) + 1) fields) _ AreSound (λ next. (pairs-sound h.stage h.before h.last s.0 s.1, begun-sound))
 
@@ -49,43 +41,15 @@ last-sound : (h : PairsHeading) (text : List ℕ) → AreSound h → IfOk (last_
 last-sound h text s = known (heading_after h.last text) _ Sound AreSound (after_sound h.last text s.1) (λ last sound. (s.0, sound))
 
 line-sound : (st : PairsStage) (h : PairsHeading) (text first : List ℕ) (fields : List (List ℕ)) → AreSound h → IfOk (pairs_line_taken st h text first fields) AreSound
-line-sound stage.Title h text first fields s = chosen (bytes_eq first (codes "pair")) (pair_taken h fields) cause.Header AreSound (pair-sound h fields s)
+line-sound stage.Start h text first fields s = either (bytes_eq text (codes "fsoe 2 pairs")) (Ok (record h { stage = stage.Title })) (Err cause.Header) AreSound s tt
+line-sound stage.Title h text first fields s = either (bytes_eq first (codes "pair")) (pair_taken h fields) (Err cause.Header) AreSound (pair-sound h fields s) tt
 line-sound stage.Pairs h text first fields s = either (bytes_eq first (codes "pair") && may_end h.last) (pair_taken h fields) (last_taken h text) AreSound (pair-sound h fields s) (last-sound h text s)
-line-sound stage.Start h text first fields s = tt
 line-sound stage.Done h text first fields s = tt
 line-sound stage.Refused h text first fields s = tt
 
-fields-sound : (h : PairsHeading) (text : List ℕ) (fields : List (List ℕ)) → AreSound h → IfOk (pairs_fields_taken h text fields) AreSound
+fields-sound : (h : PairsHeading) (text : List ℕ) (fields : List (List ℕ)) → AreSound h → IfOk (by_word cause.Header (pairs_line_taken h.stage h text) fields) AreSound
 fields-sound h text [] s = tt
 fields-sound h text (first ∷ fields) s = line-sound h.stage h text first fields s
-
-text-sound : (st : PairsStage) (h : PairsHeading) (text : List ℕ) → AreSound h → IfOk (pairs_text_taken st h text) AreSound
-text-sound stage.Start h text s = chosen (bytes_eq text (codes "fsoe 2 pairs")) (Ok (record h { stage = stage.Title })) cause.Header AreSound s
-text-sound stage.Title h text s = fields-sound h text (fields_of text) s
-text-sound stage.Pairs h text s = fields-sound h text (fields_of text) s
-text-sound stage.Done h text s = fields-sound h text (fields_of text) s
-text-sound stage.Refused h text s = fields-sound h text (fields_of text) s
-
--- so when it is whole
-step-by : (done : Bool) (h : PairsHeading) (number : ℕ) (rest : List (Result (List ℕ) InputCause)) (later : Result (WholeHeaderOf PairsHeading) Stop) → AreSound h → IfOk later (λ whole. AreSound whole.heading)
-    → IfOk (if done then Ok (record { heading = h; lines = number; rest = rest }) else later) (λ whole. AreSound whole.heading)
-step-by true h number rest later s next = s
-step-by false h number rest later s next = next
-
-step-sound : (r : Result PairsHeading LineCause) (number : ℕ) (rest : List (Result (List ℕ) InputCause)) (go_on : PairsHeading → Result (WholeHeaderOf PairsHeading) Stop) → IfOk r AreSound
-    → ((h : PairsHeading) → AreSound h → IfOk (go_on h) (λ whole. AreSound whole.heading)) → IfOk (header_step pairs_heading_is_whole number rest go_on r) (λ whole. AreSound whole.heading)
-step-sound (Ok h) number rest go_on s next = step-by (pairs_heading_is_whole h) h number rest (go_on h) s (next h s)
-step-sound (Err e) number rest go_on s next = tt
-
-lines-sound : (number : ℕ) (h : PairsHeading) (lines : List (Result (List ℕ) InputCause)) → AreSound h → IfOk (header_in pairs_format number h lines) (λ whole. AreSound whole.heading)
-lines-sound number h [] s = tt
-lines-sound number h (Err why ∷ rest) s = tt
-lines-sound number h (Ok text ∷ rest) s =
-    step-sound (pairs_heading_after h text) number rest (λ next. header_in pairs_format (number + 1) next rest) (text-sound h.stage h text s) (λ next sound. lines-sound (number + 1) next rest sound)
-
-input-by : (r : Result (WholeHeaderOf PairsHeading) Stop) → IfOk r (λ whole. AreSound whole.heading) → IfSome (input_by pairs_format r).heading AreSound
-input-by (Ok whole) s = s
-input-by (Err stop) s = tt
 
 -- then there are pairs as it says
 pairs-are : (hs : List Heading) → All Sound hs → (pairs : List Pair) × AllZip IsPairOf hs pairs
@@ -103,4 +67,4 @@ pairs-by None s = ([], refl)
 pairs-by (Some h) s = pairs-are (pairs_of h) (pairs-sound h.stage h.before h.last s.0 s.1)
 
 pub some_pairs : (bytes : List ℕ) → (pairs : List Pair) × ArePairs (pairs_input bytes).heading pairs
-some_pairs bytes = pairs-by (pairs_input bytes).heading (input-by (header_read pairs_format bytes) (lines-sound 1 pairs_heading_new (lines_of bytes) (All-nil Sound, begun-sound)))
+some_pairs bytes = pairs-by (pairs_input bytes).heading (headed pairs_format AreSound (All-nil Sound, begun-sound) (λ h text s. fields-sound h text (fields_of text) s) bytes)
