@@ -9,7 +9,8 @@ use Rattle.fb_net.specs.declared.wire.Wire.{Wire}
 use Rattle.plant_conf.specs.declared.fault.ConfFault.{ConfFault}
 use Rattle.plant_conf.specs.declared.key.Key.{Key}
 use Rattle.plant_conf.specs.declared.fault.ConfFault.TheVariants as fault
-use Rattle.plant_conf.specs.Steps.{◌>>=◌, value_or, each, with_first, all_give}
+use Rattle.schedule_file.specs.Fields.{◌>>=◌, value_or}
+use Rattle.plant_conf.specs.Steps.{each, with_first, all_give}
 use Rattle.plant_conf.specs.Forms.{Form, values_of, as_array_of, wire_said, wires}
 use Rattle.plant_conf.specs.Kept.{entry, wire_in}
 use Rattle.plant_conf.specs.declared.key.KeyTable.{KeyTable}

@@ -18,7 +18,7 @@ use Rattle.fb_lib.specs.Kept.{block_of}
 use Rattle.fb_lib.specs.declared.kind.BlockKind.{BlockKind}
 use Rattle.fb_net.specs.declared.wire.Wire.{Wire}
 use Rattle.plant_conf.specs.Meaning.{has_too_many, few_tables, apart, plant_keys, connections, all_of, document_meaning}
-use Rattle.plant_conf.specs.Steps.{◌>>=◌}
+use Rattle.schedule_file.specs.Fields.{◌>>=◌}
 use Rattle.plant_conf.specs.Values.{link_values}
 
 bind : {A B : Type 0} (r : Result A ConfFault) (x : A) (f : A → Result B ConfFault) → r ≡ Ok x → (r >>= f) ≡ f x
@@ -28,7 +28,7 @@ map-itself : {A : Type 0} (xs : List A) → map (λ x. x) xs ≡ xs
 map-itself [] = refl
 map-itself (x ∷ xs) = ap (λ ys. x ∷ ys) (map-itself xs)
 
-ids-of-values : (links : List LinkConf) → map (λ link. link.master.conn) (map link_values links) ≡ map (λ link. link.master.conn) links
+ids-of-values : (links : List LinkConf) → map (λ link. link.keys.id) (map link_values links) ≡ map (λ link. link.master.conn) links
 ids-of-values [] = refl
 ids-of-values (link ∷ links) = ap (λ ids. link.master.conn ∷ ids) (ids-of-values links)
 

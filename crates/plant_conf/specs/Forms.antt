@@ -17,7 +17,8 @@ use Rattle.schedule_file.specs.Field.{number_said}
 use Rattle.plant_conf.specs.declared.key.Key.{Key}
 use Rattle.plant_conf.specs.declared.fault.ConfFault.{ConfFault}
 use Rattle.plant_conf.specs.declared.fault.ConfFault.TheVariants as fault
-use Rattle.plant_conf.specs.Steps.{◌>>=◌, value_or, all_give}
+use Rattle.schedule_file.specs.Fields.{◌>>=◌, value_or}
+use Rattle.plant_conf.specs.Steps.{all_give}
 
 -- what a value says at a key, or why not
 abbrev pub Form : Type 0 → Type 0

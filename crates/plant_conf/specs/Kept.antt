@@ -11,9 +11,10 @@ use Rattle.plant_conf.specs.declared.key.Key.{Key}
 use Rattle.plant_conf.specs.declared.tables.LinkKeys as read_link
 use Rattle.plant_conf.specs.declared.tables.PlantTable.{PlantTable}
 use Rattle.plant_conf.specs.declared.tables.SlaveKeys as read_slave
-use Rattle.plant_conf.specs.Steps.{◌>>=◌, value_or}
+use Rattle.schedule_file.specs.Fields.{◌>>=◌, value_or}
 use Rattle.plant_conf.specs.Forms.{parts_of, wire_said}
-use Rattle.plant_conf.specs.Keys.{PlantKeys, LinkKeys, SlaveKeys}
+use Rattle.plant_conf.specs.Keys.{PlantKeys}
+use Rattle.plant_conf.specs.Values.{LinkKeys, SlaveKeys}
 use Rattle.plant_conf.specs.declared.conf.LinkConf.{LinkConf}
 use Rattle.plant_conf.specs.ConfView.{ConfView}
 use denote.Ref.{Bor}

@@ -5,7 +5,6 @@ use Rattle.toml.specs.Data.{Data, Members, get_member}
 use Rattle.fb_lib.specs.Kept.{block_of}
 use Rattle.fb_net.specs.declared.spec.BlockSpec.{BlockSpec}
 use Rattle.fb_net.specs.declared.spec.Drive.{Drive}
-use Rattle.param_load.specs.declared.app_rule.AppRule.{AppRule}
 use Rattle.param_load.specs.declared.app_rule.AppRule.TheVariants as rule
 use Rattle.param_load.specs.declared.profile.Profile.TheVariants as profile
 use Rattle.plant_conf.specs.declared.conf.BoundSpec.{BoundSpec}
@@ -17,8 +16,8 @@ use Rattle.plant_conf.specs.declared.key.KeyName.TheVariants as name
 use Rattle.plant_conf.specs.declared.key.KeyTable.{KeyTable}
 use Rattle.plant_conf.specs.declared.key.KeyTable.TheVariants as table
 use Rattle.plant_conf.specs.Names.{key_word}
-use Rattle.plant_conf.specs.Values.{LinkValues}
-use Rattle.plant_conf.specs.Steps.{◌>>=◌, value_or}
+use Rattle.plant_conf.specs.Values.{LinkKeys, SlaveKeys, LinkValues}
+use Rattle.schedule_file.specs.Fields.{◌>>=◌, value_or}
 use Rattle.plant_conf.specs.Forms.{Form, number, data_length, text, hex_bytes, app_rule, block_kind, wires, input_bit, output_bit, one_wire}
 
 -- the value at a key
@@ -57,14 +56,6 @@ plant t = do
   Ok (record { app = app; channel = channel; seed = seed })
 
 -- what connection k has to say, and its application parameters
-pub record LinkKeys : Type 0 where
-  pub id : ℕ
-  pub address : ℕ
-  pub watchdog : ℕ
-  pub master_length : ℕ
-  pub slave_length : ℕ
-  pub app : List ℕ
-
 abbrev pub link_keys : ℕ → Members → Result LinkKeys ConfFault
 link_keys k t = do
   id ← required (number 1 65535) (key_of table.Connection k name.Id) t
@@ -83,12 +74,6 @@ link_keys k t = do
   })
 
 -- what connection k may say of its slave
-pub record SlaveKeys : Type 0 where
-  pub rule : AppRule
-  pub address : ℕ
-  pub hand : ℕ
-  pub most : ℕ
-
 abbrev pub slave_keys : ℕ → LinkKeys → Members → Result SlaveKeys ConfFault
 slave_keys k link t = do
   rule ← optional (rule.Any (length link.app)) (app_rule link.app) (key_of table.Connection k name.Rule) t
@@ -105,26 +90,11 @@ connection k t = do
   master_nonce ← optional 1 (number 0 65535) (key_of table.Connection k name.MasterNonce) t
   slave_nonce ← optional 2 (number 0 65535) (key_of table.Connection k name.SlaveNonce) t
   Ok (record {
-    master = record {
-      master_length = link.master_length;
-      slave_length = link.slave_length;
-      conn = link.id;
-      address = link.address;
-      watchdog = link.watchdog;
-      app = link.app;
-      nonce = master_nonce;
-      profile = profile.One;
-    };
-    slave = record {
-      master_length = link.master_length;
-      slave_length = link.slave_length;
-      address = slave.address;
-      hand = slave.hand;
-      most = slave.most;
-      rule = slave.rule;
-      nonce = slave_nonce;
-      profile = profile.One;
-    };
+    keys = link;
+    slave = slave;
+    nonces = (master_nonce, slave_nonce);
+    slave_lengths = (link.master_length, link.slave_length);
+    profiles = (profile.One, profile.One);
   })
 
 -- block k, before its first cycle

@@ -12,7 +12,8 @@ use Rattle.plant_conf.specs.declared.key.KeyTable.TheVariants as table
 use Rattle.plant_conf.specs.ConfView.{ConfValues}
 use Rattle.param_load.specs.SameConn.{same_conn}
 use Rattle.plant_conf.specs.Values.{LinkValues}
-use Rattle.plant_conf.specs.Steps.{◌>>=◌, value_or, each}
+use Rattle.schedule_file.specs.Fields.{◌>>=◌, value_or}
+use Rattle.plant_conf.specs.Steps.{each}
 use Rattle.plant_conf.specs.Forms.{as_array_of, one_table, tables}
 use Rattle.plant_conf.specs.Keys.{PlantKeys, key_of, value_at, required, optional, plant, connection, block, drive, bound}
 
@@ -72,7 +73,7 @@ document_meaning document = do
   blocks ← all_of table.Block block document
   drives ← all_of table.Drive drive document
   bounds ← all_of table.Bound bound document
-  different ← apart (same_conn 1 (map (λ link. link.master.conn) links))
+  different ← apart (same_conn 1 (map (λ link. link.keys.id) links))
   Ok (record {
     links = links;
     blocks = blocks;

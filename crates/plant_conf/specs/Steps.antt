@@ -1,17 +1,7 @@
 -- The steps by which a configuration is read: each gives a value, or a fault; the first fault counts.
-use Rattle.std.specs.Prelude.{ℕ, suc, List, [], ◌∷◌, Option, Some, None, Result, Ok, Err}
+use Rattle.std.specs.Prelude.{ℕ, suc, List, [], ◌∷◌, Option, Some, None, Result, Ok}
+use Rattle.schedule_file.specs.Fields.{◌>>=◌}
 use Rattle.plant_conf.specs.declared.fault.ConfFault.{ConfFault}
-
--- the next step, where this one gave a value
-infixl 10 ◌>>=◌
-abbrev pub ◌>>=◌ : {A B : Type 0} → Result A ConfFault → (A → Result B ConfFault) → Result B ConfFault
-Ok x >>= f = f x
-Err e >>= f = Err e
-
--- a value, or the fault for want of it
-abbrev pub value_or : {A : Type 0} → ConfFault → Option A → Result A ConfFault
-value_or fault (Some x) = Ok x
-value_or fault None = Err fault
 
 -- what is read of each, numbered from k on
 abbrev pub each : {A B : Type 0} → (ℕ → A → Result B ConfFault) → ℕ → List A → Result (List B) ConfFault

@@ -1,59 +1,42 @@
--- The settings of a connection, as plain values: settings hold proofs that their numbers are allowed, which no text
--- gives.
+-- What a connection says, as plain values: settings hold proofs that their numbers are allowed, which no text gives.
 use Rattle.std.specs.Prelude.{ℕ, List}
 use Rattle.param_load.specs.declared.app_rule.AppRule.{AppRule}
-use Rattle.param_load.specs.declared.master_settings.MasterSettings.{MasterSettings}
 use Rattle.param_load.specs.declared.profile.Profile.{Profile}
-use Rattle.param_load.specs.declared.slave_settings.SlaveSettings.{SlaveSettings}
 use Rattle.plant_conf.specs.declared.conf.LinkConf.{LinkConf}
 
-pub record MasterValues : Type 0 where
-  pub master_length : ℕ
-  pub slave_length : ℕ
-  pub conn : ℕ
+-- what it has to say, and its application parameters
+pub record LinkKeys : Type 0 where
+  pub id : ℕ
   pub address : ℕ
   pub watchdog : ℕ
-  pub app : List ℕ
-  pub nonce : ℕ
-  pub profile : Profile
-
-pub record SlaveValues : Type 0 where
   pub master_length : ℕ
   pub slave_length : ℕ
+  pub app : List ℕ
+
+-- what it may say of its slave
+pub record SlaveKeys : Type 0 where
+  pub rule : AppRule
   pub address : ℕ
   pub hand : ℕ
   pub most : ℕ
-  pub rule : AppRule
-  pub nonce : ℕ
-  pub profile : Profile
 
+-- both, and what else the settings of its ends say. The first nonce and the first profile are the master's, the second
+-- are the slave's. The slave has lengths of its own: that of the master's data, and that of the slave's
 pub record LinkValues : Type 0 where
-  pub master : MasterValues
-  pub slave : SlaveValues
-
-abbrev pub master_values : MasterSettings → MasterValues
-master_values s = record {
-  master_length = s.lengths.master;
-  slave_length = s.lengths.slave;
-  conn = s.conn;
-  address = s.address;
-  watchdog = s.watchdog;
-  app = s.app;
-  nonce = s.nonce;
-  profile = s.profile;
-}
-
-abbrev pub slave_values : SlaveSettings → SlaveValues
-slave_values s = record {
-  master_length = s.lengths.master;
-  slave_length = s.lengths.slave;
-  address = s.address;
-  hand = s.hand;
-  most = s.most;
-  rule = s.rule;
-  nonce = s.nonce;
-  profile = s.profile;
-}
+  pub keys : LinkKeys
+  pub slave : SlaveKeys
+  pub nonces : ℕ × ℕ
+  pub slave_lengths : ℕ × ℕ
+  pub profiles : Profile × Profile
 
 abbrev pub link_values : LinkConf → LinkValues
-link_values link = record { master = master_values link.master; slave = slave_values link.slave }
+link_values link =
+    let m = link.master in
+    let s = link.slave in
+    record {
+      keys = record { id = m.conn; address = m.address; watchdog = m.watchdog; master_length = m.lengths.master; slave_length = m.lengths.slave; app = m.app };
+      slave = record { rule = s.rule; address = s.address; hand = s.hand; most = s.most };
+      nonces = (m.nonce, s.nonce);
+      slave_lengths = (s.lengths.master, s.lengths.slave);
+      profiles = (m.profile, s.profile);
+    }

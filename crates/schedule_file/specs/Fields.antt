@@ -1,4 +1,5 @@
--- The steps by which a line is read: each gives a value, or the cause for which the line is refused.
+-- The steps by which a line is read: each gives a value, or the cause for which the line is refused. The first two serve
+-- for other causes too.
 use Rattle.std.specs.Prelude.{List, [], ◌∷◌, ℕ, Option, Some, None, Result, Ok, Err}
 use Rattle.schedule_file.specs.Field.{number_said, bytes_said}
 use Rattle.schedule_file.specs.declared.line_cause.LineCause.{LineCause}
@@ -6,12 +7,12 @@ use Rattle.schedule_file.specs.declared.line_cause.LineCause.TheVariants as caus
 
 -- the next step, where this one gave a value
 infixl 10 ◌>>=◌
-abbrev pub ◌>>=◌ : {A B : Type 0} → Result A LineCause → (A → Result B LineCause) → Result B LineCause
+abbrev pub ◌>>=◌ : {A B E : Type 0} → Result A E → (A → Result B E) → Result B E
 Ok x >>= f = f x
 Err e >>= f = Err e
 
 -- a value, or the cause for want of it
-abbrev pub value_or : {A : Type 0} → LineCause → Option A → Result A LineCause
+abbrev pub value_or : {A E : Type 0} → E → Option A → Result A E
 value_or cause (Some x) = Ok x
 value_or cause None = Err cause
 
