@@ -131,11 +131,7 @@ ConvertedAs status.Ok ended o = ConvertedToEnd ended o
 ConvertedAs status.Line ended o = ConvertedToRefused ended o
 ConvertedAs status.Read ended o = ConvertRead ended.place o
 ConvertedAs status.Write ended o = ConvertWrite ended.place o
-ConvertedAs status.Other ended o = ⊥
-ConvertedAs status.Usage ended o = ⊥
-ConvertedAs status.Config ended o = ⊥
-ConvertedAs status.Desk ended o = ⊥
-ConvertedAs status.Memory ended o = ⊥
+ConvertedAs _ ended o = ⊥
 
 -- an input was converted: how this ended; where neither count of faults rose, as the input stops; and what was counted
 pub record RanConvert (ended : Ended) (o : Outside) : Type 0 where

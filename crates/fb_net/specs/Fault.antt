@@ -3,6 +3,7 @@
 -- then by its wire.
 use Rattle.std.specs.Prelude.{ℕ, ◌+◌, nat_le, not, ◌&&◌, List, [], ◌∷◌, ◌++◌, length, Option, Some, None, if◌then◌else◌}
 use Rattle.std.specs.List.{list_any}
+use Rattle.std.specs.Option.{option_or}
 use Rattle.failsafe_io.specs.Bits.{has_bit, is_same_bit}
 use Rattle.fb_lib.specs.Kind.{takes}
 use Rattle.fb_net.specs.declared.fault.NetFault.{NetFault}
@@ -12,11 +13,6 @@ use Rattle.fb_net.specs.declared.spec.Drive.{Drive}
 use Rattle.fb_net.specs.declared.wire.Wire.{Wire}
 use Rattle.fb_net.specs.declared.wire.Wire.TheVariants as wire
 
--- a fault, or else the next one
-abbrev pub or_next : Option NetFault → Option NetFault → Option NetFault
-or_next (Some f) next = Some f
-or_next None next = next
-
 -- what is wrong with a wire of the block with this number: it reads a bit that no input image has, or a block that
 -- isn't among those before
 abbrev pub wire_fault : List ℕ → ℕ → ℕ → Wire → Option NetFault
@@ -25,7 +21,7 @@ wire_fault ins before number (wire.Block k) = if nat_le 1 k && nat_le k before t
 
 abbrev pub wires_fault : List ℕ → ℕ → ℕ → List Wire → Option NetFault
 wires_fault ins before number [] = None
-wires_fault ins before number (w ∷ ws) = or_next (wire_fault ins before number w) (wires_fault ins before number ws)
+wires_fault ins before number (w ∷ ws) = option_or (wire_fault ins before number w) (wires_fault ins before number ws)
 
 -- the first fault of a block with so many before it: its number of inputs, or else of its wires
 abbrev pub block_fault : List ℕ → ℕ → BlockSpec → Option NetFault
@@ -34,7 +30,7 @@ block_fault ins before b =
 
 abbrev pub blocks_fault : List ℕ → ℕ → List BlockSpec → Option NetFault
 blocks_fault ins before [] = None
-blocks_fault ins before (b ∷ bs) = or_next (block_fault ins before b) (blocks_fault ins (before + 1) bs)
+blocks_fault ins before (b ∷ bs) = option_or (block_fault ins before b) (blocks_fault ins (before + 1) bs)
 
 -- the first fault of a drive after these ones: no image has its bit, an earlier drive sets it, or else of its wire,
 -- which counts as a wire of block 0 and may read any of so many blocks
@@ -47,8 +43,8 @@ drive_fault ins outs count earlier d =
 abbrev pub drives_fault : List ℕ → List ℕ → ℕ → List Drive → List Drive → Option NetFault
 drives_fault ins outs count earlier [] = None
 drives_fault ins outs count earlier (d ∷ ds) =
-    or_next (drive_fault ins outs count earlier d) (drives_fault ins outs count (earlier ++ d ∷ []) ds)
+    option_or (drive_fault ins outs count earlier d) (drives_fault ins outs count (earlier ++ d ∷ []) ds)
 
 -- the first fault of a net with input and output images of these lengths
 abbrev pub first_fault : List ℕ → List ℕ → List BlockSpec → List Drive → Option NetFault
-first_fault ins outs blocks drives = or_next (blocks_fault ins 0 blocks) (drives_fault ins outs (length blocks) [] drives)
+first_fault ins outs blocks drives = option_or (blocks_fault ins 0 blocks) (drives_fault ins outs (length blocks) [] drives)

@@ -103,9 +103,7 @@ LeavesAs r closes d status.Line ended o = LeavesRefused r.format d ended.place o
 LeavesAs r closes d status.Read ended o = LeavesLines d ended.place o
 LeavesAs r closes d status.Write ended o = LeavesUnwritten r closes d ended.place o
 LeavesAs r closes d status.Memory ended o = Grew o.sink.before o.sink.after d.text
-LeavesAs r closes d status.Usage ended o = ⊥
-LeavesAs r closes d status.Config ended o = ⊥
-LeavesAs r closes d status.Desk ended o = ⊥
+LeavesAs r closes d _ ended o = ⊥
 
 -- the bytes that were taken are so many lines of a header, and no line comes after them
 pub record IsHeaderCutOff {H L E : Type 0} (f : InputFormat H L E) (lines : ℕ) (old : Option (List ℕ)) (new : Option (List ℕ)) : Type 0 where

@@ -20,13 +20,7 @@ use Rattle.file_run.specs.WholeLines.{ReadsTo, ReadsUpTo}
 abbrev pub EndsWhole : Bool → Status → ℕ → Type 0
 EndsWhole judges status.Ok place = place ≡ 0
 EndsWhole judges status.Other place = IsTrue judges × (0 < place)
-EndsWhole judges status.Usage place = ⊥
-EndsWhole judges status.Config place = ⊥
-EndsWhole judges status.Line place = ⊥
-EndsWhole judges status.Desk place = ⊥
-EndsWhole judges status.Read place = ⊥
-EndsWhole judges status.Write place = ⊥
-EndsWhole judges status.Memory place = ⊥
+EndsWhole judges _ place = ⊥
 
 -- the number of the line after the events of an input, which is `end` where it stops so
 abbrev pub line_of_end : {H E : Type 0} → InputOf H E → ℕ
@@ -90,10 +84,8 @@ EndsAs r status.Other ended o = CameToEnd r ended o
 EndsAs r status.Line ended o = CameToRefused r ended o
 EndsAs r status.Read ended o = FailedRead r ended.place o
 EndsAs r status.Write ended o = FailedWrite r ended.place o
-EndsAs r status.Usage ended o = ⊥
-EndsAs r status.Config ended o = ⊥
-EndsAs r status.Desk ended o = ⊥
 EndsAs r status.Memory ended o = HadNoMemory r ended o
+EndsAs r _ ended o = ⊥
 
 -- a command ran over an input: how it ended; where neither count of faults rose and memory wasn't wanted, as the input
 -- says; and what was counted

@@ -6,7 +6,7 @@ use Rattle.fsoe_base.specs.LengthsOf.{length_of}
 use Rattle.fsoe_base.specs.declared.command.End.{End}
 use Rattle.fsoe_base.specs.declared.command.End.TheVariants as side
 use Rattle.failsafe_io.specs.Bits.{has_bit}
-use Rattle.fb_net.specs.Fault.{first_fault, or_next}
+use Rattle.fb_net.specs.Fault.{first_fault}
 use Rattle.fb_net.specs.NetView.{NetView}
 use Rattle.fb_net.specs.declared.fault.NetFault.{NetFault}
 use Rattle.fb_net.specs.declared.fault.NetFault.TheVariants as net
@@ -32,7 +32,7 @@ bound_fault ins outs b =
 -- the first of these that does
 abbrev pub bounds_fault : List ℕ → List ℕ → List BoundSpec → Option NetFault
 bounds_fault ins outs [] = None
-bounds_fault ins outs (b ∷ bounds) = or_next (bound_fault ins outs b) (bounds_fault ins outs bounds)
+bounds_fault ins outs (b ∷ bounds) = option_or (bound_fault ins outs b) (bounds_fault ins outs bounds)
 
 -- the first fault of the net of a configuration, or else of its bounds. The net is looked at even where another
 -- application runs
@@ -40,7 +40,7 @@ abbrev pub bits_fault : ConfView → Option NetFault
 bits_fault conf =
     let ins = lengths_at side.Slave conf.links in
     let outs = lengths_at side.Master conf.links in
-    or_next (first_fault ins outs conf.blocks conf.drives) (bounds_fault ins outs conf.bounds)
+    option_or (first_fault ins outs conf.blocks conf.drives) (bounds_fault ins outs conf.bounds)
 
 -- an application of this name is the net of the configuration
 abbrev pub is_net : List ℕ → Bool

@@ -1,6 +1,8 @@
 -- No row of the table applies to a frame exactly where its end has its turn, its length is right, its command is one of
 -- the phase, its connection id holds, no data byte is wrong, and its CRCs are those that are due.
 use Rattle.std.proofs.Common.{◌≡◌, ◌==◌, ℕ, List, length, Bool, true, false, not, Option, Some, None, refl, sym, ap, ◌∙◌, if◌then◌else◌}
+use Rattle.std.specs.Option.{option_or}
+use Rattle.std.specs.Prelude.{option_map}
 use Rattle.std.proofs.lemmas.Bool.{eqb-true, eq-eqb}
 use Rattle.fsoe_base.specs.declared.command.End.{End}
 use Rattle.fsoe_base.specs.declared.lengths.Lengths.{Lengths}
@@ -10,7 +12,7 @@ use Rattle.fsoe_base.specs.LengthsOf.{length_of}
 use Rattle.fsoe_frame.specs.Parts.{Frame, frame_of}
 use Rattle.exchange_model.specs.Ends.{same_end}
 use Rattle.trace_diag.specs.Before.{Before}
-use Rattle.trace_diag.specs.Table.{is_of, conn_holds, wrong_byte, crcs_due, first_differing, crc_field, data_field, contents_field, frame_field, field_by}
+use Rattle.trace_diag.specs.Table.{is_of, conn_holds, wrong_byte, crcs_due, first_differing, contents_field, frame_field, field_by}
 use Rattle.trace_diag.specs.Trace.{Noted, piece_len}
 use Rattle.trace_diag.specs.declared.field.Field.{Field}
 use Rattle.trace_diag.specs.declared.field.Field.TheVariants as field
@@ -33,25 +35,22 @@ no-some : (t : Bool) (which : Field) (rest : Option Field) → (if not t then So
 no-some true which rest e = (refl, e)
 no-some false which rest e = absurd cc
 
-no-data : (place : Option ℕ) (later : Option Field) → data_field place later ≡ None → (place ≡ None) × (later ≡ None)
-no-data None later e = (refl, e)
-no-data (Some p) later e = absurd cc
-
-no-crc : (group : Option ℕ) → crc_field group ≡ None → group ≡ None
-no-crc None e = refl
-no-crc (Some i) e = absurd cc
+no-contents : (place group : Option ℕ) → option_or (option_map field.Data place) (option_map field.Crc group) ≡ None → (place ≡ None) × (group ≡ None)
+no-contents None None e = (refl, refl)
+no-contents None (Some i) e = absurd cc
+no-contents (Some p) group e = absurd cc
 
 -- as many CRCs are due as the frame has
 pub none_right : (c : ℕ) (k : Before) (which : End) (f : Frame) → length f.crcs ≡ length (crcs_due k.due k.chain which f) → frame_field c k which f ≡ None → IsRight c k which f
 none_right c k which f many e =
     let command = no-some (is_of k.due (command_of f.cmd)) field.Command _ e in
     let conn = no-some (conn_holds k.due k.conn f.conn) field.Conn _ command.1 in
-    let contents = no-data (wrong_byte c k which k.due f) (crc_field (first_differing 0 f.crcs (crcs_due k.due k.chain which f))) conn.1 in
+    let contents = no-contents (wrong_byte c k which k.due f) (first_differing 0 f.crcs (crcs_due k.due k.chain which f)) conn.1 in
     record {
       command = command.0;
       conn = conn.0;
       bytes = contents.0;
-      crcs = none_differs 0 f.crcs (crcs_due k.due k.chain which f) many (no-crc (first_differing 0 f.crcs (crcs_due k.due k.chain which f)) contents.1);
+      crcs = none_differs 0 f.crcs (crcs_due k.due k.chain which f) many contents.1;
     }
 
 pub right_none : (c : ℕ) (k : Before) (which : End) (f : Frame) → IsRight c k which f → frame_field c k which f ≡ None
@@ -61,7 +60,7 @@ right_none c k which f r =
     let equal : first_differing 0 f.crcs due ≡ None = ap (λ (xs : List ℕ). first_differing 0 f.crcs xs) (sym r.crcs) ∙ same_none 0 f.crcs in
     ap (λ (t : Bool). if not t then Some field.Command else if not (conn_holds k.due k.conn f.conn) then Some field.Conn else contents) r.command
     ∙ (ap (λ (t : Bool). if not t then Some field.Conn else contents) r.conn
-    ∙ (ap (λ (p : Option ℕ). data_field p (crc_field (first_differing 0 f.crcs due))) r.bytes ∙ ap crc_field equal))
+    ∙ (ap (λ (p : Option ℕ). option_or (option_map field.Data p) (option_map field.Crc (first_differing 0 f.crcs due))) r.bytes ∙ ap (option_map field.Crc) equal))
 
 pub none_in_turn : (lengths : Lengths) (k : Before) (x : Noted)
     → ((f : Frame) → f ≡ frame_of (length_of lengths x.from) x.frame → length x.frame ≡ frame_len (length_of lengths x.from) → length f.crcs ≡ length (crcs_due k.due k.chain x.from f))

@@ -9,7 +9,8 @@
 --              Parameter; the second byte of a watchdog 0, or of more than 512 application parameters
 --   Crc        the first group whose CRC isn't that of the chain
 -- So a trace with a frame that was lost, or with a reset, differs. The rows and their order are this profile's own.
-use Rattle.std.specs.Prelude.{ℕ, suc, ◌+◌, ◌==◌, nat_lt, nat_le, List, [], ◌∷◌, ◌++◌, length, take, slice_index, replicate, Bool, false, not, ◌||◌, Option, Some, None, if◌then◌else◌}
+use Rattle.std.specs.Prelude.{ℕ, suc, ◌+◌, ◌==◌, nat_lt, nat_le, List, [], ◌∷◌, ◌++◌, length, take, slice_index, replicate, Bool, false, not, ◌||◌, Option, Some, None, option_map, if◌then◌else◌}
+use Rattle.std.specs.Option.{option_or}
 use Rattle.fsoe_base.specs.declared.command.Command.{Command}
 use Rattle.fsoe_base.specs.declared.command.Command.TheVariants as command
 use Rattle.fsoe_base.specs.declared.command.End.{End}
@@ -115,16 +116,9 @@ crcs_due state.Reset chain which f = reset_crcs f.load
 crcs_due _ chain which f = (sealed_by (chain_at which chain) f.conn f.cmd f.load).crcs
 
 -- the last two rows
-abbrev pub crc_field : Option ℕ → Option Field
-crc_field None = None
-crc_field (Some i) = Some (field.Crc i)
-
-abbrev pub data_field : Option ℕ → Option Field → Option Field
-data_field None later = later
-data_field (Some p) later = Some (field.Data p)
-
 abbrev pub contents_field : ℕ → Before → End → Frame → Option Field
-contents_field c k which f = data_field (wrong_byte c k which k.due f) (crc_field (first_differing 0 f.crcs (crcs_due k.due k.chain which f)))
+contents_field c k which f =
+    option_or (option_map field.Data (wrong_byte c k which k.due f)) (option_map field.Crc (first_differing 0 f.crcs (crcs_due k.due k.chain which f)))
 
 -- the rows after Length, of a frame that has the right length and comes from this end, whose turn it is
 abbrev pub frame_field : ℕ → Before → End → Frame → Option Field
