@@ -21,12 +21,14 @@ ghost use Rattle.process_image.specs.declared.fault.SlotFault.TheVariants as fau
 ghost use Rattle.process_image.specs.declared.header.Stage.TheVariants as stage;
 
 /// A frame that an end sends has as many bytes as its frames have, so that it fills its place in the output image.
+#[tactic(auto, using(crate::proofs::SentLength::step_long))]
 pub fn frames_fill()
     ensures { (s : Setup) (e : List Deed) (what : Move) → IsProper s what → IsRun s e → is_empty (step s e what).sent ≡ false → length (step s e what).sent ≡ frame_len (sends s) }
 {}
 
 /// Worked reports of images. A slot is delivered only if its bytes changed. Half of a frame is dropped in state Reset,
 /// and the whole frame then taken. A master and a slave are side by side.
+#[tactic(auto, using(crate::proofs::Worked::changes_alone, crate::proofs::Worked::half_written, crate::proofs::Worked::both_ends))]
 pub fn worked_reports()
     ensures changes_alone { ChangesAlone }
     ensures half_written { HalfWritten }
@@ -51,11 +53,13 @@ pub fn worked_lines()
 
 /// The frames that are delivered to a slot are its contents at the samples, in their order, except those that equal the
 /// sample before, and zeros at the first one.
+#[tactic(auto, using(crate::proofs::Distinct::distinct))]
 pub fn distinct()
     ensures { (size : ℕ) (p : Place) (calls : List ImageEvent) → frames_in (moves size p calls) ≡ distinct_after (contents p (replicate size 0)) (at_samples size p calls) }
 {}
 
 /// A sample with no write after the last one reports nothing and changes nothing, whatever comes after it.
+#[tactic(auto, using(crate::proofs::Distinct::quiet_moves, crate::proofs::Distinct::quiet_output, crate::proofs::Distinct::quiet_told))]
 pub fn quiet_samples()
     ensures moves { (size : ℕ) (p : Place) (calls later : List ImageEvent) → Unwritten calls → moves size p (later ++ event.Sample ∷ calls) ≡ moves size p (later ++ calls) }
     ensures output { (plan : Plan) (calls later : List ImageEvent) → Unwritten calls → output plan (later ++ event.Sample ∷ calls) ≡ output plan (later ++ calls) }
@@ -63,6 +67,7 @@ pub fn quiet_samples()
 {}
 
 /// A write beside a slot changes nothing of it.
+#[tactic(auto, using(crate::proofs::Frames::write_beside))]
 pub fn writes_beside()
     ensures { (size at : ℕ) (bytes : List ℕ) (p : Place) (calls : List ImageEvent) → WritesFit size (event.Write at bytes ∷ calls) → share p.at_in (spans_of p).len_in at (length bytes) ≡ false → contents p (input size (event.Write at bytes ∷ calls)) ≡ contents p (input size calls) }
 {}

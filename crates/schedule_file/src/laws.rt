@@ -34,6 +34,7 @@ ghost use Rattle.schedule_file.specs.declared.pairs_line.PairsLine.TheVariants.{
 
 /// The line that is written of an event is read as the same event, at all ends that the event fits.
 /// The call does nothing: the law is its contract.
+#[tactic(auto, using(crate::proofs::ReadBack::read_back))]
 pub fn written_is_read()
     ensures { (sends : End → ℕ) (profiles : End → Profile) (event : Event) → IsOfTypes event → Fits sends profiles event → pair_line sends profiles (event_text event) ≡ Ok (Step event) }
 {}
@@ -47,6 +48,7 @@ pub fn numbered_lines_say_the_same()
 
 /// The line of an event, written with the number of its pair before it, is read as the same event of this pair, at all
 /// pairs that the event fits.
+#[tactic(auto, using(crate::proofs::PairsRead::pair_read_back))]
 pub fn written_of_pair_is_read()
     ensures { (sends : List (End → ℕ)) (profiles : List (End → Profile)) (pair : ℕ) (event : Event) → pair < 65536 → IsOfTypes event → FitsPair sends profiles pair event
         → pairs_line sends profiles (with_pair pair (event_text event)) ≡ Ok (One pair event) }
@@ -68,12 +70,14 @@ pub fn constants()
 {}
 
 /// An input has at most 200,000 events.
+#[tactic(auto, using(crate::proofs::FewEvents::few_events))]
 pub fn inputs_have_few_events()
     ensures { (kind : HeaderKind) (bytes : List ℕ) → length (input_of kind bytes).events ≤ max_events }
 {}
 
 /// The header of an input, where it is whole, gives settings of both ends; those of an end that it doesn't describe are
 /// such as no line says.
+#[tactic(auto, using(crate::proofs::Sound::gives_master, crate::proofs::Sound::gives_slave))]
 pub fn whole_headers_give_settings()
     ensures master { (kind : HeaderKind) (bytes : List ℕ) → IfSome (input_of kind bytes).heading (λ h. (settings : MasterSettings) × IsMasterOf h settings) }
     ensures slave { (kind : HeaderKind) (bytes : List ℕ) → IfSome (input_of kind bytes).heading (λ h. (settings : SlaveSettings) × IsSlaveOf h settings) }
@@ -81,6 +85,7 @@ pub fn whole_headers_give_settings()
 
 /// The events of an input with a complete header fit the ends that it describes. These are both ends of a pair, that of
 /// a node, or those of the pair that an event of several pairs names.
+#[tactic(auto, using(crate::proofs::Fitting::events_fit, crate::proofs::Fitting::node_events_fit, crate::proofs::PairsFitting::pairs_events_fit))]
 pub fn events_fit()
     ensures pair { (bytes : List ℕ) → IfSome (input_of Pair bytes).heading (λ h. All (Fits (own_length h) (heading_profile h)) (input_of Pair bytes).events) }
     ensures node { (end : End) (bytes : List ℕ) → IfSome (input_of (Node end) bytes).heading (λ h. All (FitsEnd end (own_length h end) (heading_profile h end)) (input_of (Node end) bytes).events) }
@@ -88,6 +93,7 @@ pub fn events_fit()
 {}
 
 /// What comes after the line `end` changes nothing of what an input says.
+#[tactic(auto, using(crate::proofs::AfterEnd::after_end))]
 pub fn nothing_after_the_end_counts()
     ensures { (kind : HeaderKind) (bytes more : List ℕ) → (input_of kind bytes).stop ≡ AtEnd → input_of kind (bytes ++ more) ≡ input_of kind bytes }
 {}
