@@ -1,7 +1,8 @@
--- How many slots there are.
-use Rattle.std.proofs.Common.{◌≡◌, ◌≤◌, ℕ, suc, List, [], ◌∷◌, map, length, refl, ap, subst}
+-- How many slots there are, and where each stands.
+use Rattle.std.proofs.Common.{◌≡◌, ◌≤◌, ◌-◌, ℕ, suc, List, [], ◌∷◌, map, length, get_or, slice_get, Some, refl, sym, ap, subst, ◌∙◌, arith}
+use Rattle.std.proofs.lemmas.Option.{slice_get_read}
 use Rattle.end_core.specs.Core.{setup_of}
-use Rattle.process_image.specs.Standing.{ImagesView, slots_in}
+use Rattle.process_image.specs.Standing.{HasSlot, ImagesView, slots_in}
 use Rattle.process_image.specs.declared.seat.Seat.{Seat}
 
 count-setups : (seats : List Seat) → length (map (λ seat. setup_of seat.core) seats) ≡ length seats
@@ -11,5 +12,8 @@ count-setups (seat ∷ seats) = ap suc (count-setups seats)
 pub count_is : (v : ImagesView) → slots_in v ≡ length v.seats
 count_is v = count-setups v.seats
 
-pub has_place : (v : ImagesView) (slot : ℕ) → slot ≤ slots_in v → slot ≤ length v.seats
-has_place v slot h = subst (λ (n : ℕ). slot ≤ n) (count_is v) h
+-- the seat of a slot that there is stands at its place
+pub seat_there : (v w : ImagesView) (slot place : ℕ) (seat : Seat) → v ≡ w → place ≡ slot - 1 → HasSlot w slot → seat ≡ get_or v.seats place seat → slice_get v.seats place ≡ Some seat
+seat_there v w slot place seat same at has read =
+    let last : slot ≤ length v.seats = subst (λ (n : ℕ). slot ≤ n) (ap slots_in (sym same) ∙ count_is v) has.last in
+    slice_get_read v.seats _ place seat refl (omega (arith, at, last, has.first)) read

@@ -1,8 +1,9 @@
 -- An event that a line says to a pair fits this pair.
-use Rattle.std.proofs.Common.{◌≡◌, ◌≤◌, ◌+◌, ℕ, zero, suc, List, [], ◌∷◌, length, map, slice_get, refl, arith, ap, sym, subst, ◌∙◌}
+use Rattle.std.proofs.Common.{◌≡◌, ◌≤◌, ◌+◌, ◌-◌, ℕ, zero, suc, List, [], ◌∷◌, length, map, slice_get, slice_index_or, refl, arith, ap, sym, subst, ◌∙◌}
 use Rattle.std.specs.Prelude.{Some, None, option_map}
 use Rattle.std.specs.List.{AllZip}
 use Rattle.std.specs.declared.option.Option.{Option}
+use Rattle.std.proofs.lemmas.Option.{slice_get-get_or}
 use Rattle.fsoe_base.specs.LengthsOf.{length_of}
 use Rattle.fsoe_base.specs.declared.command.End.{End}
 use Rattle.fsoe_base.specs.declared.command.End.TheVariants as end_name
@@ -82,3 +83,7 @@ one_by duos others made h log text (suc j) event s f =
 pub one_fits : (duos : List DuoView) (others : List (Option ℕ)) (made : ℕ) (h : PairsHeading) (log : List PairsEvent) (text : List ℕ) (k : ℕ) (event : Event) → PairsStand duos others made h log text → IsSaid pairs_format h (common.One k event) → FitsOne duos k event
 one_fits duos others made h log text k event s said =
     one_by duos others made h log text k event s (fits_heading (pairs_of h) k event (pairs_event_fits h said.0 said.1 (common.One k event) said.2 said.3))
+
+-- the duo of a pair that there is stands at its place
+pub duo_there : (duos : List DuoView) (k place : ℕ) (given : DuoView) → 1 ≤ k → k ≤ length duos → place ≡ k - 1 → (k ≡ place + 1) × (slice_get duos place ≡ Some (slice_index_or duos place given))
+duo_there duos k place given first last at = (omega (arith, first, at), slice_get-get_or duos place given (omega (arith, first, last, at)))

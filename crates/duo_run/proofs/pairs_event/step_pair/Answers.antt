@@ -1,9 +1,6 @@
-use Rattle.std.proofs.Common.{◌≡◌, ◌<◌, ◌+◌, ◌-◌, ℕ, length, slice_get, slice_index_or, refl, sym, ◌∙◌, arith}
-use Rattle.std.specs.Prelude.{Some}
+use Rattle.std.proofs.Common.{◌-◌, refl, sym, ◌∙◌, arith}
 use Rattle.std.proofs.lemmas.List.{length-set}
-use Rattle.std.proofs.lemmas.Option.{slice_get-get_or}
-use Rattle.duo_run.specs.Duo.{DuoView}
-use Rattle.duo_run.proofs.Pairs.Fit.{one_fits}
+use Rattle.duo_run.proofs.Pairs.Fit.{duo_there, one_fits}
 use Rattle.duo_run.proofs.Pairs.Stepping.{few_entries, noted_each, one_counted, one_goes, one_unsent}
 use Rattle.duo_run.proofs.pairs_event.step_pair.Goals as goal
 
@@ -23,23 +20,15 @@ pub tell-requires-clause-fits : goal.tell-requires-clause-fits
 tell-requires-clause-fits c =
     let k = c.requires in
     let f = one_fits _ _ _ k.heading k.log k.text c.args.pair c.args.event.now k.stands k.said in
-    let place : ℕ = c.from-at.result - 1 in
-    let e : c.args.pair ≡ place + 1 = omega (arith, f.first, c.from-at.ensures) in
-    let below : place < length c.args.duos.now = omega (arith, f.first, f.last, c.from-at.ensures) in
-    let v : DuoView = slice_index_or c.args.duos.now place c.index-duos-at.result in
-    let v-at : slice_get c.args.duos.now place ≡ Some v = slice_get-get_or c.args.duos.now place c.index-duos-at.result below in
-    f.each place v e v-at
+    let at = duo_there c.args.duos.now c.args.pair (c.from-at.result - 1) c.index-duos-at.result f.first f.last (omega (arith, c.from-at.ensures)) in
+    f.each _ _ at.0 at.1
 
 pub tell-requires-clause-fewer : goal.tell-requires-clause-fewer
 tell-requires-clause-fewer c =
     let k = c.requires in
     let f = one_fits _ _ _ k.heading k.log k.text c.args.pair c.args.event.now k.stands k.said in
-    let place : ℕ = c.from-at.result - 1 in
-    let e : c.args.pair ≡ place + 1 = omega (arith, f.first, c.from-at.ensures) in
-    let below : place < length c.args.duos.now = omega (arith, f.first, f.last, c.from-at.ensures) in
-    let v : DuoView = slice_index_or c.args.duos.now place c.index-duos-at.result in
-    let v-at : slice_get c.args.duos.now place ≡ Some v = slice_get-get_or c.args.duos.now place c.index-duos-at.result below in
-    one_counted _ _ _ k.heading k.log k.text c.args.number place v k.stands k.number_is k.few v-at
+    let at = duo_there c.args.duos.now c.args.pair (c.from-at.result - 1) c.index-duos-at.result f.first f.last (omega (arith, c.from-at.ensures)) in
+    one_counted _ _ _ k.heading k.log k.text c.args.number _ _ k.stands k.number_is k.few at.1
 
 pub overflow_add-entries : goal.overflow_add-entries
 overflow_add-entries c =
@@ -56,22 +45,14 @@ pub returns-in-Ok-clause-takes_event : goal.returns-in-Ok-clause-takes_event
 returns-in-Ok-clause-takes_event c =
     let k = c.requires in
     let f = one_fits _ _ _ k.heading k.log k.text c.args.pair c.args.event.now k.stands k.said in
-    let place : ℕ = c.from-at.result - 1 in
-    let e : c.args.pair ≡ place + 1 = omega (arith, f.first, c.from-at.ensures) in
-    let below : place < length c.args.duos.now = omega (arith, f.first, f.last, c.from-at.ensures) in
-    let v : DuoView = slice_index_or c.args.duos.now place c.index-duos-at.result in
-    let v-at : slice_get c.args.duos.now place ≡ Some v = slice_get-get_or c.args.duos.now place c.index-duos-at.result below in
+    let at = duo_there c.args.duos.now c.args.pair (c.from-at.result - 1) c.index-duos-at.result f.first f.last (omega (arith, c.from-at.ensures)) in
     record {
-      takes = λ h log text n stood. one_goes c.args.duos.now _ c.args.others.now _ _ _ c.args.number c.args.pair place c.args.event.now v c.tell.new.duo c.tell.new.line h log text e v-at c.in-Ok.ensures.tells refl c.note_others.ensures refl n stood;
+      takes = λ h log text n stood. one_goes c.args.duos.now _ c.args.others.now _ _ _ c.args.number c.args.pair _ c.args.event.now _ c.tell.new.duo c.tell.new.line h log text at.0 at.1 c.in-Ok.ensures.tells refl c.note_others.ensures refl n stood;
     }
 
 pub returns-in-Err-NoSuchFrame-clause-stopped : goal.returns-in-Err-NoSuchFrame-clause-stopped
 returns-in-Err-NoSuchFrame-clause-stopped c = λ h log text stood.
     let k = c.requires in
     let f = one_fits _ _ _ k.heading k.log k.text c.args.pair c.args.event.now k.stands k.said in
-    let place : ℕ = c.from-at.result - 1 in
-    let e : c.args.pair ≡ place + 1 = omega (arith, f.first, c.from-at.ensures) in
-    let below : place < length c.args.duos.now = omega (arith, f.first, f.last, c.from-at.ensures) in
-    let v : DuoView = slice_index_or c.args.duos.now place c.index-duos-at.result in
-    let v-at : slice_get c.args.duos.now place ≡ Some v = slice_get-get_or c.args.duos.now place c.index-duos-at.result below in
-    one_unsent c.args.duos.now c.args.others.now _ c.args.pair place c.args.event.now v h log text e v-at c.in-Err-NoSuchFrame.ensures.misses stood
+    let at = duo_there c.args.duos.now c.args.pair (c.from-at.result - 1) c.index-duos-at.result f.first f.last (omega (arith, c.from-at.ensures)) in
+    one_unsent c.args.duos.now c.args.others.now _ c.args.pair _ c.args.event.now _ h log text at.0 at.1 c.in-Err-NoSuchFrame.ensures.misses stood

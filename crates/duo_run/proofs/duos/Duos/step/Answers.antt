@@ -1,46 +1,37 @@
-use Rattle.std.proofs.Common.{◌≡◌, ◌≤◌, ◌<◌, ◌-◌, ◌+◌, ◌^◌, ℕ, length, slice_get, refl, sym, subst, arith}
-use Rattle.std.specs.Prelude.{IfSome, Some}
-use Rattle.std.proofs.lemmas.Option.{slice_get_read}
+use Rattle.std.proofs.Common.{◌<◌, ◌-◌, ◌+◌, ◌^◌, ℕ, refl, sym, subst, arith}
+use Rattle.std.specs.Prelude.{IfSome}
 use Rattle.std.proofs.lemmas.Result.{on_err_weaker}
 use Rattle.fsoe_base.specs.LengthsOf.{length_of}
 use Rattle.schedule_file.specs.Event.{Fits, profile_of}
 use Rattle.schedule_file.specs.PairsEvent.{numbered}
 use Rattle.duo_run.specs.Duo.{lengths_of, profiles_of, steps_done}
-use Rattle.duo_run.proofs.Pairs.At.{for_named, named, of_named, others_stay, steps_at, with_both}
+use Rattle.duo_run.proofs.Pairs.At.{at_number, for_named, named, of_named, others_stay, steps_at, with_both}
 use Rattle.duo_run.proofs.duos.Duos.step.Goals as goal
 
 pub step-requires-clause-fits : goal.step-requires-clause-fits
 step-requires-clause-fits c =
-    let place : ℕ = c.from.result - 1 in
-    let fits : c.args.pair ≤ length c.self.inside.pairs.items = subst (λ v. c.args.pair ≤ length v) (sym c.self.view_is) c.requires.last in
-    let at : slice_get c.self.inside.pairs.items place ≡ Some c.index_mut.result.now = slice_get_read c.self.inside.pairs.items _ place _ refl (omega arith) c.index_mut.ensures.value in
-    of_named (λ v. Fits (length_of (lengths_of v)) (profile_of (profiles_of v)) c.args.event.now) c.args.pair c.self.inside.pairs.items c.index_mut.result.now (named c.args.pair place c.self.inside.pairs.items c.index_mut.result.now (omega arith) at)
+    let at = at_number c.self.inside.pairs.items _ c.args.pair (c.from.result - 1) c.index_mut.result.now c.self.view_is (omega arith) c.requires.first c.requires.last c.index_mut.ensures.value in
+    of_named (λ v. Fits (length_of (lengths_of v)) (profile_of (profiles_of v)) c.args.event.now) c.args.pair c.self.inside.pairs.items c.index_mut.result.now (named c.args.pair (c.from.result - 1) c.self.inside.pairs.items c.index_mut.result.now (omega arith) at)
     (subst (λ v. IfSome (numbered c.args.pair v) (λ v. Fits (length_of (lengths_of v)) (profile_of (profiles_of v)) c.args.event.now)) (sym c.self.view_is) c.requires.fits)
 
 pub step-requires-clause-fewer : goal.step-requires-clause-fewer
 step-requires-clause-fewer c =
-    let place : ℕ = c.from.result - 1 in
-    let fits : c.args.pair ≤ length c.self.inside.pairs.items = subst (λ v. c.args.pair ≤ length v) (sym c.self.view_is) c.requires.last in
-    let at : slice_get c.self.inside.pairs.items place ≡ Some c.index_mut.result.now = slice_get_read c.self.inside.pairs.items _ place _ refl (omega arith) c.index_mut.ensures.value in
-    of_named (λ v. steps_done v + 1 < 2 ^ 64) c.args.pair c.self.inside.pairs.items c.index_mut.result.now (named c.args.pair place c.self.inside.pairs.items c.index_mut.result.now (omega arith) at)
+    let at = at_number c.self.inside.pairs.items _ c.args.pair (c.from.result - 1) c.index_mut.result.now c.self.view_is (omega arith) c.requires.first c.requires.last c.index_mut.ensures.value in
+    of_named (λ v. steps_done v + 1 < 2 ^ 64) c.args.pair c.self.inside.pairs.items c.index_mut.result.now (named c.args.pair (c.from.result - 1) c.self.inside.pairs.items c.index_mut.result.now (omega arith) at)
     (subst (λ v. IfSome (numbered c.args.pair v) (λ v. steps_done v + 1 < 2 ^ 64)) (sym c.self.view_is) c.requires.fewer)
 
 pub returns-clause-steps : goal.returns-clause-steps
 returns-clause-steps c =
-    let place : ℕ = c.from.result - 1 in
-    let fits : c.args.pair ≤ length c.self.inside.pairs.items = subst (λ v. c.args.pair ≤ length v) (sym c.self.view_is) c.requires.last in
-    let at : slice_get c.self.inside.pairs.items place ≡ Some c.index_mut.result.now = slice_get_read c.self.inside.pairs.items _ place _ refl (omega arith) c.index_mut.ensures.value in
+    let at = at_number c.self.inside.pairs.items _ c.args.pair (c.from.result - 1) c.index_mut.result.now c.self.view_is (omega arith) c.requires.first c.requires.last c.index_mut.ensures.value in
     rw (← c.self.view_is)
     (with_both c.step.result _ _ _ c.step.ensures.steps c.step.ensures.done
-    (λ x steps counts. steps_at c.args.pair place c.self.inside.pairs.items _ c.args.event.now x c.index_mut.result.now c.step.new.self (omega arith) at refl steps counts c.step.ensures.lengths c.step.ensures.profiles))
+    (λ x steps counts. steps_at c.args.pair (c.from.result - 1) c.self.inside.pairs.items _ c.args.event.now x c.index_mut.result.now c.step.new.self (omega arith) at refl steps counts c.step.ensures.lengths c.step.ensures.profiles))
 
 pub returns-clause-misses : goal.returns-clause-misses
 returns-clause-misses c =
-    let place : ℕ = c.from.result - 1 in
-    let fits : c.args.pair ≤ length c.self.inside.pairs.items = subst (λ v. c.args.pair ≤ length v) (sym c.self.view_is) c.requires.last in
-    let at : slice_get c.self.inside.pairs.items place ≡ Some c.index_mut.result.now = slice_get_read c.self.inside.pairs.items _ place _ refl (omega arith) c.index_mut.ensures.value in
+    let at = at_number c.self.inside.pairs.items _ c.args.pair (c.from.result - 1) c.index_mut.result.now c.self.view_is (omega arith) c.requires.first c.requires.last c.index_mut.ensures.value in
     rw (← c.self.view_is)
-    (on_err_weaker c.step.result (λ misses. for_named _ c.args.pair c.self.inside.pairs.items c.index_mut.result.now (named c.args.pair place c.self.inside.pairs.items c.index_mut.result.now (omega arith) at) misses) c.step.ensures.misses)
+    (on_err_weaker c.step.result (λ misses. for_named _ c.args.pair c.self.inside.pairs.items c.index_mut.result.now (named c.args.pair (c.from.result - 1) c.self.inside.pairs.items c.index_mut.result.now (omega arith) at) misses) c.step.ensures.misses)
 
 pub returns-clause-others : goal.returns-clause-others
 returns-clause-others c = λ other no.

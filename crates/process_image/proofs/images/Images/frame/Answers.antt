@@ -1,9 +1,8 @@
-use Rattle.std.proofs.Common.{◌≡◌, ◌≤◌, ◌-◌, ℕ, List, Some, length, slice_get, refl, sym, ap, subst, arith}
-use Rattle.std.proofs.lemmas.Option.{slice_get_read}
+use Rattle.std.proofs.Common.{◌-◌, ℕ, List, length, ap, arith}
 use Rattle.process_image.specs.Image.{bytes_at}
 use Rattle.process_image.specs.Sound.{IsSoundSeat}
-use Rattle.process_image.specs.Standing.{ImagesView, slots_in}
-use Rattle.process_image.proofs.Counts.{has_place}
+use Rattle.process_image.specs.Standing.{ImagesView}
+use Rattle.process_image.proofs.Counts.{seat_there}
 use Rattle.process_image.proofs.Reading.{frame_shown, frame_short}
 use Rattle.process_image.proofs.Zips.{all_at}
 use Rattle.process_image.proofs.images.Images.frame.Goals as goal
@@ -11,17 +10,13 @@ use Rattle.process_image.proofs.images.Images.frame.Goals as goal
 pub returns-clause-shown : goal.returns-clause-shown
 returns-clause-shown c =
     let v : ImagesView = record { seats = c.self.inside.seats.items; input = c.self.inside.input.items; output = c.self.inside.output.items } in
-    let place : ℕ = c.from.result - 1 in
-    let fits : c.args.slot ≤ length c.self.inside.seats.items = has_place v c.args.slot (subst (λ v. c.args.slot ≤ slots_in v) (sym c.self.view_is) c.requires.last) in
-    let at : slice_get c.self.inside.seats.items place ≡ Some c.index-seat.result.now = slice_get_read c.self.inside.seats.items _ place _ refl (omega arith) c.index-seat.ensures in
+    let at = seat_there _ _ c.args.slot (c.from.result - 1) c.index-seat.result.now c.self.view_is (omega arith) c.requires c.index-seat.ensures in
     rw (← c.self.view_is)
-    (frame_shown v (length v.input) (length v.output) c.args.slot place c.index-seat.result.now _ (all_at (IsSoundSeat (length v.input) (length v.output)) v.seats place c.index-seat.result.now c.self.invariant.seats at) (omega arith) at
+    (frame_shown v (length v.input) (length v.output) c.args.slot (c.from.result - 1) c.index-seat.result.now _ (all_at (IsSoundSeat (length v.input) (length v.output)) v.seats (c.from.result - 1) c.index-seat.result.now c.self.invariant.seats at) (omega arith) at
     (ap (λ (image : List ℕ). bytes_at c.index-seat.result.now.at_out c.index-seat.result.now.len_out image) c.deref.ensures.value))
 
 pub returns-clause-most : goal.returns-clause-most
 returns-clause-most c =
     let v : ImagesView = record { seats = c.self.inside.seats.items; input = c.self.inside.input.items; output = c.self.inside.output.items } in
-    let place : ℕ = c.from.result - 1 in
-    let fits : c.args.slot ≤ length c.self.inside.seats.items = has_place v c.args.slot (subst (λ v. c.args.slot ≤ slots_in v) (sym c.self.view_is) c.requires.last) in
-    let at : slice_get c.self.inside.seats.items place ≡ Some c.index-seat.result.now = slice_get_read c.self.inside.seats.items _ place _ refl (omega arith) c.index-seat.ensures in
-    frame_short (length v.input) (length v.output) c.index-seat.result.now _ (all_at (IsSoundSeat (length v.input) (length v.output)) v.seats place c.index-seat.result.now c.self.invariant.seats at)
+    let at = seat_there _ _ c.args.slot (c.from.result - 1) c.index-seat.result.now c.self.view_is (omega arith) c.requires c.index-seat.ensures in
+    frame_short (length v.input) (length v.output) c.index-seat.result.now _ (all_at (IsSoundSeat (length v.input) (length v.output)) v.seats (c.from.result - 1) c.index-seat.result.now c.self.invariant.seats at)

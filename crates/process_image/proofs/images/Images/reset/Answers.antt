@@ -1,9 +1,7 @@
-use Rattle.std.proofs.Common.{◌≡◌, ◌≤◌, ◌-◌, ℕ, Some, length, slice_get, refl, sym, ap, subst, ◌∙◌, arith}
-use Rattle.std.proofs.lemmas.Option.{slice_get_read}
+use Rattle.std.proofs.Common.{◌-◌, length, refl, ap, ◌∙◌, arith}
 use Rattle.process_image.specs.Sound.{IsSoundSeat}
 use Rattle.process_image.specs.Steps.{with_sent}
-use Rattle.process_image.specs.Standing.{slots_in}
-use Rattle.process_image.proofs.Counts.{has_place}
+use Rattle.process_image.proofs.Counts.{seat_there}
 use Rattle.process_image.proofs.Keeping.{written_back}
 use Rattle.process_image.proofs.Looping.{sent_size}
 use Rattle.process_image.proofs.One.{reset_follows}
@@ -14,55 +12,43 @@ use Rattle.process_image.proofs.images.Images.reset.Goals as goal
 
 pub reset-did-requires : goal.reset-did-requires
 reset-did-requires c =
-    let place : ℕ = c.from.result - 1 in
-    let fits : c.args.slot ≤ length c.self.inside.seats.items = has_place (record { seats = c.self.inside.seats.items; input = c.self.inside.input.items; output = c.self.inside.output.items }) c.args.slot (subst (λ v. c.args.slot ≤ slots_in v) (sym c.self.view_is) c.requires.last) in
-    let at : slice_get c.self.inside.seats.items place ≡ Some c.index_mut-seat.result.now = slice_get_read c.self.inside.seats.items _ place _ refl (omega arith) c.index_mut-seat.ensures.value in
-    at_rest (record { seats = c.self.inside.seats.items; input = c.self.inside.input.items; output = c.self.inside.output.items }) place c.index_mut-seat.result.now c.self.invariant at
+    let at = seat_there _ _ c.args.slot (c.from.result - 1) c.index_mut-seat.result.now c.self.view_is (omega arith) c.requires c.index_mut-seat.ensures.value in
+    at_rest (record { seats = c.self.inside.seats.items; input = c.self.inside.input.items; output = c.self.inside.output.items }) (c.from.result - 1) c.index_mut-seat.result.now c.self.invariant at
 
 pub give-requires : goal.give-requires
 give-requires c =
-    let place : ℕ = c.from.result - 1 in
-    let fits : c.args.slot ≤ length c.self.inside.seats.items = has_place (record { seats = c.self.inside.seats.items; input = c.self.inside.input.items; output = c.self.inside.output.items }) c.args.slot (subst (λ v. c.args.slot ≤ slots_in v) (sym c.self.view_is) c.requires.last) in
-    let at : slice_get c.self.inside.seats.items place ≡ Some c.index_mut-seat.result.now = slice_get_read c.self.inside.seats.items _ place _ refl (omega arith) c.index_mut-seat.ensures.value in
+    let at = seat_there _ _ c.args.slot (c.from.result - 1) c.index_mut-seat.result.now c.self.view_is (omega arith) c.requires c.index_mut-seat.ensures.value in
     rw (c.as_mut_slice.ensures.value)
-    (all_at (IsSoundSeat (length c.self.inside.input.items) (length c.self.inside.output.items)) c.self.inside.seats.items place c.index_mut-seat.result.now c.self.invariant.seats at).inside_out
+    (all_at (IsSoundSeat (length c.self.inside.input.items) (length c.self.inside.output.items)) c.self.inside.seats.items (c.from.result - 1) c.index_mut-seat.result.now c.self.invariant.seats at).inside_out
 
 pub invariant_of-self : goal.invariant_of-self
 invariant_of-self c =
-    let place : ℕ = c.from.result - 1 in
-    let fits : c.args.slot ≤ length c.self.inside.seats.items = has_place (record { seats = c.self.inside.seats.items; input = c.self.inside.input.items; output = c.self.inside.output.items }) c.args.slot (subst (λ v. c.args.slot ≤ slots_in v) (sym c.self.view_is) c.requires.last) in
-    let at : slice_get c.self.inside.seats.items place ≡ Some c.index_mut-seat.result.now = slice_get_read c.self.inside.seats.items _ place _ refl (omega arith) c.index_mut-seat.ensures.value in
+    let at = seat_there _ _ c.args.slot (c.from.result - 1) c.index_mut-seat.result.now c.self.view_is (omega arith) c.requires c.index_mut-seat.ensures.value in
     let out = written_back c.give.new.output c.self.inside.output.items c.self.inside.output.len (cc) (cc) in
-    let inside = (all_at (IsSoundSeat (length c.self.inside.input.items) (length c.self.inside.output.items)) c.self.inside.seats.items place c.index_mut-seat.result.now c.self.invariant.seats at).inside_out in
+    let inside = (all_at (IsSoundSeat (length c.self.inside.input.items) (length c.self.inside.output.items)) c.self.inside.seats.items (c.from.result - 1) c.index_mut-seat.result.now c.self.invariant.seats at).inside_out in
     rw out
-    (reset_sound (record { seats = c.self.inside.seats.items; input = c.self.inside.input.items; output = c.self.inside.output.items }) place c.index_mut-seat.result.now c.reset-did.new.self c.give.new.output c.self.invariant at
+    (reset_sound (record { seats = c.self.inside.seats.items; input = c.self.inside.input.items; output = c.self.inside.output.items }) (c.from.result - 1) c.index_mut-seat.result.now c.reset-did.new.self c.give.new.output c.self.invariant at
     c.reset-did.ensures.setup c.reset-did.ensures.rest
     (ap length (c.give.ensures ∙ ap (with_sent c.index_mut-seat.result.now c.reset-did.new.out) c.as_mut_slice.ensures.value)
     ∙ sent_size c.index_mut-seat.result.now c.reset-did.new.out c.self.inside.output.items inside))
 
 pub returns-clause-follows : goal.returns-clause-follows
 returns-clause-follows c =
-    let place : ℕ = c.from.result - 1 in
-    let fits : c.args.slot ≤ length c.self.inside.seats.items = has_place (record { seats = c.self.inside.seats.items; input = c.self.inside.input.items; output = c.self.inside.output.items }) c.args.slot (subst (λ v. c.args.slot ≤ slots_in v) (sym c.self.view_is) c.requires.last) in
-    let at : slice_get c.self.inside.seats.items place ≡ Some c.index_mut-seat.result.now = slice_get_read c.self.inside.seats.items _ place _ refl (omega arith) c.index_mut-seat.ensures.value in
+    let at = seat_there _ _ c.args.slot (c.from.result - 1) c.index_mut-seat.result.now c.self.view_is (omega arith) c.requires c.index_mut-seat.ensures.value in
     let out = written_back c.give.new.output c.self.inside.output.items c.self.inside.output.len (cc) (cc) in
     rw (← c.self.view_is, out)
-    (reset_follows (length c.self.inside.input.items) (length c.self.inside.output.items) place c.args.slot _ _ c.index_mut-seat.result.now c.reset-did.new.self c.reset-did.result c.reset-did.new.out
+    (reset_follows (length c.self.inside.input.items) (length c.self.inside.output.items) (c.from.result - 1) c.args.slot _ _ c.index_mut-seat.result.now c.reset-did.new.self c.reset-did.result c.reset-did.new.out
     c.self.invariant.seats (omega arith) at
     (record { follows = c.reset-did.ensures.follows; answers = c.reset-did.ensures.answers; setup = c.reset-did.ensures.setup; rest = c.reset-did.ensures.rest }) refl refl
     (c.give.ensures ∙ ap (with_sent c.index_mut-seat.result.now c.reset-did.new.out) c.as_mut_slice.ensures.value))
 
 pub returns-clause-answers : goal.returns-clause-answers
 returns-clause-answers c =
-    let place : ℕ = c.from.result - 1 in
-    let fits : c.args.slot ≤ length c.self.inside.seats.items = has_place (record { seats = c.self.inside.seats.items; input = c.self.inside.input.items; output = c.self.inside.output.items }) c.args.slot (subst (λ v. c.args.slot ≤ slots_in v) (sym c.self.view_is) c.requires.last) in
-    let at : slice_get c.self.inside.seats.items place ≡ Some c.index_mut-seat.result.now = slice_get_read c.self.inside.seats.items _ place _ refl (omega arith) c.index_mut-seat.ensures.value in
-    rw (← c.self.view_is) (reset_answers _ c.args.slot place c.index_mut-seat.result.now c.reset-did.result c.reset-did.new.out (omega arith) at c.reset-did.ensures.answers)
+    let at = seat_there _ _ c.args.slot (c.from.result - 1) c.index_mut-seat.result.now c.self.view_is (omega arith) c.requires c.index_mut-seat.ensures.value in
+    rw (← c.self.view_is) (reset_answers _ c.args.slot (c.from.result - 1) c.index_mut-seat.result.now c.reset-did.result c.reset-did.new.out (omega arith) at c.reset-did.ensures.answers)
 
 pub returns-clause-setups : goal.returns-clause-setups
 returns-clause-setups c =
-    let place : ℕ = c.from.result - 1 in
-    let fits : c.args.slot ≤ length c.self.inside.seats.items = has_place (record { seats = c.self.inside.seats.items; input = c.self.inside.input.items; output = c.self.inside.output.items }) c.args.slot (subst (λ v. c.args.slot ≤ slots_in v) (sym c.self.view_is) c.requires.last) in
-    let at : slice_get c.self.inside.seats.items place ≡ Some c.index_mut-seat.result.now = slice_get_read c.self.inside.seats.items _ place _ refl (omega arith) c.index_mut-seat.ensures.value in
+    let at = seat_there _ _ c.args.slot (c.from.result - 1) c.index_mut-seat.result.now c.self.view_is (omega arith) c.requires c.index_mut-seat.ensures.value in
     rw (← c.self.view_is)
-    (set_setups (record { seats = c.self.inside.seats.items; input = c.self.inside.input.items; output = c.self.inside.output.items }) place c.index_mut-seat.result.now c.reset-did.new.self at c.reset-did.ensures.setup)
+    (set_setups (record { seats = c.self.inside.seats.items; input = c.self.inside.input.items; output = c.self.inside.output.items }) (c.from.result - 1) c.index_mut-seat.result.now c.reset-did.new.self at c.reset-did.ensures.setup)
