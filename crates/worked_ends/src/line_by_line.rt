@@ -1,10 +1,10 @@
 //! Runs whose input comes line by line: all that the lines before say is with the sink before more is asked for, and
-//! after the last line nothing is.
+//! after the last line, or a write that fails, nothing is.
 ghost use Rattle.std.specs.Prelude.{None};
 
 use duo_run::{run_convert, run_replay};
 use fsoe_base::End;
-use fsoe_io::{Ended, Failed, Sink, Source};
+use fsoe_io::{Ended, Failed, Sink, Source, Status};
 use node_runner::run_node;
 use process_image::run_image;
 use std::alloc::Global;
@@ -13,20 +13,26 @@ use std::test::Fail;
 use trace_diag::run_diagnose;
 
 /// A line of an input and what is written of it. An empty line is the end of the input.
-type Line = (&'static str, &'static str);
+type Line<'a> = (&'a str, &'a str);
 
-/// Counts the bytes that it is handed.
+/// Counts the bytes that it is handed, or fails at each write.
 #[derive(Drop)]
 struct Counting<'a> {
     count: &'a Cell<u64>,
+    fails: bool,
+    faults: u64,
 }
 
 impl Sink for Counting<'_> {
     ghost written = { λ _. None };
 
-    ghost faults = { λ _. 0 };
+    ghost faults = { λ s. s.faults };
 
     fn write(&mut self, piece: &[u8]) -> Result<usize, Failed> {
+        if self.fails {
+            self.faults = self.faults.saturating_add(1);
+            return Err(Failed);
+        }
         let count = self.count.get().saturating_add(piece.len() as u64);
         self.count.set(count);
         Ok(piece.len())
@@ -37,12 +43,25 @@ impl Sink for Counting<'_> {
 /// after the last line.
 #[derive(Drop)]
 struct Asked<'a> {
-    lines: &'static [Line],
+    lines: &'a [Line<'a>],
     given: usize,
     due: u64,
     written: &'a Cell<u64>,
     otherwise: u32,
     after: u32,
+}
+
+impl<'a> Asked<'a> {
+    fn new(lines: &'a [Line<'a>], written: &'a Cell<u64>) -> Asked<'a> {
+        Asked {
+            lines,
+            given: 0,
+            due: 0,
+            written,
+            otherwise: 0,
+            after: 0,
+        }
+    }
 }
 
 impl Source for Asked<'_> {
@@ -66,7 +85,7 @@ impl Source for Asked<'_> {
     }
 }
 
-const ROWS: [(&str, &[Line]); 8] = [
+const ROWS: [(&str, &[Line<'static>]); 8] = [
     (
         "node slave",
         &[
@@ -174,6 +193,40 @@ const ROWS: [(&str, &[Line]); 8] = [
     ),
 ];
 
+/// Headers, and an event that comes so often that its text fills more than a buffer while all lines are held.
+const HELD: [(&str, &str, &str); 6] = [
+    (
+        "node slave",
+        "fsoe 1 node slave\nlengths 2 2\nslave 2 200 1000 2\nrule any 0\ngo\n",
+        "t\n",
+    ),
+    (
+        "node master",
+        "fsoe 1 node master\nlengths 2 2\nmaster 1 2 100 1\ngo\n",
+        "t\n",
+    ),
+    (
+        "replay",
+        "fsoe 1 pair\nlengths 2 2\nmaster 1 2 100 1\nslave 2 200 1000 2\nrule any 0\ngo\n",
+        "tm\n",
+    ),
+    (
+        "replay",
+        "fsoe 2 pairs\npair 1\nlengths 2 2\nmaster 1 2 100 1\nslave 2 200 1000 2\nrule any 0\ngo\n",
+        "t\n",
+    ),
+    (
+        "convert",
+        "fsoe 1 pair\nlengths 2 2\nmaster 1 2 100 1\nslave 2 200 1000 2\nrule any 0\ngo\n",
+        "tm\n",
+    ),
+    (
+        "image",
+        "fsoe 1 image\nsize 7 7\nslot 1 0 0\nlengths 2 2\nslave 2 200 1000 2\nrule any 0\ngo\n",
+        "t\n",
+    ),
+];
+
 fn node(end: End, source: &mut Asked<'_>, sink: &mut Counting<'_>) -> Ended {
     run_node(end, source, sink)
 }
@@ -215,20 +268,55 @@ fn run_of(
 fn all_is_written_before_more_is_asked_for(rt: HostRuntime) -> Result<(), Fail> {
     for (words, lines) in ROWS {
         let written = Cell::new(0);
-        let mut source = Asked {
-            lines,
-            given: 0,
-            due: 0,
-            written: &written,
-            otherwise: 0,
-            after: 0,
+        let mut source = Asked::new(lines, &written);
+        let mut sink = Counting {
+            count: &written,
+            fails: false,
+            faults: 0,
         };
-        let mut sink = Counting { count: &written };
         run_of(rt.alloc(), words, &mut source, &mut sink).ok_or("not run")?;
         assert_eq!(rt; source.given, lines.len(), "{words}");
         assert_eq!(rt; source.otherwise, 0, "{words}");
         assert_eq!(rt; source.after, 0, "{words}");
         assert_eq!(rt; written.get(), source.due, "{words}");
+    }
+    Ok(())
+}
+
+/// Whether a run over these lines ends with its first write, which fails. Since nothing is written then, a read after it
+/// is counted.
+fn ends_with_write(alloc: Global, words: &str, lines: &[Line<'_>]) -> Option<bool> {
+    let written = Cell::new(0);
+    let mut source = Asked::new(lines, &written);
+    let mut sink = Counting {
+        count: &written,
+        fails: true,
+        faults: 0,
+    };
+    let ended = run_of(alloc, words, &mut source, &mut sink)?;
+    let (status, place) = (Status::Write, 0);
+    Some(ended == Ended { status, place } && sink.faults == 1 && source.otherwise == 0)
+}
+
+/// Neither where the next line is to come, nor where lines are held.
+#[test]
+fn nothing_is_asked_for_or_written_after_a_failed_write(rt: HostRuntime) -> Result<(), Fail> {
+    for (words, lines) in ROWS {
+        assert!(rt;
+            ends_with_write(rt.alloc(), words, lines).ok_or("not run")?,
+            "{words}"
+        );
+    }
+    for (words, header, event) in HELD {
+        let mut text = header.to_string(rt.alloc())?;
+        for _ in 0..1_000 {
+            text.push_str(event)?;
+        }
+        let lines = [(text.as_str(), "more"), ("end\n", "")];
+        assert!(rt;
+            ends_with_write(rt.alloc(), words, &lines).ok_or("not run")?,
+            "{words}"
+        );
     }
     Ok(())
 }

@@ -1,12 +1,14 @@
 use crate::fairness::first_unfair;
 use crate::pairs::{Played, play_pair};
-use crate::plants::{Ran, conf_with, run_over, run_with, run_worked, set_with, worked_conf};
+use crate::plants::{
+    Ran, conf_with, run_over, run_to, run_with, run_worked, set_with, worked_conf,
+};
 use crate::test_channels::Written;
 use black_channel::{ListChannel, Parcel};
 use duo_run::Duo;
 use fsoe_base::{End, FrameBuf, State};
-use fsoe_io::{Ended, Status};
-use plant_run::JournalStep;
+use fsoe_io::{Ended, MemSink, Status};
+use plant_run::{Journal, JournalStep};
 use std::alloc::Global;
 use std::test::Fail;
 
@@ -71,6 +73,30 @@ fn plants_report_worked_rows(rt: HostRuntime) -> Result<(), Fail> {
         assert_eq!(rt; ran.sink.bytes(), report.as_bytes(), "{script}");
         assert_eq!(rt; counts(ran.journal.steps()), steps, "{script}");
     }
+    Ok(())
+}
+
+/// How the worked plant ends over a script, where each write fails, and its journal.
+fn run_unwritten(alloc: Global, script: &str) -> Option<(Ended, Journal)> {
+    let conf = worked_conf(alloc, "net", "perfect", 1)?;
+    let (conf, setup, mut channels) = set_with(alloc, conf)?;
+    let channel = channels.get_mut(setup.channel)?;
+    let mut sink = MemSink::new(alloc, 0, 1, Vec::new(alloc)).ok()?;
+    run_to(alloc, &conf, setup, channel, script, &mut sink)
+}
+
+/// The text of 78 ticks waits, and that of one more doesn't fit. The lines after it write nothing.
+#[test]
+fn no_event_is_done_after_a_failed_write(rt: HostRuntime) -> Result<(), Fail> {
+    let mut script = "fsoe 1 plant\n".to_string(rt.alloc())?;
+    for _ in 0..79 {
+        script.push_str("t\n")?;
+    }
+    script.push_str("p 1 0300\nh 1 1\ncut 1 1\nend\n")?;
+    let (ended, journal) = run_unwritten(rt.alloc(), script.as_str()).ok_or("not run")?;
+    let (status, place) = (Status::Write, 0);
+    assert_eq!(rt; ended, Ended { status, place });
+    assert_eq!(rt; counts(journal.steps())[0], 79);
     Ok(())
 }
 

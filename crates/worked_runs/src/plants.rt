@@ -3,7 +3,7 @@
 use crate::test_channels::Crossed;
 use black_channel::{Channel, HostileChannel, ListChannel, PerfectChannel};
 use fb_net::{AppEntry, Zeros};
-use fsoe_io::{Ended, SureSink, SureSource};
+use fsoe_io::{Ended, Sink, SureSink, SureSource};
 use plant_conf::{PlantConf, read_conf};
 use plant_run::{Journal, run_plant};
 use plant_setup::{Setup, set_up};
@@ -95,7 +95,32 @@ pub(crate) fn set_with(
     Some((conf, setup, channels))
 }
 
-/// Runs it over a script, and this channel. None where there is no memory for the script and the report.
+/// Runs it over a script, this channel and this sink. None where there is no memory for the script.
+pub(crate) fn run_to<C: Channel, K: Sink>(
+    alloc: Global,
+    conf: &PlantConf,
+    setup: Setup,
+    channel: &mut C,
+    script: &str,
+    sink: &mut K,
+) -> Option<(Ended, Journal)> {
+    let mut source = SureSource::new(script.as_bytes().to_vec(alloc).ok()?);
+    let mut journal = Journal::new(alloc);
+    let Setup { app, spare, .. } = setup;
+    let ended = run_plant(
+        alloc,
+        conf,
+        app,
+        channel,
+        spare,
+        &mut source,
+        sink,
+        &mut journal,
+    );
+    Some((ended, journal))
+}
+
+/// The same with a sink that never fails. None where there is no memory for the script and the report.
 pub(crate) fn run_over<C: Channel>(
     alloc: Global,
     conf: PlantConf,
@@ -103,20 +128,8 @@ pub(crate) fn run_over<C: Channel>(
     channel: &mut C,
     script: &str,
 ) -> Option<Ran> {
-    let mut source = SureSource::new(script.as_bytes().to_vec(alloc).ok()?);
     let mut sink = SureSink::new(alloc, 20_000).ok()?;
-    let mut journal = Journal::new(alloc);
-    let Setup { app, spare, .. } = setup;
-    let ended = run_plant(
-        alloc,
-        &conf,
-        app,
-        channel,
-        spare,
-        &mut source,
-        &mut sink,
-        &mut journal,
-    );
+    let (ended, journal) = run_to(alloc, &conf, setup, channel, script, &mut sink)?;
     Some(Ran {
         conf,
         ended,
