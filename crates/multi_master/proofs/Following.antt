@@ -78,39 +78,32 @@ pub record Ticks (old new : MultiView) (dids : List Did) (frames : List (List �
   pub ticks : TicksEach old.masters old.inputs middle new.inputs dids frames
   pub cycle : RunsCycle old.app true new.inputs middle new.app new.masters new.changed
 
-ticked-at : (settings : List MasterSettings) (app : AppView) (old new : MultiView) (dids : List Did) (frames : List (List ℕ)) (calls : List Call) → StandsFor settings app old calls
-    → (t : Ticks old new dids frames) → AllZip IsWhere (meant settings app calls).connections (map (λ x. x.old) t.ticks.steps)
-ticked-at settings app old new dids frames calls h t = subst (λ (ms : List MasterView). AllZip IsWhere (meant settings app calls).connections ms) (sym t.ticks.old_are) h.masters
-
-tick-done : (settings : List MasterSettings) (app : AppView) (old new : MultiView) (dids : List Did) (frames : List (List ℕ)) (calls : List Call) → StandsFor settings app old calls
-    → Ticks old new dids frames → CycleDone (all_tick (meant settings app calls)) true new.masters new.app new.inputs new.changed
-tick-done settings app old new dids frames calls h t =
-    let m : Meant = meant settings app calls in
-    let at = ticked-at settings app old new dids frames calls h t in
-    cycle_done (all_tick m) old.app new.app true new.inputs t.middle new.masters new.changed h.app_is
-    (sym t.ticks.after_are ∙ ticks_read m.connections t.ticks.steps at t.ticks.each (t.ticks.before_are ∙ h.inputs_are))
-    (subst (λ (ms : List MasterView). AllZip IsWhere (all_tick m).connections ms) t.ticks.new_are (ticks_where m.connections t.ticks.steps at t.ticks.each))
-    t.cycle
+ticked-at : (settings : List MasterSettings) (app : AppView) (old : MultiView) (middle : List MasterView) (read : List (List ℕ)) (dids : List Did) (frames : List (List ℕ)) (calls : List Call) → StandsFor settings app old calls
+    → (t : TicksEach old.masters old.inputs middle read dids frames) → AllZip IsWhere (meant settings app calls).connections (map (λ x. x.old) t.steps)
+ticked-at settings app old middle read dids frames calls h t = subst (λ (ms : List MasterView). AllZip IsWhere (meant settings app calls).connections ms) (sym t.old_are) h.masters
 
 pub tick_follows : (old new : MultiView) (dids : List Did) (frames : List (List ℕ)) → Ticks old new dids frames → Follows old Tick new
 tick_follows old new dids frames t = record {
   stands = λ settings app calls h.
-      let d = tick-done settings app old new dids frames calls h t in
+      let m : Meant = meant settings app calls in
+      let at = ticked-at settings app old t.middle new.inputs dids frames calls h t.ticks in
+      let d = cycle_done (all_tick m) old.app new.app true new.inputs t.middle new.masters new.changed h.app_is
+      (sym t.ticks.after_are ∙ ticks_read m.connections t.ticks.steps at t.ticks.each (t.ticks.before_are ∙ h.inputs_are))
+      (subst (λ (ms : List MasterView). AllZip IsWhere (all_tick m).connections ms) t.ticks.new_are (ticks_where m.connections t.ticks.steps at t.ticks.each))
+      t.cycle in
       record {
         masters = d.masters_are;
         app_is = d.app_is;
         inputs_are = d.inputs_are;
-        changed_are = d.told_are ∙ ap numbers_of (told_ticked 1 (meant settings app calls).connections _);
+        changed_are = d.told_are ∙ ap numbers_of (told_ticked 1 m.connections _);
         sound = (d.sound, h.sound);
       };
 }
 
-pub tick_answers : (old new : MultiView) (dids : List Did) (frames : List (List ℕ)) → Ticks old new dids frames → AnswersTick old dids frames
-tick_answers old new dids frames t = record {
-  dids = λ settings app calls h.
-      sym t.ticks.dids_are ∙ ticks_did (meant settings app calls).connections t.ticks.steps (ticked-at settings app old new dids frames calls h t) t.ticks.each;
-  sent = λ settings app calls h.
-      sym t.ticks.sent_are ∙ ticks_sent (meant settings app calls).connections t.ticks.steps (ticked-at settings app old new dids frames calls h t) t.ticks.each;
+pub tick_answers : (old : MultiView) (middle : List MasterView) (read : List (List ℕ)) (dids : List Did) (frames : List (List ℕ)) → TicksEach old.masters old.inputs middle read dids frames → AnswersTick old dids frames
+tick_answers old middle read dids frames t = record {
+  dids = λ settings app calls h. sym t.dids_are ∙ ticks_did (meant settings app calls).connections t.steps (ticked-at settings app old middle read dids frames calls h t) t.each;
+  sent = λ settings app calls h. sym t.sent_are ∙ ticks_sent (meant settings app calls).connections t.steps (ticked-at settings app old middle read dids frames calls h t) t.each;
 }
 
 -- another application runs

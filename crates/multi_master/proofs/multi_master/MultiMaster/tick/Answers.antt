@@ -49,16 +49,7 @@ returns-clause-follows g c =
 
 pub returns-clause-answers : goal.returns-clause-answers
 returns-clause-answers g c =
-    let ticked : c.as_mut_slice-4.result.now ≡ c.tick_all.new.masters =
-    c.as_mut_slice-4.ensures.value ∙ written_back c.tick_all.new.masters c.self.inside.masters.items c.self.inside.masters.len (cc) (cc)
-    in
-    let inputs = written_back c.tick_all.new.inputs c.self.inside.inputs.items c.self.inside.inputs.len (cc) (cc) in
-    rw (← c.self.view_is)
-    (tick_answers _ _ _ _ (record {
-      middle = c.tick_all.new.masters;
-      ticks = ticks_alike _ _ _ _ _ _ _ _ _ _ c.tick_all.ensures c.as_mut_slice.ensures.value c.as_mut_slice-2.ensures.value refl refl;
-      cycle = runs_alike _ _ _ _ _ _ _ _ _ _ c.run_cycle.ensures.runs (c.as_slice.ensures.value ∙ inputs) ticked refl;
-    }))
+    rw (← c.self.view_is) (tick_answers _ _ _ _ _ (ticks_alike _ _ _ _ _ _ _ _ _ _ c.tick_all.ensures c.as_mut_slice.ensures.value c.as_mut_slice-2.ensures.value refl refl))
 
 pub returns-clause-settings : goal.returns-clause-settings
 returns-clause-settings g c =
