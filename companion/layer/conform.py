@@ -1,0 +1,103 @@
+"""Drives a node program of another maker beside the proved one, as its peer and as a hostile channel.
+
+COMMAND gets the word master or slave after its own words.
+"""
+from __future__ import annotations
+
+import argparse
+import functools
+import itertools
+import os
+import shutil
+import threading
+from concurrent.futures import ThreadPoolExecutor
+from dataclasses import dataclass
+from typing import Callable, Iterator
+
+from layer.course import Course, Differs, Setting
+from layer.program import Complaint, Tool
+from layer.rules import RULES, SETTINGS, hostile, many
+
+HELP = "compares a node program of another maker with the proved one"
+PAGE = "docs/protocol.md"
+
+
+@dataclass(frozen=True)
+class Case:
+    """A rule, tried at one end with one setting."""
+
+    rule: str
+    place: str
+    do: Callable[[Course], None]
+    setting: Setting
+    end: str
+
+
+def cases_of(given: argparse.Namespace) -> Iterator[Case]:
+    chance = [
+        ("hostile channel", "step", functools.partial(hostile, seed=seed), 8) for seed in range(1, given.seeds + 1)
+    ]
+    rare = [("65,536 frames", "number-fits-seal", many, 1)] if given.long else []
+    for number, setting in enumerate(SETTINGS):
+        for (rule, place, do, count), end in itertools.product((*RULES, *chance, *rare), ("slave", "master")):
+            if number < count:
+                yield Case(rule, place, do, setting, end)
+
+
+def tried(case: Case, given: argparse.Namespace, tool: Tool, stop: threading.Event) -> tuple[Case, int, Differs | None]:
+    """How many answers were as expected, and the first that wasn't."""
+    if stop.is_set():
+        return case, 0, None
+    course = Course([str(tool.path), "node"], given.command, case.setting, case.end, given.patience)
+    try:
+        case.do(course)
+        return case, course.count, None
+    except Differs as difference:
+        if given.first:
+            stop.set()
+        return case, course.count, difference
+    finally:
+        course.close()
+
+
+def difference_text(case: Case, count: int, found: Differs) -> str:
+    header = " / ".join(case.setting.header(case.end)[1:-1])
+    return (
+        f"\n{case.rule}, {case.end}, {case.setting.name}: answer {count + 1} differs\n"
+        f"  header    {header}\n  event     {found.event}\n"
+        f"  expected  {found.expected}\n  came      {found.came or '(no answer)'}\n  rule      {PAGE}#{case.place}"
+    )
+
+
+def table(results: list[tuple[Case, int, Differs | None]]) -> Iterator[str]:
+    yield f"{'rule':28}{'slave':>16}{'master':>16}"
+    for rule in dict.fromkeys(case.rule for case, *_ in results):
+        cells = []
+        for end in ("slave", "master"):
+            own = [(count, found) for case, count, found in results if (case.rule, case.end) == (rule, end)]
+            passed = f"{sum(count for count, _ in own)} passed" if any(count for count, _ in own) else "not tried"
+            cells.append("differs" if any(found for _, found in own) else passed)
+        yield f"{rule:28}{cells[0]:>16}{cells[1]:>16}"
+
+
+def take(parser: argparse.ArgumentParser) -> None:
+    parser.add_argument("--seeds", type=int, default=2, help="how many hostile channels are tried for each setting")
+    parser.add_argument("--first", action="store_true", help="end at the first answer that differs")
+    parser.add_argument("--long", action="store_true", help="let the sequence numbers pass 65,535, too")
+    parser.add_argument(
+        "--patience", type=float, default=120, metavar="SECONDS", help="how long a rule may take with one setting"
+    )
+    parser.add_argument("command", nargs="+", metavar="COMMAND", help="the program and its arguments, after --")
+
+
+def run(given: argparse.Namespace, tool: Tool) -> int:
+    if not shutil.which(given.command[0]):
+        raise Complaint(f"there is no program {given.command[0]}")
+    stop = threading.Event()
+    with ThreadPoolExecutor(os.cpu_count()) as pool:
+        results = list(pool.map(lambda case: tried(case, given, tool, stop), cases_of(given)))
+    print("\n".join(table(results)))
+    firsts = {(case.rule, case.end): (case, count, found) for case, count, found in reversed(results) if found}
+    for case, count, found in reversed(firsts.values()):
+        print(difference_text(case, count, found))
+    return 1 if firsts else 0

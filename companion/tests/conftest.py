@@ -1,0 +1,30 @@
+"""What the tests of the companion share."""
+import os
+import pathlib
+import subprocess
+import sys
+
+from hypothesis import settings
+
+settings.register_profile("gate", database=None, deadline=None, derandomize=True, max_examples=60)
+settings.load_profile("gate")
+COMPANION = pathlib.Path(__file__).resolve().parents[1]
+TOP = COMPANION.parent
+sys.path.insert(0, str(COMPANION))
+
+from layer.program import found_tool  # noqa: E402: the path comes first
+
+TOOL = found_tool(None)
+ENVIRONMENT = os.environ | {"GATEPAST_TOOL": str(TOOL.path), "PYTHONDONTWRITEBYTECODE": "1"}
+
+
+def gatepast(*words, text=""):
+    """Status, standard output and standard error of the companion."""
+    ran = subprocess.run(
+        [sys.executable, COMPANION / "gatepast", *map(str, words)],
+        input=text,
+        capture_output=True,
+        text=True,
+        env=ENVIRONMENT,
+    )
+    return ran.returncode, ran.stdout, ran.stderr
