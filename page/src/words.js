@@ -1,61 +1,17 @@
-// What things are called and mean, in the words of docs/protocol.md and docs/formats.md.
+// What things are called and mean, in the words of docs/protocol.md and docs/formats.md. The companion reads words.json, too.
+import { WORDS } from "./words_json.js";
 
-export const ENDS = { m: "master", s: "slave" };
-
-export const STATES = {
-  Reset: "no session; the outputs are zeros",
-  Session: "the ends exchange session ids; the outputs are zeros",
-  Connection: "connection id and slave address are compared; the outputs are zeros",
-  Parameter: "watchdog and application parameters are handed over; the outputs are zeros",
-  Data: "safe data go both ways",
-};
-
-const CODES = {
-  "00": "local reset, or the answer to a reset",
-  "01": "command not allowed in this state",
-  "02": "unknown command",
-  "03": "wrong connection id",
-  "04": "wrong CRC",
-  "05": "watchdog expired",
-  "06": "wrong slave address",
-  "07": "wrong safe data",
-  "08": "wrong length of communication parameters",
-  "09": "wrong communication parameter",
-  "0a": "wrong length of application parameters",
-  "0b": "wrong application parameter",
-};
+export const ENDS = WORDS.ends;
+export const STATES = WORDS.states;
 
 /** What the code of a Reset frame means, in two digits. */
 export function codeWords(code) {
-  return CODES[code] ?? (parseInt(code, 16) >= 0x80 ? "device specific" : "no code of this protocol");
+  return WORDS.codes[code] ?? (parseInt(code, 16) >= 0x80 ? "device specific" : "no code of this protocol");
 }
-
-const DROPS = {
-  Length: "its length isn't that of the peer's frames",
-  Repeat: "it equals the last frame taken",
-  InReset: "it fails a test, and the end is in state Reset",
-};
-
-const CAUSES = {
-  Long: "641 bytes came without a newline",
-  NoNewline: "the text ends inside this line: a newline is missing",
-  End: "the text ends here, before the line “end”",
-  TooMany: "there were 200,000 events, and this line isn't “end”",
-  Header: "a header line may not begin so here, or the first line isn't “fsoe 1 pair”",
-  Word: "no event begins with this word",
-  Fields: "the number of fields isn't that of the word; fields are separated by exactly one space",
-  Number: "a field isn't a number or is too large, or a switch is neither 0 nor 1",
-  Reference: "a reference to a frame isn't one of -1 to -64",
-  Hex: "a hexadecimal field isn't one, or is too long",
-  Length: "a length is neither 1 nor even and from 2 to 126, or a put isn't as long as its end's data",
-  Range: "a value of the header isn't allowed",
-  Position: "the frame has no byte at this place",
-  NoFrame: "the peer hadn't sent so many frames before this event",
-};
 
 /** Why a line is refused. */
 export function causeWords(cause) {
-  return CAUSES[cause] ?? cause;
+  return (WORDS.causes[cause] ?? cause).replace("{first}", "fsoe 1 pair").replace("{most}", "200,000 events");
 }
 
 /** What an event is, before anything is known of what it does. */
@@ -90,7 +46,7 @@ export function didWords(did) {
     case "took":
       return `takes the frame: ${did.command}`;
     case "drop":
-      return `drops the frame without an answer: ${DROPS[did.why]}`;
+      return `drops the frame without an answer: ${WORDS.drops[did.why]}`;
     case "reset":
       if (did.cause === "own") return "resets, as it was told to";
       if (did.cause === "peer") return `resets, since its peer sent a Reset frame with code ${did.code}: ${codeWords(did.code)}`;
