@@ -7,10 +7,8 @@ from __future__ import annotations
 import argparse
 import functools
 import itertools
-import os
 import shutil
-import threading
-from concurrent.futures import ThreadPoolExecutor
+from concurrent.futures import ProcessPoolExecutor
 from dataclasses import dataclass
 from typing import Callable, Iterator
 
@@ -44,20 +42,28 @@ def cases_of(given: argparse.Namespace) -> Iterator[Case]:
                 yield Case(rule, place, do, setting, end)
 
 
-def tried(case: Case, given: argparse.Namespace, tool: Tool, stop: threading.Event) -> tuple[Case, int, Differs | None]:
-    """How many answers were as expected, and the first that wasn't."""
-    if stop.is_set():
-        return case, 0, None
-    course = Course([str(tool.path), "node"], given.command, case.setting, case.end, given.patience)
+Result = tuple[Case, int, Differs | None]  # how many answers were as expected, and the first that wasn't
+
+
+def tried(case: Case, given: argparse.Namespace, tool: Tool) -> Result:
+    course = Course(tool.command("node"), given.command, case.setting, case.end, given.patience)
     try:
         case.do(course)
         return case, course.count, None
     except Differs as difference:
-        if given.first:
-            stop.set()
         return case, course.count, difference
     finally:
         course.close()
+
+
+def results_of(given: argparse.Namespace, tool: Tool) -> Iterator[Result]:
+    """The result of each case in order; with --first they end at the first answer that differs."""
+    with ProcessPoolExecutor() as pool:
+        for result in pool.map(functools.partial(tried, given=given, tool=tool), cases_of(given)):
+            yield result
+            if result[2] and given.first:
+                pool.shutdown(cancel_futures=True)
+                return
 
 
 def difference_text(case: Case, count: int, found: Differs) -> str:
@@ -69,13 +75,13 @@ def difference_text(case: Case, count: int, found: Differs) -> str:
     )
 
 
-def table(results: list[tuple[Case, int, Differs | None]]) -> Iterator[str]:
+def table(results: list[Result]) -> Iterator[str]:
     yield f"{'rule':28}{'slave':>16}{'master':>16}"
     for rule in dict.fromkeys(case.rule for case, *_ in results):
         cells = []
         for end in ("slave", "master"):
             own = [(count, found) for case, count, found in results if (case.rule, case.end) == (rule, end)]
-            passed = f"{sum(count for count, _ in own)} passed" if any(count for count, _ in own) else "not tried"
+            passed = f"{sum(count for count, _ in own)} passed" if own else "not tried"
             cells.append("differs" if any(found for _, found in own) else passed)
         yield f"{rule:28}{cells[0]:>16}{cells[1]:>16}"
 
@@ -93,9 +99,7 @@ def take(parser: argparse.ArgumentParser) -> None:
 def run(given: argparse.Namespace, tool: Tool) -> int:
     if not shutil.which(given.command[0]):
         raise Complaint(f"there is no program {given.command[0]}")
-    stop = threading.Event()
-    with ThreadPoolExecutor(os.cpu_count()) as pool:
-        results = list(pool.map(lambda case: tried(case, given, tool, stop), cases_of(given)))
+    results = list(results_of(given, tool))
     print("\n".join(table(results)))
     firsts = {(case.rule, case.end): (case, count, found) for case, count, found in reversed(results) if found}
     for case, count, found in reversed(firsts.values()):

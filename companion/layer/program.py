@@ -4,12 +4,10 @@ from __future__ import annotations
 import os
 import pathlib
 import subprocess
-import tempfile
 from dataclasses import dataclass
 
 TOP = pathlib.Path(__file__).resolve().parents[2]
 BUILT = TOP / "crates" / "fsoe_tool" / "out" / "fsoe_tool"
-WRITE_FAILED = 7  # from this status of the program on there is no whole report
 
 
 class Complaint(Exception):
@@ -18,24 +16,21 @@ class Complaint(Exception):
 
 @dataclass(frozen=True)
 class Tool:
-    """The proved program at its place."""
+    """The proved program: the one that is named, or that GATEPAST_TOOL names, or that this checkout has built."""
 
-    path: pathlib.Path
+    given: str | None = None
+
+    def command(self, *words: str) -> list[str]:
+        """The program with these words."""
+        path = pathlib.Path(self.given or os.environ.get("GATEPAST_TOOL") or BUILT)
+        if path.is_dir() or not os.access(path, os.X_OK):
+            raise Complaint(f"no program at {path}: build it (rt run in crates/fsoe_tool), or name it by --program")
+        return [str(path.absolute()), *words]
 
     def ask(self, *words: str, text: str = "") -> tuple[int, str]:
         """The status and the report for these words and this input."""
-        ran = subprocess.run([self.path, *words], input=text.encode(), stdout=subprocess.PIPE)
+        ran = subprocess.run(self.command(*words), input=text.encode(), stdout=subprocess.PIPE)
         return ran.returncode, ran.stdout.decode()
-
-
-def found_tool(given: str | None) -> Tool:
-    """The program that is named, or that GATEPAST_TOOL names, or that this checkout has built."""
-    path = pathlib.Path(given or os.environ.get("GATEPAST_TOOL") or BUILT)
-    if not os.access(path, os.X_OK) or path.is_dir():
-        raise Complaint(
-            f"there is no program at {path}: build it (rt run in crates/fsoe_tool), or name it by --program"
-        )
-    return Tool(path.absolute())
 
 
 def text_of(path: str) -> str:
@@ -52,10 +47,10 @@ def text_of(path: str) -> str:
 def write_whole(path: str, data: bytes) -> None:
     """Writes a file so that it is there whole or not at all."""
     target = pathlib.Path(path)
+    part = target.with_name(target.name + ".part")
     try:
-        with tempfile.NamedTemporaryFile(dir=target.parent, delete=False) as part:
-            part.write(data)
-        os.chmod(part.name, 0o644)
-        os.replace(part.name, target)
+        part.write_bytes(data)
+        part.replace(target)
     except OSError as why:
+        part.unlink(missing_ok=True)
         raise Complaint(f"{path} can't be written: {why.strerror}") from why

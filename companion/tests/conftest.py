@@ -12,10 +12,11 @@ COMPANION = pathlib.Path(__file__).resolve().parents[1]
 TOP = COMPANION.parent
 sys.path.insert(0, str(COMPANION))
 
-from layer.program import found_tool  # noqa: E402: the path comes first
+from layer.program import Tool  # noqa: E402: the path comes first
 
-TOOL = found_tool(None)
-ENVIRONMENT = os.environ | {"GATEPAST_TOOL": str(TOOL.path), "PYTHONDONTWRITEBYTECODE": "1"}
+TOOL = Tool()
+PATH = f"{pathlib.Path(sys.executable).parent}:{os.environ['PATH']}"
+ENVIRONMENT = os.environ | {"GATEPAST_TOOL": TOOL.command()[0], "PATH": PATH, "PYTHONDONTWRITEBYTECODE": "1"}
 
 
 def gatepast(*words, text=""):

@@ -120,7 +120,7 @@ def test_places_of_rules_stand_in_the_page():
 
 
 def test_the_proved_program_passes():
-    status, said, _ = gatepast("conform", "--seeds", 0, "--", TOOL.path, "node")
+    status, said, _ = gatepast("conform", "--seeds", 0, "--", *TOOL.command("node"))
     assert status == 0 and len(said.splitlines()) == len(RULES) + 1
     assert "differs" not in said and "not tried" not in said
 

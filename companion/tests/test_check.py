@@ -1,0 +1,139 @@
+"""Refusals in words, and the warnings of a configuration."""
+import re
+
+import pytest
+from conftest import TOP, gatepast
+from layer.check import warnings
+from layer.explain import expected, explained
+from layer.forms import KEYS, KINDS
+from layer.vectors import runs_check
+
+EXAMPLE = (TOP / "examples" / "emergency_stop.toml").read_text()
+
+
+def refused_runs():
+    """Words, file, input and report of each worked run that ends with a refused line or a fault of a configuration."""
+    check = runs_check()
+    blocks, runs = check.all_runs()
+    for name, marked, cells in check.all_rows(runs):
+        parts = check.parts_of(name, marked, blocks, {"file": "", **cells})
+        last = parts[">"][-1].decode("latin-1")
+        if last.startswith(("refused ", "config ")) and not last.endswith("..."):
+            yield name, last, *(b"".join(parts[mark]).decode("latin-1") for mark in ":<")
+
+
+RUNS = list(refused_runs())
+
+
+def test_each_refusal_is_explained():
+    assert len(RUNS) > 300
+    for name, last, configuration, text in RUNS:
+        lines = explained(last, configuration if last.startswith("config") else text)
+        assert lines[0] == last and len(lines) > 1, name
+        assert not re.search(r"[{}]", "".join(lines[1:]).replace(text, "")) or "{" in text, (name, lines)
+
+
+def test_header_lines_are_expected_where_they_may_stand():
+    for name, last, _, text in RUNS:
+        lines = text.split("\n")
+        if found := re.fullmatch(r"refused (\d+) (\w+)", last):
+            number, cause = int(found[1]), found[2]
+            if (
+                lines[0] in KINDS
+                and "go" not in lines[: number - 1]
+                and 1 < number < len(lines)
+                and KINDS[lines[0]].header
+            ):
+                words = {form.split(" ")[0].rstrip(",") for form in expected(lines, number)}
+                assert (lines[number - 1].split(" ")[0] in words) == (cause not in ("Header", "Long")), (
+                    name,
+                    last,
+                    words,
+                )
+
+
+def test_keys_are_those_of_the_page():
+    page = (
+        (TOP / "docs" / "formats.md").read_text().partition("## The configuration of a plant")[2].partition("\n## ")[0]
+    )
+    rows = re.findall(r"^\| (?:`\[+(\w+)\]+`[^|]*)?\| `(\w+)` \|", page, re.M)
+    found, table = {}, ""
+    for name, key in rows:
+        table = name or table
+        found.setdefault(table, []).append(key)
+    assert found == {name: list(keys) for name, keys in KEYS.items()}
+
+
+def test_lines_of_a_configuration_are_found():
+    for line, fault, wanted in (
+        ('kind = "and"\n', "Missing block 1 kind", "line 24 is: [[block]]"),
+        ("address = 12\n", "Missing connection 2 address", "line 13 is: [[connection]]"),
+        ("", "Range connection 2 watchdog", "line 16 is: watchdog = 5"),
+        ("", "SameConn 1 2", "line 14 is: id = 2"),
+        ("", "Later 3", 'line 36 is: ins = ["b2", "i1.1"]'),
+        ("", "Twice 2.0", 'line 55 is: out = "o2.0"'),
+        ("", "NoInput 2.0", 'line 26 is: ins = ["i1.0", "i2.0"]'),
+        ("", "NoChannel", 'line 3 is: channel = "perfect"'),
+    ):
+        assert explained(f"config {fault}", EXAMPLE.replace(line, "", 1))[1] == wanted
+
+
+BOUND = '\n[[bound]]\nestop = "i1.{}"\ndrive = "o2.{}"\n'
+
+
+@pytest.mark.parametrize(
+    "old, new, bound, wanted",
+    (
+        ("seed = 1", "sed = 1", "", "line 4: nobody reads sed of plant: perhaps seed is meant"),
+        ("seed = 1", "seed = 1\n[[bond]]", "", "line 5: nobody reads tables bond: perhaps bound is meant"),
+        ("[plant]", "seed = 1\n[plant]", "", "line 1: nobody reads seed, which is in no table"),
+        (
+            "address = 12",
+            "address = 12\nslave_address = 13",
+            "",
+            "line 16: connection 2: the slave refuses the master with code 06",
+        ),
+        ("address = 12", "address = 11", "", "line 15: the slaves of connections 1 and 2 have one address"),
+        (
+            "watchdog = 5",
+            "watchdog = 5\nmost = 4",
+            "",
+            "line 10: connection 1: the slave refuses the master with code 09",
+        ),
+        ('"b5"]', '"i1.1"]', "", "line 51: block 6: a stuck acknowledgement restarts by itself"),
+        ('from = "b6"', 'from = "b1"', "", "line 56: o2.0 comes on by itself with its inputs"),
+        ("", "", BOUND.format(1, 0), "line 58: bound 1: o2.0 isn't guarded by i1.1"),
+        ("", "", BOUND.format(0, 1), "line 60: bound 1: nothing drives o2.1, so it is always off"),
+        ('app = "net"', 'app = "zeros"', BOUND.format(0, 0), "line 60: bound 1: nothing drives o2.0"),
+        ('app = "net"', 'app = "mirror"', BOUND.format(0, 0), "line 58: bound 1: o2.0 isn't guarded by i1.0"),
+    ),
+)
+def test_warnings(tmp_path, old, new, bound, wanted):
+    (tmp_path / "plant.toml").write_text(EXAMPLE.replace(old, new, 1) + bound)
+    status, said, _ = gatepast("check", tmp_path / "plant.toml")
+    assert status == 0 and [line[: 9 + len(wanted)] for line in said.splitlines()] == [
+        "the program takes it"[: 9 + len(wanted)],
+        f"warning: {wanted}",
+    ]
+
+
+def test_what_is_meant_gives_no_warning():
+    assert list(warnings(EXAMPLE + BOUND.format(0, 0), True)) == []
+
+
+def test_what_is_refused_comes_with_the_programs_status(tmp_path):
+    file = tmp_path / "plant.toml"
+    file.write_text(EXAMPLE.replace("watchdog = 5", "watchdgo = 5"))
+    status, said, _ = gatepast("check", file)
+    assert (
+        status == 3
+        and "config Missing connection 1 watchdog\nline 6 is: [[connection]]" in said
+        and "watchdog is meant" in said
+    )
+    file.write_bytes(b"\xff")
+    for words in (["check", file], ["check", tmp_path / "none"], ["explain", tmp_path / "none"], ["explain", "-"]):
+        status, said, why = gatepast(*words)
+        assert (status, said) == (2, "") and why.startswith("gatepast: ")
+    file.write_text("[plant\n")
+    status, said, _ = gatepast("check", file)
+    assert status == 3 and "config Syntax\nline 1 is: [plant\n" in said
