@@ -1,0 +1,123 @@
+"""Captures, the dissector and the judging of recordings."""
+import re
+import shutil
+import struct
+import subprocess
+
+import pytest
+from conftest import COMPANION, TOOL, gatepast
+from hypothesis import given, strategies
+from layer.capture import PCAP, checksum, packets
+from layer.recording import Frame, verdicts
+from layer.words import WORDS
+
+SESSION = "\n".join(
+    ["fsoe 1 pair", "lengths {}", "master 1 2 100 1", "{}slave 2 100 1000 2", "{}rule any 0", "go", "tm"]
+)
+WITH_TSHARK = pytest.mark.skipif(not shutil.which("tshark"), reason="there is no tshark")
+
+
+def report_of(events, lengths="2 2", profile=""):
+    """The report of both ends over these events after the master's first tick."""
+    return TOOL.ask("replay", text="\n".join([SESSION.format(lengths, profile, profile), *events, "end", ""]))[1]
+
+
+def frames_in(report):
+    return re.findall(r"^\d+(?: \d+)? ([ms]) .* > (.*)$", report, re.M)
+
+
+def said_of(report, lengths="2 2", change=lambda frames: frames):
+    """What is said of the parts of a recording of a report's frames, from number 1 on."""
+    frames = [Frame(number, end, bytes.fromhex(data)) for number, (end, data) in enumerate(frames_in(report), 1)]
+    return [verdict for *_, verdict in verdicts(change(frames), tuple(map(int, lengths.split(" "))), TOOL)]
+
+
+@given(strategies.lists(strategies.tuples(strategies.sampled_from("ms"), strategies.binary(min_size=1, max_size=255))))
+def test_captures_have_the_frames_of_a_report(frames):
+    report = "".join(
+        f"{number} {end} took Reset Reset 00 > {frame.hex()}\n" for number, (end, frame) in enumerate(frames, 1)
+    )
+    records = list(packets(report, 51000))
+    assert len(records) == len(frames)
+    for number, ((end, frame), record) in enumerate(zip(frames, records), 1):
+        seconds, microseconds, length, whole = struct.unpack("<IIII", record[:16])
+        header, udp = record[16:36], record[36:]
+        assert (seconds * 1000 + microseconds // 1000, length, whole) == (number, len(record) - 16, len(record) - 16)
+        assert checksum(header) == 0 and struct.unpack(">H", header[2:4]) == (length,)
+        ports = (51000, 51001) if end == "m" else (51001, 51000)
+        assert struct.unpack(">HHHH", udp[:8]) == (*ports, len(udp), 0) and udp[8:] == frame
+
+
+def test_a_report_without_frames_leaves_no_file(tmp_path):
+    status, said, why = gatepast("pcap", "-", "--into", tmp_path / "a.pcap", text="events 0\n")
+    assert (status, said) == (2, "") and "no line of a replay" in why and not list(tmp_path.iterdir())
+    status, said, why = gatepast("pcap", "-", "--into", tmp_path / "no" / "a.pcap", text="1 m again Reset 00 > 2a\n")
+    assert (status, said) == (2, "") and "can't be written" in why
+
+
+def test_the_dissector_has_the_words_of_the_page():
+    text = (COMPANION / "gatepast.lua").read_text()
+    codes = dict(re.findall(r'^  \[0x0([0-9a-f])\] = "(.*)",$', text.partition("CODES = {")[2], re.M))
+    assert {f"0{code}": words for code, words in codes.items()} == WORDS["codes"]
+
+
+@WITH_TSHARK
+@pytest.mark.parametrize("lengths", ("1 1", "4 6"))
+def test_the_dissector_reads_each_frame(tmp_path, lengths):
+    report = report_of(["ds -1", "dm -1"] * 20, lengths)
+    (tmp_path / "a.pcap").write_bytes(PCAP + b"".join(packets(report, 51000)))
+    names = ("sender", "command", "data", "crc", "connection")
+    words = [word for name in names for word in ("-e", f"gatepast.{name}")]
+    for number, name in enumerate(("master", "slave")):
+        words += ["-o", f"gatepast.{name}_length:{lengths.split(' ')[number]}"]
+    words = [
+        "tshark",
+        "-X",
+        f"lua_script:{COMPANION / 'gatepast.lua'}",
+        "-r",
+        tmp_path / "a.pcap",
+        "-T",
+        "fields",
+        *words,
+    ]
+    said = subprocess.run(words, capture_output=True, text=True).stdout.splitlines()
+    for line, (end, frame) in zip(said, frames_in(report), strict=True):
+        sender, command, data, crcs, connection = line.split("\t")
+        groups = re.findall("..?.?.?" if data[2:] else "..", data)
+        again = f"{int(command, 16):02x}" + "".join(
+            group + struct.pack("<H", int(crc, 16)).hex() for group, crc in zip(groups, crcs.split(","), strict=True)
+        )
+        assert (sender[0], again + struct.pack("<H", int(connection)).hex()) == (end, frame)
+
+
+def test_recordings_are_judged_session_by_session():
+    on, told, ended = ["ds -1", "dm -1"], "conforms, read 1 2 100 0", "not judged: the slave ended a session"
+    assert said_of(report_of(on * 9)) == [told]
+    assert said_of(report_of([*on * 9, "zs", "dm -1", *on * 9])) == [told, ended, told]
+    assert said_of(report_of(on * 9), change=lambda frames: frames[1:])[0] == ended
+    assert said_of(report_of(on * 9), change=lambda frames: frames[4:]) == [
+        "not judged: it starts in the middle of a session"
+    ]
+    assert said_of(report_of(on * 9), change=lambda frames: [*frames, Frame(0, "m", bytes(256))])[0].endswith(
+        "255 bytes"
+    )
+    late = said_of(report_of([*on * 3, *["tm"] * 100, *on * 9]))
+    assert late[-1] == "not judged: it starts with a Reset frame of code 05, and only a start with 00 is judged"
+    for lengths in ("1 1", "2 2", "4 4", "8 126"):
+        for count in (12, 30):
+            assert said_of(report_of(on * count, lengths, "profile 7\n"), lengths) == ["not judged: it has profile Two"]
+
+
+@WITH_TSHARK
+def test_what_differs_is_told_by_the_number_in_the_recording(tmp_path):
+    report = report_of(["ds -1", "dm -1"] * 9)
+    (tmp_path / "a.report").write_text(report)
+    assert gatepast("pcap", tmp_path / "a.report", "--into", tmp_path / "a.pcap") == (0, "19 frames\n", "")
+    capture, last = (tmp_path / "a.pcap").read_bytes(), bytes.fromhex(frames_in(report)[-1][1])
+    (tmp_path / "a.pcap").write_bytes(capture.replace(last, last[:3] + bytes([last[3] ^ 1]) + last[4:]))
+    status, said, _ = gatepast("trace", tmp_path / "a.pcap", "--lengths", 2, 2, "--into", tmp_path)
+    assert (status, said) == (1, "conversation 0 part 1, frames 1 to 19: differs in frame 19, Crc 0\n")
+    assert (tmp_path / "0-1.trace").read_text().startswith("fsoe 1 trace\nlengths 2 2\ngo\nm 2a0000")
+    assert gatepast("trace", tmp_path / "a.pcap", "--lengths", 2, 3)[:2] == (2, "")
+    status, said, why = gatepast("trace", COMPANION / "gatepast.lua", "--lengths", 2, 2)
+    assert (status, said) == (2, "") and why.startswith("gatepast: tshark")
