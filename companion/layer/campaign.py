@@ -57,6 +57,7 @@ def take(parser: argparse.ArgumentParser) -> None:
     parser.add_argument("first", type=int, help="the first number")
     parser.add_argument("last", type=int, help="the last number")
     parser.add_argument("--events", type=int, default=20000, help="events of each schedule, 20000 if it isn't given")
+    parser.add_argument("--each", action="store_true", help="list each number whose schedule has an `other` entry")
     parser.add_argument("--fresh", action="store_true", help="run each schedule with fresh ids, too")
 
 
@@ -74,5 +75,8 @@ def run(given: argparse.Namespace, tool: Tool) -> int:
                 pool.map(functools.partial(way, tool, given.events), range(given.first, given.last + 1), chunksize=4)
             )
             print(row(name, others, given.first), flush=True)
+            for number, other in enumerate(others, given.first):
+                if other and given.each:
+                    print(f"  number {number}: other {other}")
             status |= any(others)
     return int(status)
