@@ -58,9 +58,8 @@ class Course:
         self.proved = Node([*tool, end], setting.header(end), patience)
         self.peer = Node([*tool, self.other], setting.header(self.other), patience)
         self.count = 0
-        self.session: list[
-            tuple[str, Answer]
-        ] = []  # the events and answers of the tested end after its last Reset frame
+        # The events and the answers of the tested end after its last Reset frame.
+        self.session: list[tuple[str, Answer]] = []
         self.frame: str | None = None
 
     def do(self, event: str) -> Answer:

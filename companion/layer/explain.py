@@ -16,6 +16,12 @@ WORDS_OF_IMAGES = {"Position": "the bytes leave the image"}
 LONG = 100  # digits of a line that are shown
 
 
+def shown(number: int, line: str) -> str:
+    """A line as people can see it, also a carriage return or a tab in it."""
+    seen = "".join(letter if letter.isprintable() else f"\\x{ord(letter):02x}" for letter in line[:LONG])
+    return f"line {number} is: {seen}{' ...' if len(line) > LONG else ''}"
+
+
 def next_header_lines(kind: Kind, before: list[str]) -> list[str]:
     """The forms of the header lines that may come after these."""
     if len(before) == 1:
@@ -54,8 +60,7 @@ def refusal(number: int, cause: str, text: str | None) -> Iterator[str]:
     lines = text.split("\n") if text is not None else []
     first = lines[0] if lines and lines[0] in KINDS else ""
     if number <= len(lines):
-        line = lines[number - 1]
-        yield f"line {number} is: {line[:LONG]}{' ...' if len(line) > LONG else ''}"
+        yield shown(number, lines[number - 1])
     words = WORDS_OF_IMAGES if first == "fsoe 1 image" else {}
     why = words.get(cause) or WORDS["causes"][cause]
     most = KINDS[first].most if first else "too many"
@@ -109,8 +114,8 @@ def fault(words: list[str], text: str | None) -> Iterator[str]:
     word, *rest = words
     number = fault_line(word, rest, text) if text is not None else None
     if number and word != "TooLong":
-        yield f"line {number} is: {text.split(chr(10))[number - 1].strip()[:LONG]}"
-    if rest == ["0"] and word == "Later":
+        yield shown(number, text.split("\n")[number - 1].strip())
+    if word == "Later" and rest == ["0"]:
         yield "a drive's wire names a block that doesn't exist"
     else:
         yield FAULTS[word].format(*" ".join(rest).replace(".", " ").split(" "))
@@ -139,7 +144,7 @@ def take(parser: argparse.ArgumentParser) -> None:
 
 
 def run(given: argparse.Namespace, _tool: Tool) -> int:
-    text = text_of(given.input) if given.input else None
+    text = text_of(given.input, errors="replace") if given.input else None
     lines = explained(text_of(given.report), text)
     if not lines:
         raise Complaint(f"{given.report} ends with no refused line and no fault of a configuration")

@@ -33,11 +33,11 @@ class Tool:
         return ran.returncode, ran.stdout.decode()
 
 
-def text_of(path: str) -> str:
+def text_of(path: str, errors: str = "strict") -> str:
     """The text of a file, or of standard input for the name -."""
     try:
         data = os.fdopen(0, "rb", closefd=False).read() if path == "-" else pathlib.Path(path).read_bytes()
-        return data.decode()
+        return data.decode(errors=errors)
     except OSError as why:
         raise Complaint(f"{path} can't be read: {why.strerror}") from why
     except UnicodeDecodeError as why:

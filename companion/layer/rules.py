@@ -47,15 +47,19 @@ def try_at(course: Course, point: int, frames: Callable[[], list[str]]) -> None:
             course.do(event)
 
 
+def put(course: Course, end: str, draw: random.Random) -> str:
+    """A put of bytes that are drawn."""
+    return "p " + draw.randbytes(course.setting.sends(end)).hex()
+
+
 def sessions(course: Course) -> None:
     for event in ("t", "d 00", "h 1", "h 0", "t"):
         course.do(event)
+    draw = random.Random(0)
     course.begin()
-    for number in range(40):
-        course.do("p " + bytes((number + 1) * (at + 3) % 256 for at in range(course.setting.sends(course.end))).hex())
-        course.peer.ask(
-            "p " + bytes((number + 7) * (at + 5) % 256 for at in range(course.setting.sends(course.other))).hex()
-        )
+    for _ in range(40):
+        course.do(put(course, course.end, draw))
+        course.peer.ask(put(course, course.other, draw))
         course.advance()
 
 
@@ -76,16 +80,8 @@ def repeats(course: Course) -> None:
 
 def commands(course: Course) -> None:
     for point in points(course):
-        try_at(
-            course,
-            point,
-            lambda: [
-                course.forged(0),
-                course.forged(0x37, connection=9),
-                course.forged(0xFF, wrong=0),
-                course.forged(0x2B),
-            ],
-        )
+        forged = course.forged
+        try_at(course, point, lambda: [forged(0), forged(0x37, connection=9), forged(0xFF, wrong=0), forged(0x2B)])
 
 
 def reset_frames(course: Course) -> None:
@@ -137,12 +133,8 @@ def crcs(course: Course) -> None:
 
         def frames() -> list[str]:
             bits = [altered(course.frame, place, 1 << place % 8) for place in range(min(len(course.frame) // 2, 12))]
-            return [
-                *bits,
-                *(course.forged(ahead=ahead) for ahead in (1, 2, -1)),
-                course.forged(wrong=0),
-                course.forged(wrong=-1),
-            ]
+            ahead = [course.forged(ahead=ahead) for ahead in (1, 2, -1)]
+            return [*bits, *ahead, course.forged(wrong=0), course.forged(wrong=-1)]
 
         try_at(course, point, frames)
 
@@ -153,18 +145,12 @@ def contents(course: Course) -> None:
         def frames() -> list[str]:
             command, right, *_ = read_back(bytes.fromhex(course.frame))
             length, sent = len(right), min(course.setting.lengths)
-            masks = [
-                bytes(at == place for at in range(length))
-                for place in {0, 1, 2, 3, sent - 1, sent, length - 1}
-                if place < length
-            ]
+            places = [place for place in {0, 1, 2, 3, sent - 1, sent, length - 1} if place < length]
+            masks = [bytes(at == place for at in range(length)) for place in places]
             masks += [right, bytes([255] * length), bytes(sent) + b"\1" * (length - sent)]
             changed = [course.forged(data=bytes(a ^ b for a, b in zip(right, mask))) for mask in masks]
-            return changed + [
-                course.forged(FAIL_SAFE, data)
-                for data in (bytes(length), bytes(length - 1) + b"\1")
-                if command == PROCESS
-            ]
+            fail_safe = [bytes(length), bytes(length - 1) + b"\1"] if command == PROCESS else []
+            return changed + [course.forged(FAIL_SAFE, data) for data in fail_safe]
 
         try_at(course, point, frames)
 
@@ -253,15 +239,14 @@ def hostile(course: Course, seed: int) -> None:
             course.frame = course.peer.ask("z" if act == "begin" else "t").sent or course.frame
         elif act in ("put", "hold", "id"):
             ask, end = draw.choice(((course.do, course.end), (course.peer.ask, course.other)))
-            ask(
-                {
-                    "put": "p " + draw.randbytes(course.setting.sends(end)).hex(),
-                    "hold": f"h {draw.randrange(2)}",
-                    "id": f"n {draw.randrange(65536)}",
-                }[act]
-            )
+            events = {
+                "put": put(course, end, draw),
+                "hold": f"h {draw.randrange(2)}",
+                "id": f"n {draw.randrange(65536)}",
+            }
+            ask(events[act])
         elif act in ("tick", "reset"):
-            course.answered(course.do(act[0].replace("r", "z")))
+            course.answered(course.do("t" if act == "tick" else "z"))
 
 
 RULES = (  # what is tried, the section of the page, how, and with how many of the settings

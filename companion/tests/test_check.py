@@ -52,6 +52,12 @@ def test_header_lines_are_expected_where_they_may_stand():
                 )
 
 
+def test_what_cannot_be_seen_is_shown():
+    assert explained("refused 3 Number", "fsoe 1 node slave\nlengths 2 2\nslave 2 200 1000 2\r\n")[1] == (
+        "line 3 is: slave 2 200 1000 2\\x0d"
+    )
+
+
 def test_keys_are_those_of_the_page():
     page = (
         (TOP / "docs" / "formats.md").read_text().partition("## The configuration of a plant")[2].partition("\n## ")[0]
