@@ -26,6 +26,7 @@ def first_other(report: str) -> int:
 
 
 def with_same_ids(tool: Tool, events: int, number: int) -> int:
+    """The first `other` entry of the schedule of a number."""
     return first_other(tool.ask("bulk", str(number), str(events))[1])
 
 

@@ -32,6 +32,7 @@ class Case:
 
 
 def cases_of(given: argparse.Namespace) -> Iterator[Case]:
+    """All cases, those of the first setting first."""
     chance = [
         ("hostile channel", "step", functools.partial(hostile, seed=seed), 8) for seed in range(1, given.seeds + 1)
     ]
@@ -46,6 +47,7 @@ Result = tuple[Case, int, Differs | None]  # how many answers were as expected, 
 
 
 def tried(case: Case, given: argparse.Namespace, tool: Tool) -> Result:
+    """Tries a case."""
     course = Course(tool.command("node"), given.command, case.setting, case.end, given.patience)
     try:
         case.do(course)
@@ -67,6 +69,7 @@ def results_of(given: argparse.Namespace, tool: Tool) -> Iterator[Result]:
 
 
 def difference_text(case: Case, count: int, found: Differs) -> str:
+    """The first difference of a case, and where its rule stands."""
     header = " / ".join(case.setting.header(case.end)[1:-1])
     return (
         f"\n{case.rule}, {case.end}, {case.setting.name}: answer {count + 1} differs\n"
@@ -76,6 +79,7 @@ def difference_text(case: Case, count: int, found: Differs) -> str:
 
 
 def table(results: list[Result]) -> Iterator[str]:
+    """What passed, by rule and end."""
     yield f"{'rule':28}{'slave':>16}{'master':>16}"
     for rule in dict.fromkeys(case.rule for case, *_ in results):
         cells = []

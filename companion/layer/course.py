@@ -4,7 +4,7 @@ from __future__ import annotations
 from dataclasses import dataclass
 from typing import Sequence
 
-from example_node import RESET, crc_of, crcs_of, groups, layout, next_number, read_back
+from example_node import RESET, Noted, crc_of, crcs_of, groups, layout, next_number, read_back
 from layer.node import Answer, Node
 from layer.program import Complaint
 
@@ -29,6 +29,7 @@ class Setting:
     hand: int = 4
 
     def header(self, end: str) -> list[str]:
+        """The header of a node file."""
         profile = [] if self.word is None else [f"profile {self.word}"]
         app = [f"app {self.app[at:at + 512]}" for at in range(0, len(self.app), 512)]
         own = {
@@ -38,10 +39,12 @@ class Setting:
         return [f"fsoe 1 node {end}", f"lengths {self.lengths[0]} {self.lengths[1]}", *own[end], "go"]
 
     def sends(self, end: str) -> int:
+        """The safe data bytes that an end sends."""
         return self.lengths[end == "slave"]
 
 
 def altered(frame: str, place: int, mask: int) -> str:
+    """A frame with a byte altered by a mask."""
     data = bytearray.fromhex(frame)
     data[place] ^= mask
     return data.hex()
@@ -103,7 +106,7 @@ class Course:
             self.advance()
         return states
 
-    def notes(self) -> tuple[tuple[int, int] | None, tuple[int, int] | None]:
+    def notes(self) -> tuple[Noted, Noted]:
         """Number and CRC_0 of the last frame that the tested end took in its session, and of the last that it sent."""
         taken = sent = None
         for event, answer in self.session:
@@ -113,12 +116,14 @@ class Course:
                 sent = self.noted(sent, taken, answer.sent)
         return taken, sent
 
-    def noted(self, before: tuple[int, int] | None, other: tuple[int, int] | None, frame: str) -> tuple[int, int]:
+    def noted(self, before: Noted, other: Noted, frame: str) -> tuple[int, int]:
+        """Number and CRC_0 of a frame after the one before in its direction and the last one in the other."""
         command, data, crcs, connection = read_back(bytes.fromhex(frame))
         return self.number(before, other[1] if other else 0, command, data, connection), crcs[0]
 
     @staticmethod
-    def number(noted: tuple[int, int] | None, last: int, command: int, data: bytes, connection: int) -> int:
+    def number(noted: Noted, last: int, command: int, data: bytes, connection: int) -> int:
+        """The sequence number of a frame."""
         return next_number(noted, lambda number: crc_of(0, groups(data)[0], last, connection, number, command))
 
     def forged(
@@ -145,5 +150,6 @@ class Course:
         return layout(command, data, crcs, connection).hex()
 
     def close(self) -> None:
+        """Ends all programs."""
         for node in self.foreign, self.proved, self.peer:
             node.close()

@@ -17,14 +17,17 @@ class Answer:
 
     @property
     def sent(self) -> str | None:
+        """The frame that was sent."""
         return self.line.partition(" > ")[2] or None
 
     @property
     def did(self) -> str:
+        """What the end did."""
         return " ".join(self.line.partition(" > ")[0].split(" ")[1:-2])
 
     @property
     def state(self) -> str:
+        """The state after it."""
         return self.line.partition(" > ")[0].split(" ")[-2]
 
 
@@ -40,6 +43,7 @@ class Node:
         self.say(*header)
 
     def say(self, *lines: str) -> None:
+        """Writes lines."""
         try:
             self.process.stdin.write("".join(line + "\n" for line in lines))
             self.process.stdin.flush()
@@ -47,10 +51,12 @@ class Node:
             pass
 
     def ask(self, event: str) -> Answer:
+        """The answer to an event."""
         self.say(event)
         return Answer(self.process.stdout.readline().removesuffix("\n"))
 
     def close(self) -> None:
+        """Ends the program."""
         self.guard.cancel()
         self.process.kill()
         try:

@@ -30,6 +30,7 @@ class Frame:
 
     @property
     def is_reset(self) -> bool:
+        """Whether the frame is a Reset frame."""
         return self.data[:1] == bytes([RESET])
 
 

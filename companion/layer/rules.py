@@ -53,6 +53,7 @@ def put(course: Course, end: str, draw: random.Random) -> str:
 
 
 def sessions(course: Course) -> None:
+    """A handshake and data that change, after some events before the first session."""
     for event in ("t", "d 00", "h 1", "h 0", "t"):
         course.do(event)
     draw = random.Random(0)
@@ -64,11 +65,13 @@ def sessions(course: Course) -> None:
 
 
 def lengths(course: Course) -> None:
+    """Frames that are too short or too long."""
     for point in points(course):
         try_at(course, point, lambda: [course.frame[:-2], (course.frame + "00")[:LONGEST], "2a", "00" * 255])
 
 
 def repeats(course: Course) -> None:
+    """The last two frames that were taken, and both with a byte altered."""
     for point in points(course):
 
         def frames() -> list[str]:
@@ -79,12 +82,14 @@ def repeats(course: Course) -> None:
 
 
 def commands(course: Course) -> None:
+    """Bytes that are no command, with the right CRCs, and with another fault besides."""
     for point in points(course):
         forged = course.forged
         try_at(course, point, lambda: [forged(0), forged(0x37, connection=9), forged(0xFF, wrong=0), forged(0x2B)])
 
 
 def reset_frames(course: Course) -> None:
+    """Reset frames with some codes, and with each fault alone and before another one."""
     length = course.setting.sends(course.other)
 
     def frames() -> list[str]:
@@ -102,6 +107,7 @@ def reset_frames(course: Course) -> None:
 
 
 def allowed(course: Course) -> None:
+    """Each command with the right CRCs, with another connection id, and with a wrong CRC."""
     for point in points(course):
 
         def frames() -> list[str]:
@@ -116,6 +122,7 @@ def allowed(course: Course) -> None:
 
 
 def connections(course: Course) -> None:
+    """Other connection ids with their right CRCs, and with a wrong one."""
     for point in points(course):
 
         def frames() -> list[str]:
@@ -129,6 +136,7 @@ def connections(course: Course) -> None:
 
 
 def crcs(course: Course) -> None:
+    """Bits turned, CRCs of other sequence numbers, and one CRC wrong."""
     for point in points(course):
 
         def frames() -> list[str]:
@@ -140,6 +148,7 @@ def crcs(course: Course) -> None:
 
 
 def contents(course: Course) -> None:
+    """Safe data with bytes altered one by one and together, all with the right CRCs."""
     for point in range(len(course.states())):
 
         def frames() -> list[str]:
@@ -156,6 +165,7 @@ def contents(course: Course) -> None:
 
 
 def watchdog(course: Course) -> None:
+    """Ticks up to the limit, around a frame that is dropped and one that is taken, and past the limit."""
     limit = max(course.setting.watchdog, course.setting.hand)
     for point in points(course):
         for ticks in (0, limit - 2, limit - 1, limit):
@@ -166,6 +176,7 @@ def watchdog(course: Course) -> None:
 
 
 def offers(course: Course) -> None:
+    """Offers, holds and session ids of both ends that change at each point."""
     some = iter(itertools.cycle((1, 128, 90)))
     for held, point in itertools.product("0101", points(course)):
         course.begin()
