@@ -1,11 +1,15 @@
 """Refusals in words, and the warnings of a configuration."""
+import itertools
+import json
 import re
 
 import pytest
-from conftest import TOP, gatepast
+from conftest import TOOL, TOP, gatepast
+from hypothesis import given, strategies
 from layer.check import warnings
 from layer.explain import expected, explained
 from layer.forms import KEYS, KINDS
+from layer.net import Net
 from layer.vectors import runs_check
 
 EXAMPLE = (TOP / "examples" / "emergency_stop.toml").read_text()
@@ -121,6 +125,64 @@ def test_warnings(tmp_path, old, new, bound, wanted):
         "the program takes it"[: 9 + len(wanted)],
         f"warning: {wanted}",
     ]
+
+
+KINDS_OF_BLOCKS = {
+    "latch": 2,
+    "estop": 2,
+    "twohand": 2,
+    "feedback": 2,
+    "ondelay": 1,
+    "offdelay": 1,
+    "const0": 0,
+    "const1": 0,
+}
+
+
+@strategies.composite
+def nets(draw):
+    """Blocks over three input bits; the drive reads the last one."""
+    wires, blocks = ["i1.0", "i1.1", "i2.0"], []
+    for number in range(1, draw(strategies.integers(1, 5)) + 1):
+        kind = draw(strategies.sampled_from([*KINDS_OF_BLOCKS, "and", "or", "and", "or"]))
+        count = KINDS_OF_BLOCKS.get(kind) if kind in KINDS_OF_BLOCKS else draw(strategies.integers(1, 3))
+        ins = draw(strategies.lists(strategies.sampled_from(wires[-4:]), min_size=count, max_size=count))
+        blocks.append({"kind": kind, "ins": ins, "n": draw(strategies.integers(0, 2))})
+        wires.append(f"b{number}")
+    return blocks
+
+
+def on_ticks(folder, blocks, puts):
+    """Whether the drive is on after each tick, if the bits are put so."""
+    text = EXAMPLE.partition("# Bit 0")[0]
+    for block in blocks:
+        text += f'[[block]]\nkind = "{block["kind"]}"\nins = {json.dumps(block["ins"])}\nn = {block["n"]}\n'
+    (folder / "plant.toml").write_text(f'{text}[[drive]]\nout = "o2.0"\nfrom = "b{len(blocks)}"\n')
+    events = [line for put in puts for line in (f"p 1 0{put & 3}00", f"p 2 0{put >> 2}00", "t")]
+    script = "\n".join(["fsoe 1 plant", *events, "end", ""])
+    status, report = TOOL.ask("plant", str(folder / "plant.toml"), text=script)
+    assert status == 0, report
+    return [line.endswith("0100") for line in report.splitlines() if line.startswith("2 Data")]
+
+
+PUTS = strategies.lists(strategies.integers(0, 7), min_size=4, max_size=12)
+
+
+@given(nets(), PUTS)
+def test_what_is_guarded_stays_off(tmp_path_factory, blocks, puts):
+    folder, net = tmp_path_factory.getbasetemp(), Net(blocks)
+    for bit, mask in (("i1.0", 6), ("i1.1", 5), ("i2.0", 3)):
+        if net.guards(bit, f"b{len(blocks)}"):
+            assert not any(on_ticks(folder, blocks, [put & mask for put in puts]))
+
+
+def test_what_is_not_guarded_can_be_on(tmp_path):
+    for kind, count in {**KINDS_OF_BLOCKS, "and": 1, "or": 2}.items():
+        block = {"kind": kind, "ins": ["i1.0", "i1.1"][:count], "n": 1 if kind == "ondelay" else 50}
+        for bit, mask in (("i1.0", 2), ("i1.1", 1)):
+            runs = itertools.product(range(4), repeat=2)
+            on = any(on_ticks(tmp_path, [block], [a, a, b, b, *[mask] * 5])[-1] for a, b in runs)
+            assert on != Net([block]).guards(bit, "b1"), (kind, bit)
 
 
 def test_what_is_meant_gives_no_warning():
