@@ -79,15 +79,21 @@ def bit_line(text: str, letter: str, bit: str) -> int | None:
     return named[-1] if named else None
 
 
+def syntax_fault(text: str) -> str:
+    """What Python's reader of TOML says of a text; nothing if it takes it."""
+    try:
+        tomllib.loads(text)
+    except tomllib.TOMLDecodeError as why:
+        return str(why)
+    return ""
+
+
 def fault_line(word: str, rest: list[str], text: str) -> int | None:
     """The line of the configuration that a fault is about, as far as it can be told."""
     places = lines_of(text)
     if word == "Syntax":
-        try:
-            tomllib.loads(text)
-        except tomllib.TOMLDecodeError as why:
-            found = re.search(r"at line (\d+)", str(why))
-            return int(found[1]) if found else None
+        found = re.search(r"at line (\d+)", syntax_fault(text))
+        return int(found[1]) if found else None
     if word in ("Missing", "Kind", "Range"):
         number = int(rest[1]) if len(rest) == 3 else 1
         return places.get((rest[0], number, rest[-1])) or places.get((rest[0], number, ""))
@@ -119,6 +125,8 @@ def fault(words: list[str], text: str | None) -> Iterator[str]:
         yield "a drive's wire names a block that doesn't exist"
     else:
         yield FAULTS[word].format(*" ".join(rest).replace(".", " ").split(" "))
+    if word == "Syntax" and text is not None and syntax_fault(text):
+        yield f"Python's reader says: {syntax_fault(text)}"
     if form := form_of(word, rest):
         yield f"expected there: {form}"
 
