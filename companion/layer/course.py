@@ -27,6 +27,7 @@ class Setting:
     word: int | None = None
     watchdog: int = 6
     hand: int = 4
+    most: int = 6
 
     def header(self, end: str) -> list[str]:
         """The header of a node file."""
@@ -34,7 +35,7 @@ class Setting:
         app = [f"app {self.app[at:at + 512]}" for at in range(0, len(self.app), 512)]
         own = {
             "master": [f"master 1 2 {self.watchdog} 1", *profile, *app],
-            "slave": [f"slave 2 {self.hand} 1000 2", *profile, *self.rule],
+            "slave": [f"slave 2 {self.hand} {self.most} 2", *profile, *self.rule],
         }
         return [f"fsoe 1 node {end}", f"lengths {self.lengths[0]} {self.lengths[1]}", *own[end], "go"]
 

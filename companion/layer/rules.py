@@ -22,7 +22,7 @@ SETTINGS = (
     ),
     Setting("lengths 1 2, profile Two", (1, 2), ("rule any 0",), "", 0),
     Setting("lengths 6 126", (6, 126), ("rule any 0",), "", None, 2, 3),
-    Setting("lengths 126 126, 512 parameters", (126, 126), ("rule any 512",), "5a" * 512),
+    Setting("lengths 126 126, 512 parameters", (126, 126), ("rule any 512",), "5a" * 512, None, 6, 4, 1000),
 )
 
 
@@ -165,13 +165,14 @@ def contents(course: Course) -> None:
 
 
 def watchdog(course: Course) -> None:
-    """Ticks up to the limit, around a frame that is dropped and one that is taken, and past the limit."""
+    """Ticks up to the limit, around frames that are dropped and one that is taken, and past the limit."""
     limit = max(course.setting.watchdog, course.setting.hand)
     for point in points(course):
         for ticks in (0, limit - 2, limit - 1, limit):
             course.begin()
             course.advance(point)
-            for event in ["t"] * ticks + [f"d {course.frame[2:]}", f"d {course.frame}"] + ["t"] * (2 * limit + 1):
+            once, late = [f"d {course.frame[2:]}", f"d {course.frame}"], [f"d {course.frame}"]
+            for event in ["t"] * ticks + once + ["t"] * (limit - 2) + late + ["t"] * (limit + 3):
                 course.do(event)
 
 
