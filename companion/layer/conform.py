@@ -94,9 +94,7 @@ def take(parser: argparse.ArgumentParser) -> None:
     parser.add_argument("--seeds", type=int, default=2, help="how many hostile channels are tried for each setting")
     parser.add_argument("--first", action="store_true", help="end at the first answer that differs")
     parser.add_argument("--long", action="store_true", help="let the sequence numbers pass 65,535, too")
-    parser.add_argument(
-        "--patience", type=float, default=120, metavar="SECONDS", help="how long a rule may take with one setting"
-    )
+    parser.add_argument("--patience", type=float, default=10, metavar="SECONDS", help="how long an answer may take")
     parser.add_argument("command", nargs="+", metavar="COMMAND", help="the program and its arguments, after --")
 
 

@@ -103,6 +103,8 @@ class Course:
         self.begin()
         states = []
         while states[-3:] != ["Data"] * 3:
+            if not self.frame:
+                raise Complaint(f"a session of {self.setting.name} doesn't come to Data")
             states.append(self.state)
             self.advance()
         return states

@@ -1,12 +1,11 @@
 """A node program that runs: it gets its events line by line, and answers each with a line."""
 from __future__ import annotations
 
+import select
 import subprocess
-import threading
+import time
 from dataclasses import dataclass
 from typing import Sequence
-
-STATES = ("Reset", "Session", "Connection", "Parameter", "Data")
 
 
 @dataclass(frozen=True)
@@ -32,34 +31,34 @@ class Answer:
 
 
 class Node:
-    """A node program of any maker. One that ends, or doesn't answer in time, gives empty answers."""
+    """A node program of any maker. One that has ended, or doesn't answer in time, gives empty answers."""
 
     def __init__(self, command: Sequence[str], header: Sequence[str], patience: float) -> None:
-        self.process = subprocess.Popen(
-            command, stdin=subprocess.PIPE, stdout=subprocess.PIPE, text=True, errors="replace"
-        )
-        self.guard = threading.Timer(patience, self.process.kill)
-        self.guard.start()
+        self.process = subprocess.Popen(command, stdin=subprocess.PIPE, stdout=subprocess.PIPE, bufsize=0)
+        self.patience, self.rest = patience, b""
         self.say(*header)
 
     def say(self, *lines: str) -> None:
         """Writes lines."""
         try:
-            self.process.stdin.write("".join(line + "\n" for line in lines))
-            self.process.stdin.flush()
+            self.process.stdin.write("".join(line + "\n" for line in lines).encode())
         except BrokenPipeError:
             pass
 
     def ask(self, event: str) -> Answer:
         """The answer to an event."""
         self.say(event)
-        return Answer(self.process.stdout.readline().removesuffix("\n"))
+        until = time.monotonic() + self.patience
+        while b"\n" not in self.rest:
+            wait = max(0, until - time.monotonic())
+            read = select.select([self.process.stdout], [], [], wait)[0] and self.process.stdout.read(1 << 16)
+            if not read:
+                return Answer("")
+            self.rest += read
+        line, _, self.rest = self.rest.partition(b"\n")
+        return Answer(line.decode(errors="replace"))
 
     def close(self) -> None:
         """Ends the program."""
-        self.guard.cancel()
         self.process.kill()
-        try:
-            self.process.communicate()
-        except BrokenPipeError:
-            pass
+        self.process.communicate()

@@ -137,8 +137,9 @@ def test_altered_examples_are_caught(tmp_path, old, new):
 
 
 def test_programs_that_end_or_say_nothing_differ():
-    for command in (["true"], ["cat"]):
-        status, said, _ = gatepast("conform", "--first", "--seeds", 0, "--", *command)
+    half = "import time; print('1 reset', end='', flush=True); time.sleep(99)"
+    for command in (["true"], ["cat"], ["sleep", "99"], ["yes"], [sys.executable, "-c", half]):
+        status, said, _ = gatepast("conform", "--first", "--seeds", 0, "--patience", 0.1, "--", *command)
         assert status == 1 and "came" in said
     status, said, why = gatepast("conform", "--", "no-such-program")
     assert (status, said) == (2, "") and "no-such-program" in why
