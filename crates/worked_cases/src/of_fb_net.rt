@@ -46,21 +46,35 @@ fn net_of(
     Ok(Net::new(blocks, drives.to_vec(alloc)?, &[2, 2], &[2, 2]))
 }
 
-/// Whether the net of an emergency stop of connection 1 that drives a bit of connection 2 guards these bits by these.
-fn stop_guards(alloc: Global) -> Result<Option<[bool; 3]>, AllocError> {
-    let Ok(net) = net_of(alloc, BlockKind::Estop, &[I0, I1], &[OUT])? else {
-        return Ok(None);
-    };
-    Ok(Some([
-        net.guards(bit(2, 0), bit(1, 0)),
-        net.guards(bit(2, 0), bit(1, 1)),
-        net.guards(bit(2, 1), bit(1, 1)),
-    ]))
-}
+/// The kind of a block, its inputs, and whether each of the two input bits guards its output.
+type Guards = (BlockKind, &'static [Wire], [bool; 2]);
 
+const GUARDS: [Guards; 11] = [
+    (BlockKind::Const0, &[], [true, true]),
+    (BlockKind::Const1, &[], [false, false]),
+    (BlockKind::And, &[I0, I1], [true, true]),
+    (BlockKind::Or, &[I0, I1], [false, false]),
+    (BlockKind::Or, &[I1, I1], [false, true]),
+    (BlockKind::Latch, &[I0, I1], [false, true]),
+    (BlockKind::Estop, &[I0, I1], [true, false]),
+    (BlockKind::TwoHand, &[I0, I1], [true, true]),
+    (BlockKind::OnDelay, &[I0], [true, false]),
+    (BlockKind::OffDelay, &[I0], [false, false]),
+    (BlockKind::Feedback, &[I0, I1], [true, false]),
+];
+
+/// The second output isn't driven, so each input bit guards it.
 #[test]
-fn an_emergency_stop_guards_its_output_by_its_input(rt: HostRuntime) -> Result<(), Fail> {
-    assert_eq!(rt; stop_guards(rt.alloc())?, Some([true, false, true]));
+fn each_kind_of_block_guards_its_output_by_its_inputs(rt: HostRuntime) -> Result<(), Fail> {
+    for (kind, wires, guards) in GUARDS {
+        let net = net_of(rt.alloc(), kind, wires, &[OUT])?
+            .ok()
+            .ok_or("refused")?;
+        for (input, guarded) in [bit(1, 0), bit(1, 1)].into_iter().zip(guards) {
+            assert_eq!(rt; net.guards(bit(2, 0), input), guarded, "{kind:?}");
+            assert!(rt; net.guards(bit(2, 1), input), "{kind:?}");
+        }
+    }
     Ok(())
 }
 
