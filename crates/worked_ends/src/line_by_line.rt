@@ -12,7 +12,7 @@ use std::cell::Cell;
 use std::test::Fail;
 use trace_diag::run_diagnose;
 
-/// A line of an input and what is written of it. An empty line is the end of the input.
+/// A line of an input, or a part of one, and what is written of it. An empty one is the end of the input.
 type Line<'a> = (&'a str, &'a str);
 
 /// Counts the bytes that it is handed, or fails at each write.
@@ -39,8 +39,8 @@ impl Sink for Counting<'_> {
     }
 }
 
-/// Gives a line in a call. It counts the calls at which not exactly what the lines before say was written, and those
-/// after the last line.
+/// Gives a line, or a part of one, in a call. It counts the calls at which not exactly what the lines before say was
+/// written, and those after the last line.
 #[derive(Drop)]
 struct Asked<'a> {
     lines: &'a [Line<'a>],
@@ -85,7 +85,11 @@ impl Source for Asked<'_> {
     }
 }
 
-const ROWS: [(&str, &[Line<'static>]); 8] = [
+/// 80 bytes inside a line.
+const PART: &str =
+    "00000000000000000000000000000000000000000000000000000000000000000000000000000000";
+
+const ROWS: [(&str, &[Line<'static>]); 11] = [
     (
         "node slave",
         &[
@@ -189,6 +193,37 @@ const ROWS: [(&str, &[Line<'static>]); 8] = [
             ("go\n", ""),
             ("m 2a0000c42d0000\n", ""),
             ("end\n", "frames 1\nread - - - -\nconforms\n"),
+        ],
+    ),
+    (
+        "replay",
+        &[("fsoe 1 pair", ""), ("", "refused 1 NoNewline\n")],
+    ),
+    (
+        "diagnose",
+        &[
+            ("fsoe 1 trace\n", ""),
+            ("lengths 2 2\n", ""),
+            ("go\n", ""),
+            ("end", ""),
+            ("", "refused 4 NoNewline\n"),
+        ],
+    ),
+    (
+        "diagnose",
+        &[
+            ("fsoe 1 trace\n", ""),
+            ("lengths 2 2\n", ""),
+            ("go\n", ""),
+            (PART, ""),
+            (PART, ""),
+            (PART, ""),
+            (PART, ""),
+            (PART, ""),
+            (PART, ""),
+            (PART, ""),
+            (PART, ""),
+            ("0", "refused 4 Long\n"),
         ],
     ),
 ];
