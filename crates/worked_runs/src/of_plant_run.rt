@@ -76,16 +76,24 @@ fn plants_report_worked_rows(rt: HostRuntime) -> Result<(), Fail> {
     Ok(())
 }
 
-/// How the worked plant ends over a script, where each write fails, and its journal.
-fn run_unwritten(alloc: Global, script: &str) -> Option<(Ended, Journal)> {
+/// How the worked plant ends over a script and a sink, and its journal.
+fn run_into(alloc: Global, script: &str, sink: &mut MemSink) -> Option<(Ended, Journal)> {
     let conf = worked_conf(alloc, "net", "perfect", 1)?;
     let (conf, setup, mut channels) = set_with(alloc, conf)?;
     let channel = channels.get_mut(setup.channel)?;
-    let mut sink = MemSink::new(alloc, 0, 1, Vec::new(alloc)).ok()?;
-    run_to(alloc, &conf, setup, channel, script, &mut sink)
+    run_to(alloc, &conf, setup, channel, script, sink)
 }
 
-/// The text of 78 ticks waits, and that of one more doesn't fit. The lines after it write nothing.
+/// The room of a sink that takes at most 900 bytes in a call, the calls that fail, and the bytes that it takes before.
+const SINKS: [(usize, &[u64], u64); 5] = [
+    (0, &[], 0),
+    (1, &[], 1),
+    (2_000, &[], 2_000),
+    (4_000, &[], 4_000),
+    (8_000, &[3], 1_800),
+];
+
+/// The text of 78 ticks waits, 4,047 bytes, and that of one more doesn't fit. The lines after it write nothing.
 #[test]
 fn no_event_is_done_after_a_failed_write(rt: HostRuntime) -> Result<(), Fail> {
     let mut script = "fsoe 1 plant\n".to_string(rt.alloc())?;
@@ -93,10 +101,17 @@ fn no_event_is_done_after_a_failed_write(rt: HostRuntime) -> Result<(), Fail> {
         script.push_str("t\n")?;
     }
     script.push_str("p 1 0300\nh 1 1\ncut 1 1\nend\n")?;
-    let (ended, journal) = run_unwritten(rt.alloc(), script.as_str()).ok_or("not run")?;
-    let (status, place) = (Status::Write, 0);
-    assert_eq!(rt; ended, Ended { status, place });
-    assert_eq!(rt; counts(journal.steps())[0], 79);
+    for (room, fails, place) in SINKS {
+        let fails = fails.to_vec(rt.alloc())?;
+        let mut sink = MemSink::new(rt.alloc(), room, 900, fails)
+            .ok()
+            .ok_or("no room")?;
+        let (ended, journal) = run_into(rt.alloc(), script.as_str(), &mut sink).ok_or("not run")?;
+        let status = Status::Write;
+        assert_eq!(rt; ended, Ended { status, place }, "{place}");
+        assert_eq!(rt; sink.bytes().len() as u64, place);
+        assert_eq!(rt; counts(journal.steps())[0], 79, "{place}");
+    }
     Ok(())
 }
 
