@@ -1,10 +1,13 @@
 -- Two lists side by side, at a place.
-use Rattle.std.proofs.Common.{◌≡◌, ℕ, zero, suc, ◌<◌, List, [], ◌∷◌, map, length, All, slice_get, slice_set, slice_index_or, Some, nat_eq, true, refl, sym, ap, subst, ◌∙◌, arith}
+use Rattle.std.proofs.Common.{◌≡◌, ℕ, zero, suc, ◌<◌, ◌-◌, List, [], ◌∷◌, map, length, All, slice_get, slice_set, slice_index_or, Some, nat_eq, true, refl, sym, ap, subst, ◌∙◌, arith}
 use Rattle.std.specs.Cmp.Lexicographic.{pointwise}
 use Rattle.std.specs.List.{AllZip}
 use Rattle.std.proofs.lemmas.Cmp.{nat_list_eq_equiv}
+use Rattle.std.proofs.lemmas.List.{length-map}
 use Rattle.std.proofs.lemmas.List.Elements.{All-get_or}
-use Rattle.std.proofs.lemmas.Option.{get_or_from_slice_get, slice_get_within}
+use Rattle.std.proofs.lemmas.Option.{get_or_from_slice_get, slice_get_read, slice_get_within}
+use Rattle.master_core.specs.MasterView.{MasterView}
+use Rattle.multi_master.specs.Standing.{IsNumber, settings_in}
 
 -- what is at a place of the first list goes with what is at that place of the second
 pub record At {A B : Type 0} (R : A → B → Type 0) (xs : List A) (k : ℕ) (y : B) : Type 0 where
@@ -18,6 +21,19 @@ at_place R [] (b ∷ ys) k y h e = absurd h
 at_place R (a ∷ xs) [] k y h e = absurd h
 at_place R (a ∷ xs) (b ∷ ys) zero y h e = let i : b ≡ y = cc in record { there = a; is = refl; holds = subst (λ z. R a z) i h.0 }
 at_place R (a ∷ xs) (b ∷ ys) (suc k) y h e = let p = at_place R xs ys k y h.1 e in record { there = p.there; is = p.is; holds = p.holds }
+
+-- what stands at the place of a number, where numbers begin with 1
+pub record Placed {X : Type 0} (xs : List X) (n place : ℕ) (x : X) : Type 0 where
+  pub number : n ≡ suc place
+  pub within : place < length xs
+  pub at : slice_get xs place ≡ Some x
+
+pub placed : {X : Type 0} (xs : List X) (count n from : ℕ) (x : X) → IsNumber count n → count ≡ length xs → from ≡ n → x ≡ slice_index_or xs (from - 1) x → Placed xs n (from - 1) x
+placed xs count n from x h e i read = record { number = omega arith; within = omega arith; at = slice_get_read xs count (from - 1) x e (omega arith) read }
+
+-- so the master of a connection stands at the place of its number
+pub master_placed : (masters : List MasterView) (link from : ℕ) (m : MasterView) → IsNumber (length (map settings_in masters)) link → from ≡ link → m ≡ slice_index_or masters (from - 1) m → Placed masters link (from - 1) m
+master_placed masters link from m h e read = placed masters _ link from m h (length-map masters settings_in) e read
 
 -- both lists with others at a place
 pub zip_set : {A B : Type 0} (R : A → B → Type 0) (xs : List A) (ys : List B) (k : ℕ) (x : A) (y : B) → AllZip R xs ys → R x y → AllZip R (slice_set xs k x) (slice_set ys k y)

@@ -12,15 +12,15 @@ use Rattle.master_core.specs.Standing as core
 use Rattle.multi_master.specs.Connection.{Connection, setup, with_event, outputs_at}
 use Rattle.multi_master.specs.Calls.{AppView, Call, Nonce, Meant, IsSound, event_on, event_at, cycle_in, after, meant, changed_by}
 use Rattle.multi_master.specs.Standing.{MultiView, IsWhere, StandsFor, Follows, ShowsAt, numbers_of}
-use Rattle.multi_master.proofs.Places.{at_place, zip_set, map_set}
+use Rattle.multi_master.proofs.Places.{Placed, at_place, zip_set, map_set}
 
 -- a word of the master at a place is that word of its connection
-pub shown_at : {X : Type 0} (v : MultiView) (link place : ℕ) (m : MasterView) (shown : X) (word : Setup → List Deed → X) → link ≡ suc place → slice_get v.masters place ≡ Some m
-    → core.Shows m shown word → ShowsAt v link shown (λ c. word (setup c) c.deeds)
-shown_at v link place m shown word n at s = record {
+pub shown_at : {X : Type 0} (v : MultiView) (link place : ℕ) (m : MasterView) (shown : X) (word : Setup → List Deed → X) → Placed v.masters link place m → core.Shows m shown word
+    → ShowsAt v link shown (λ c. word (setup c) c.deeds)
+shown_at v link place m shown word is s = record {
   shows = λ settings app calls h.
-      let p = at_place IsWhere (meant settings app calls).connections v.masters place m h.masters at in
-      rw (n, p.is) (ap (λ x. Some x) (sym (s.shows p.there.settings p.there.deeds p.holds)));
+      let p = at_place IsWhere (meant settings app calls).connections v.masters place m h.masters is.at in
+      rw (is.number, p.is) (ap (λ x. Some x) (sym (s.shows p.there.settings p.there.deeds p.holds)));
 }
 
 -- an event at a connection that exists
@@ -69,12 +69,12 @@ quiet_stands settings app old new calls call place what c last h none a q w nm n
     })
 
 -- a session id is set at one connection
-pub nonce_follows : (old new : MultiView) (link place id : ℕ) (m last : MasterView) → link ≡ suc place → slice_get old.masters place ≡ Some m → core.Follows m (move.Nonce id) last
+pub nonce_follows : (old new : MultiView) (link place id : ℕ) (m last : MasterView) → Placed old.masters link place m → core.Follows m (move.Nonce id) last
     → new.masters ≡ slice_set old.masters place last → new.app ≡ old.app → new.inputs ≡ old.inputs → new.changed ≡ [] → Follows old (Nonce link id) new
-nonce_follows old new link place id m last n at f nm na ni nc = record {
+nonce_follows old new link place id m last at f nm na ni nc = record {
   stands = λ settings app calls h.
-      let p = at_place IsWhere (meant settings app calls).connections old.masters place m h.masters at in
+      let p = at_place IsWhere (meant settings app calls).connections old.masters place m h.masters at.at in
       let c : Connection = p.there in
-      quiet_stands settings app old new calls (Nonce link id) place (move.Nonce id) c last h refl (ap (λ k. event_at k (move.Nonce id) (meant settings app calls)) n)
+      quiet_stands settings app old new calls (Nonce link id) place (move.Nonce id) c last h refl (ap (λ k. event_at k (move.Nonce id) (meant settings app calls)) at.number)
       (record { is = p.is; outputs = refl }) (f.is_after c.settings c.deeds p.holds) nm na ni nc;
 }

@@ -37,10 +37,6 @@ app_view rule holds guards a = record { rule = rule a; holds = holds a; guards =
 abbrev pub seen : {A : Type 0} → (A → Rule) → (A → List ℕ) → (A → Bit → Bit → Bool) → MultiValue A → MultiView
 seen rule holds guards v = record { masters = v.masters; app = app_view rule holds guards v.app; inputs = v.inputs; changed = v.changed }
 
--- the number of connections
-abbrev pub links : {A : Type 0} → MultiValue A → ℕ
-links v = length v.masters
-
 -- the settings of a master
 abbrev pub settings_in : MasterView → MasterSettings
 settings_in m = m.kit.settings
@@ -49,15 +45,18 @@ settings_in m = m.kit.settings
 abbrev pub settings_of : {A : Type 0} → MultiValue A → List MasterSettings
 settings_of v = map settings_in v.masters
 
--- there is a connection with this number
-pub record HasLink {A : Type 0} (v : MultiValue A) (link : ℕ) : Type 0 where
-  pub first : 1 ≤ link
-  pub last : link ≤ links v
+-- the number of connections
+abbrev pub links : {A : Type 0} → MultiValue A → ℕ
+links v = length (settings_of v)
 
 -- this is a number of so many connections
 pub record IsNumber (count link : ℕ) : Type 0 where
   pub first : 1 ≤ link
   pub last : link ≤ count
+
+-- there is a connection with this number
+abbrev pub HasLink : {A : Type 0} → MultiValue A → ℕ → Type 0
+HasLink v link = IsNumber (links v) link
 
 -- these are numbers of so many connections, and no more than there are
 pub record AreNumbers (count : ℕ) (listed : List ℕ) : Type 0 where

@@ -1,6 +1,6 @@
 //! The FSoE masters of up to 64 connections, with one application. It computes the data that all masters send from the
-//! data that all received (SafeInputs in ETG.5100). The application runs once per tick, and once when it is changed. It
-//! also runs for each frame that is taken or ends a session, before the reply is built. Nothing else passes from one
+//! data that all received (SafeInputs in ETG.5100). It runs once per tick, once when it replaces another application,
+//! and once for each frame that is taken or ends a session, before the reply is built. Nothing else passes from one
 //! connection to another. The program passes in frames and ticks, and sends what is written:
 //!
 //! ```text

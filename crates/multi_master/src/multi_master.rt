@@ -1,5 +1,5 @@
 //! A master of many connections.
-ghost use Rattle.std.specs.Prelude.{◌≡◌, ◌≤◌, [], length, vec_len, option_copied, IfOk, IfErr, IfSome, IsErrAnd, None, OnErr, OnOk, Some};
+ghost use Rattle.std.specs.Prelude.{◌≡◌, ◌≤◌, [], length, option_copied, IfOk, IfErr, IfSome, IsErrAnd, None, OnErr, OnOk, Some};
 ghost use Rattle.std.specs.Result.{result_err};
 ghost use Rattle.end_model.specs.Readiness as model;
 ghost use Rattle.multi_master.specs.declared.fault.NewFault.TheVariants as fault;
@@ -59,7 +59,6 @@ impl<A: Application> MultiMaster<A> {
         ensures memory_alone { IfErr result (λ found. first_fault settings.items ≡ None → found ≡ fault.Memory) }
         ensures stands { IfOk result (λ m. StandsFor settings.items (app_view A.rule A.holds A.guards app) (seen A.rule A.holds A.guards m) []) }
         ensures settings { IfOk result (λ m. settings_of m ≡ settings.items) }
-        ensures links { IfOk result (λ m. links m ≡ vec_len settings) }
     {
         let mut multi = MultiMaster::unconnected(*settings.allocator(), app);
         multi.connect(settings)?;
@@ -87,7 +86,6 @@ impl<A: Application> MultiMaster<A> {
         ensures stands { let seen = seen A.rule A.holds A.guards in OnOk result (StandsFor settings.items (seen self.old).app (seen self.new) []) }
         ensures app { self.new.app ≡ self.old.app }
         ensures settings { OnOk result (settings_of self.new ≡ settings.items) }
-        ensures links { OnOk result (links self.new ≡ vec_len settings) }
         ensures kept { OnErr result (self.new ≡ self.old) }
     {
         if let Some(found) = first_fault(settings.as_slice()) {
@@ -107,13 +105,12 @@ impl<A: Application> MultiMaster<A> {
     /// Processes a frame, of any number of bytes, of the slave of this connection. If the frame is taken or ends the
     /// session, the application runs one unticked cycle over all outputs, with those of this frame. Its results become
     /// the offers of all connections, and then the due frame is written to `out`. If it carries process data, it
-    /// carries the new offer. If the frame is dropped, nothing changes and `out` is empty.
+    /// carries the new offer. If the frame is dropped, no cycle runs and `out` is empty.
     pub fn deliver(&mut self, link: u16, frame: &[u8], out: &mut FrameBuf) -> Did
         requires { HasLink self.old link }
         ensures follows { let seen = seen A.rule A.holds A.guards in Follows (seen self.old) (Deliver link frame.now) (seen self.new) }
         ensures answers { AnswersFrame (seen A.rule A.holds A.guards self.old) link frame.now result out.new }
         ensures settings { settings_of self.new ≡ settings_of self.old }
-        ensures links { links self.new ≡ links self.old }
     {
         let mut did = Did::nothing();
         self.deliver_into(link, frame, &mut did, out);
@@ -126,7 +123,6 @@ impl<A: Application> MultiMaster<A> {
         ensures follows { let seen = seen A.rule A.holds A.guards in Follows (seen self.old) (Deliver link frame.now) (seen self.new) }
         ensures answers { AnswersFrame (seen A.rule A.holds A.guards self.old) link frame.now did.new out.new }
         ensures settings { settings_of self.new ≡ settings_of self.old }
-        ensures links { links self.new ≡ links self.old }
     {
         let place = usize::from(link) - 1;
         self.masters[place].accept_into(frame, did);
@@ -157,7 +153,6 @@ impl<A: Application> MultiMaster<A> {
         ensures follows { let seen = seen A.rule A.holds A.guards in Follows (seen self.old) Tick (seen self.new) }
         ensures answers { AnswersTick (seen A.rule A.holds A.guards self.old) dids.new outs.new }
         ensures settings { settings_of self.new ≡ settings_of self.old }
-        ensures links { links self.new ≡ links self.old }
     {
         tick_all(
             self.masters.as_mut_slice(),
@@ -180,7 +175,6 @@ impl<A: Application> MultiMaster<A> {
     pub fn first_cycle(&mut self)
         ensures follows { let seen = seen A.rule A.holds A.guards in (other : AppView) → Follows (record (seen self.old) { app = other }) (ChangeApp (seen self.old).app) (seen self.new) }
         ensures settings { settings_of self.new ≡ settings_of self.old }
-        ensures links { links self.new ≡ links self.old }
     {
         run_cycle(
             &mut self.app,
@@ -196,19 +190,17 @@ impl<A: Application> MultiMaster<A> {
     pub fn change_app(&mut self, app: A)
         ensures follows { let seen = seen A.rule A.holds A.guards in Follows (seen self.old) (ChangeApp (app_view A.rule A.holds A.guards app)) (seen self.new) }
         ensures settings { settings_of self.new ≡ settings_of self.old }
-        ensures links { links self.new ≡ links self.old }
     {
         self.app = app;
         self.first_cycle();
     }
 
-    /// Sets the session id of all sessions of this connection that begin after this call. A 16-bit id is allowed in
-    /// both profiles. Give a fresh one before each session.
+    /// Sets the id of all sessions of this connection whose first Session frame is sent after this call. A 16-bit id is
+    /// allowed in both profiles. Give a fresh one before each session.
     pub fn nonce(&mut self, link: u16, id: u16)
         requires { HasLink self.old link }
         ensures follows { let seen = seen A.rule A.holds A.guards in Follows (seen self.old) (Nonce link id) (seen self.new) }
         ensures settings { settings_of self.new ≡ settings_of self.old }
-        ensures links { links self.new ≡ links self.old }
     {
         self.changed.clear();
         self.masters[usize::from(link) - 1].nonce(u32::from(id));

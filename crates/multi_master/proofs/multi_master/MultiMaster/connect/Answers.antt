@@ -1,8 +1,8 @@
-use Rattle.std.proofs.Common.{◌≡◌, List, map, length, None, refl, sym, ap, ◌∙◌}
+use Rattle.std.proofs.Common.{◌≡◌, List, map, None, refl, sym, ap, ◌∙◌}
 use Rattle.master_core.specs.MasterView.{MasterView}
 use Rattle.multi_master.specs.New.{first_fault}
 use Rattle.multi_master.specs.Puts.{own_len, first_input}
-use Rattle.multi_master.proofs.Beginning.{new_settings, new_links, new_multi, new_stands}
+use Rattle.multi_master.proofs.Beginning.{new_settings, new_multi, new_stands}
 use Rattle.multi_master.proofs.multi_master.MultiMaster.connect.Goals as goal
 
 pub invariant_of-self : goal.invariant_of-self
@@ -19,7 +19,3 @@ returns-clause-stands g c =
 
 pub returns-clause-settings : goal.returns-clause-settings
 returns-clause-settings g c = new_settings c.args.settings.items c.in_ok-masters.masters.items c.in_ok-masters.ensures.made
-
-pub returns-clause-links : goal.returns-clause-links
-returns-clause-links g c =
-    new_links c.args.settings.items c.in_ok-masters.masters.items c.in_ok-masters.ensures.made ∙ ap length (sym c.as_slice.ensures.value) ∙ c.as_slice.ensures.len

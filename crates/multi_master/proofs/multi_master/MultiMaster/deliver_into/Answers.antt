@@ -10,7 +10,7 @@ use Rattle.multi_master.specs.Standing.{MultiView, seen, settings_in}
 use Rattle.multi_master.proofs.Delivering.{Drops, Hears, drop_follows, drop_answers, hear_follows, hear_answers}
 use Rattle.multi_master.proofs.Following.{runs_alike}
 use Rattle.multi_master.proofs.Keeping.{multi_set, one_rest, written_back}
-use Rattle.multi_master.proofs.Places.{all_at, map_set, read_back, same_at, same_length, set_there}
+use Rattle.multi_master.proofs.Places.{Placed, all_at, map_set, master_placed, read_back, same_at, same_length, set_there}
 use Rattle.multi_master.proofs.multi_master.MultiMaster.deliver_into.Goals.{After-index, After-reply-arg-1}
 use Rattle.multi_master.proofs.multi_master.MultiMaster.deliver_into.Goals as goal
 
@@ -21,22 +21,16 @@ place-of g c = c.from-place.result - 1
 abbrev masters-of : (g : _) → After-index g → List MasterView
 masters-of g c = c.self.inside.masters.items
 
--- the master that the frame comes to stands there, and what it is then is read there
+-- the master that the frame comes to, and what it is then is read at its place
 record Heard (masters : List MasterView) (link place : ℕ) (before accepted read : MasterView) : Type 0 where
-  number : link ≡ suc place
-  within : place < length masters
-  at : slice_get masters place ≡ Some before
+  placed : Placed masters link place before
   same : read ≡ accepted
 
 heard : (g : _) (c : After-index g) → Heard (masters-of g c) c.args.link (place-of g c) c.index_mut.result.now c.accept_into.new.self c.index.result.now
 heard g c =
-    let fits : c.args.link ≤ length (masters-of g c) = subst (λ v. c.args.link ≤ length v.masters) (sym c.self.view_is) c.requires.last in
-    record {
-      number = omega arith;
-      within = omega arith;
-      at = slice_get_read (masters-of g c) _ (place-of g c) _ refl (omega arith) c.index_mut.ensures.value;
-      same = read_back (masters-of g c) (place-of g c) c.accept_into.new.self _ (omega arith) c.index.ensures;
-    }
+    let has = rw (← c.self.view_is) at c.requires in
+    let p = master_placed (masters-of g c) _ _ _ has c.from-place.ensures c.index_mut.ensures.value in
+    record { placed = p; same = read_back (masters-of g c) (place-of g c) c.accept_into.new.self _ p.within c.index.ensures }
 
 abbrev old-view : (g : _) → After-index g → MultiView
 old-view g c = seen g.A.Application.rule g.A.Application.holds g.A.Application.guards (record { masters = masters-of g c; app = c.self.inside.app; inputs = c.self.inside.inputs.items; changed = c.self.inside.changed.items })
@@ -54,7 +48,7 @@ drops g c =
     record {
       before = c.index_mut.result.now;
       last = c.accept_into.new.self;
-      at = (heard g (goal.at.returns-then-not-due-clause-follows g c).After-index).at;
+      at = (heard g (goal.at.returns-then-not-due-clause-follows g c).After-index).placed.at;
       accepts = c.accept_into.ensures.accepts;
       rest = rests g c;
       none = sym c.accept_into.ensures.due ∙ rests g c;
@@ -69,25 +63,25 @@ pub invariant_of-self : goal.invariant_of-self
 invariant_of-self g c =
     let masters : List MasterView = c.self.inside.masters.items in
     let h = heard g (goal.at.invariant_of-self g c).After-index in
-    multi_set masters c.self.inside.inputs.items c.self.inside.answers.items _ _ (c.from-place.result - 1) c.index_mut.result.now c.accept_into.new.self c.self.invariant h.at (ap (λ k. k.settings) c.accept_into.ensures.kit)
-    (rests g c ∙ sym (all_at (λ m. due_in m ≡ false) masters (c.from-place.result - 1) c.index_mut.result.now c.self.invariant.rest h.at)) c.clear.ensures
+    multi_set masters c.self.inside.inputs.items c.self.inside.answers.items _ _ (c.from-place.result - 1) c.index_mut.result.now c.accept_into.new.self c.self.invariant h.placed.at (ap (λ k. k.settings) c.accept_into.ensures.kit)
+    (rests g c ∙ sym (all_at (λ m. due_in m ≡ false) masters (c.from-place.result - 1) c.index_mut.result.now c.self.invariant.rest h.placed.at)) c.clear.ensures
 
 pub returns-then-not-due-clause-follows : goal.returns-then-not-due-clause-follows
 returns-then-not-due-clause-follows g c =
-    rw (← c.self.view_is) (drop_follows _ _ _ _ _ _ (heard g (goal.at.returns-then-not-due-clause-follows g c).After-index).number (drops g c))
+    rw (← c.self.view_is) (drop_follows _ _ _ _ _ _ (heard g (goal.at.returns-then-not-due-clause-follows g c).After-index).placed.number (drops g c))
 
 pub returns-then-not-due-clause-answers : goal.returns-then-not-due-clause-answers
 returns-then-not-due-clause-answers g c =
-    rw (← c.self.view_is) (drop_answers _ _ _ _ _ _ _ (heard g (goal.at.returns-then-not-due-clause-answers g c).After-index).number c.clear-then-not-due.ensures (drops g c))
+    rw (← c.self.view_is) (drop_answers _ _ _ _ _ _ _ (heard g (goal.at.returns-then-not-due-clause-answers g c).After-index).placed.number c.clear-then-not-due.ensures (drops g c))
 
 pub returns-then-not-due-clause-settings : goal.returns-then-not-due-clause-settings
 returns-then-not-due-clause-settings g c =
-    rw (← c.self.view_is) (map_set settings_in c.self.inside.masters.items (c.from-place.result - 1) c.index_mut.result.now c.accept_into.new.self (heard g (goal.at.returns-then-not-due-clause-settings g c).After-index).at (ap (λ k. k.settings) c.accept_into.ensures.kit))
+    rw (← c.self.view_is) (map_set settings_in c.self.inside.masters.items (c.from-place.result - 1) c.index_mut.result.now c.accept_into.new.self (heard g (goal.at.returns-then-not-due-clause-settings g c).After-index).placed.at (ap (λ k. k.settings) c.accept_into.ensures.kit))
 
 pub run_cycle-requires-clause-fits : goal.run_cycle-requires-clause-fits
 run_cycle-requires-clause-fits g c =
     ap (map length) c.as_mut_slice.ensures.value ∙ c.self.invariant.answers_fit
-    ∙ sym (map_set own_len c.self.inside.masters.items (c.from-place.result - 1) c.index_mut.result.now c.accept_into.new.self (heard g (goal.at.run_cycle-requires-clause-fits g c).After-index).at (ap (λ k. k.settings.lengths.master) c.accept_into.ensures.kit))
+    ∙ sym (map_set own_len c.self.inside.masters.items (c.from-place.result - 1) c.index_mut.result.now c.accept_into.new.self (heard g (goal.at.run_cycle-requires-clause-fits g c).After-index).placed.at (ap (λ k. k.settings.lengths.master) c.accept_into.ensures.kit))
     ∙ ap (map own_len) (sym c.as_mut_slice-2.ensures.value)
 
 -- after the cycle: all masters with what was put, and the one whose frame is due among them
@@ -112,7 +106,7 @@ readied g c =
     let kept : length (slice_set masters place accepted) ≡ length masters = length-set masters place accepted in
     let as_long : length put ≡ length (slice_set masters place accepted) = same_length due_in due_in _ _ dues in
     let back = written_back put (slice_set masters place accepted) c.self.inside.masters.len (cc) as_long in
-    let within : place < length put = subst (λ n. place < n) (sym (as_long ∙ kept)) h.within in
+    let within : place < length put = subst (λ n. place < n) (sym (as_long ∙ kept)) h.placed.within in
     let at : slice_get put place ≡ Some c.index_mut-3.result.now = slice_get_read put _ place _ refl within (rw back at c.index_mut-3.ensures.value) in
     record {
       is_back = back;
@@ -120,7 +114,7 @@ readied g c =
       dues = dues;
       at = at;
       some = some;
-      due = same_at due_in due_in put (slice_set masters place accepted) place c.index_mut-3.result.now accepted dues at (set_there masters place _ accepted h.at) ∙ some;
+      due = same_at due_in due_in put (slice_set masters place accepted) place c.index_mut-3.result.now accepted dues at (set_there masters place _ accepted h.placed.at) ∙ some;
     }
 
 pub reply-requires : goal.reply-requires
@@ -135,7 +129,7 @@ invariant_of-self-2 g c =
     let r = readied g (goal.at.invariant_of-self-2 g c).After-reply-arg-1 in
     let as_put : length (slice_set put place c.reply.new.self) ≡ length put = length-set put place c.reply.new.self in
     rw (r.is_back, written_back c.run_cycle.new.answers c.self.inside.answers.items c.self.inside.answers.len (cc) (cc)) (record {
-      rest = one_rest masters put place c.index_mut.result.now c.accept_into.new.self c.reply.new.self r.dues h.at (all_at (λ m. due_in m ≡ false) masters place c.index_mut.result.now c.self.invariant.rest h.at) c.reply.ensures.done c.self.invariant.rest;
+      rest = one_rest masters put place c.index_mut.result.now c.accept_into.new.self c.reply.new.self r.dues h.placed.at (all_at (λ m. due_in m ≡ false) masters place c.index_mut.result.now c.self.invariant.rest h.placed.at) c.reply.ensures.done c.self.invariant.rest;
       inputs_fit = length-set c.self.inside.inputs.items place c.set.new.self ∙ c.self.invariant.inputs_fit ∙ sym (as_put ∙ r.long);
       answers_fit = c.run_cycle.ensures.fit ∙ sym (map_set own_len put place c.index_mut-3.result.now c.reply.new.self r.at (ap (λ k. k.settings.lengths.master) c.reply.ensures.kit));
       most = rw (as_put, r.long) c.self.invariant.most;
@@ -156,7 +150,7 @@ hears g c =
     let accepted : MasterView = c.accept_into.new.self in
     let h = heard g (goal.at.returns-clause-follows g c).After-index in
     let r = readied g (goal.at.returns-clause-follows g c).After-reply-arg-1 in
-    let again : c.index-2.result.now ≡ accepted = read_back masters (c.from-place.result - 1) accepted _ h.within c.index-2.ensures in
+    let again : c.index-2.result.now ≡ accepted = read_back masters (c.from-place.result - 1) accepted _ h.placed.within c.index-2.ensures in
     record {
       before = c.index_mut.result.now;
       accepted = accepted;
@@ -164,7 +158,7 @@ hears g c =
       put = c.run_cycle.new.masters;
       ready = c.index_mut-3.result.now;
       last = c.reply.new.self;
-      at = h.at;
+      at = h.placed.at;
       accepts = c.accept_into.ensures.accepts;
       settings = ap (λ k. k.settings) c.accept_into.ensures.kit;
       some = sym c.accept_into.ensures.due ∙ r.some;
@@ -179,11 +173,11 @@ hears g c =
 
 pub returns-clause-follows : goal.returns-clause-follows
 returns-clause-follows g c =
-    rw (← c.self.view_is, (readied g (goal.at.returns-clause-follows g c).After-reply-arg-1).is_back) (hear_follows _ _ _ _ _ _ _ (heard g (goal.at.returns-clause-follows g c).After-index).number (hears g c))
+    rw (← c.self.view_is, (readied g (goal.at.returns-clause-follows g c).After-reply-arg-1).is_back) (hear_follows _ _ _ _ _ _ _ (heard g (goal.at.returns-clause-follows g c).After-index).placed.number (hears g c))
 
 pub returns-clause-answers : goal.returns-clause-answers
 returns-clause-answers g c =
-    rw (← c.self.view_is) (hear_answers _ _ _ _ _ _ _ (heard g (goal.at.returns-clause-answers g c).After-index).number (hears g c))
+    rw (← c.self.view_is) (hear_answers _ _ _ _ _ _ _ (heard g (goal.at.returns-clause-answers g c).After-index).placed.number (hears g c))
 
 pub returns-clause-settings : goal.returns-clause-settings
 returns-clause-settings g c =
@@ -195,10 +189,4 @@ returns-clause-settings g c =
     rw (← c.self.view_is, r.is_back)
     (map_set settings_in put place c.index_mut-3.result.now c.reply.new.self r.at (ap (λ k. k.settings) c.reply.ensures.kit)
     ∙ c.run_cycle.ensures.settings ∙ ap (map settings_in) c.as_mut_slice-2.ensures.value
-    ∙ map_set settings_in masters place c.index_mut.result.now c.accept_into.new.self h.at (ap (λ k. k.settings) c.accept_into.ensures.kit))
-
-pub returns-then-not-due-clause-links : goal.returns-then-not-due-clause-links
-returns-then-not-due-clause-links g c = same_length settings_in settings_in _ _ (returns-then-not-due-clause-settings g c)
-
-pub returns-clause-links : goal.returns-clause-links
-returns-clause-links g c = same_length settings_in settings_in _ _ (returns-clause-settings g c)
+    ∙ map_set settings_in masters place c.index_mut.result.now c.accept_into.new.self h.placed.at (ap (λ k. k.settings) c.accept_into.ensures.kit))

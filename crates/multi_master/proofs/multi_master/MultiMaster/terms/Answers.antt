@@ -1,12 +1,9 @@
-use Rattle.std.proofs.Common.{◌≡◌, ◌≤◌, ◌-◌, ℕ, Some, option_copied, length, slice_get, refl, sym, subst, arith}
-use Rattle.std.proofs.lemmas.Option.{slice_get_read}
 use Rattle.end_model.specs.Readiness.{told_terms}
+use Rattle.multi_master.proofs.Places.{master_placed}
 use Rattle.multi_master.proofs.Reading.{shown_at}
 use Rattle.multi_master.proofs.multi_master.MultiMaster.terms.Goals as goal
 
 pub returns : goal.returns
 returns g c =
-    let place : ℕ = c.from.result - 1 in
-    let fits : c.args.link ≤ length c.self.inside.masters.items = subst (λ v. c.args.link ≤ length v.masters) (sym c.self.view_is) c.requires.last in
-    let at : slice_get c.self.inside.masters.items place ≡ Some c.index.result.now = slice_get_read c.self.inside.masters.items _ place _ refl (omega arith) c.index.ensures in
-    rw (← c.self.view_is) (shown_at _ c.args.link place c.index.result.now (option_copied c.terms.result) told_terms (omega arith) at c.terms.ensures.shown)
+    let has = rw (← c.self.view_is) at c.requires in
+    rw (← c.self.view_is) (shown_at _ _ _ _ _ told_terms (master_placed _ _ _ _ has c.from.ensures c.index.ensures) c.terms.ensures.shown)

@@ -3,7 +3,6 @@ use Rattle.multi_master.specs.Puts.{own_len, due_in}
 use Rattle.multi_master.specs.Standing.{settings_in}
 use Rattle.multi_master.proofs.Following.{runs_alike, ticks_alike, tick_follows, tick_answers}
 use Rattle.multi_master.proofs.Keeping.{written_back, all_rest, same_lens, ticks_settings, ticks_rest}
-use Rattle.multi_master.proofs.Places.{same_length}
 use Rattle.multi_master.proofs.multi_master.MultiMaster.tick.Goals as goal
 
 pub run_cycle-requires-clause-fits : goal.run_cycle-requires-clause-fits
@@ -60,6 +59,3 @@ returns-clause-settings g c =
     let back = written_back c.run_cycle.new.masters c.tick_all.new.masters c.self.inside.masters.len (cc) (cc) in
     rw (← c.self.view_is, first, back)
     (c.run_cycle.ensures.settings ∙ ap (map settings_in) ticked ∙ ticks_settings _ _ _ _ _ _ c.tick_all.ensures ∙ ap (map settings_in) c.as_mut_slice.ensures.value)
-
-pub returns-clause-links : goal.returns-clause-links
-returns-clause-links g c = same_length settings_in settings_in _ _ (returns-clause-settings g c)
