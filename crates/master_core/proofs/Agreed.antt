@@ -25,9 +25,7 @@ use Rattle.master_core.proofs.SameVerdict.{came, Came, Same, Drops, Refuses, ByR
 use Rattle.master_core.proofs.Agrees.{Agrees, drop-agrees, refuse-agrees, falls-agree, put-agrees, hold-agrees, nonce-agrees, tick-agrees}
 use Rattle.master_core.proofs.Arrived.{Arrived, arrived}
 use Rattle.master_core.proofs.Began.{reset_frame-agrees}
-use Rattle.master_core.proofs.TakenSession.{session-passed}
-use Rattle.master_core.proofs.TakenConnection.{connection-passed}
-use Rattle.master_core.proofs.TakenParameter.{parameter-passed}
+use Rattle.master_core.proofs.TakenAnswers.{session-passed, connection-passed, parameter-passed}
 use Rattle.master_core.proofs.TakenData.{process-passed, failsafe-passed}
 
 -- a frame that passed its tests

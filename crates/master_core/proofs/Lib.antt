@@ -10,9 +10,7 @@ pub mod SameVerdict
 pub mod ShownDue
 pub mod Sound
 pub mod Taken
-pub mod TakenConnection
+pub mod TakenAnswers
 pub mod TakenData
-pub mod TakenParameter
-pub mod TakenSession
 pub mod Taking
 pub mod Waiting

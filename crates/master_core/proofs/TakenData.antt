@@ -1,5 +1,5 @@
 -- A data frame that passed the tests of a master: what the machine does is what looking back gives.
-use Rattle.std.proofs.Common.{◌≡◌, ℕ, Bool, true, false, List, ◌∷◌, length, replicate, Ok, Err, if◌then◌else◌, refl, sym, ap, subst}
+use Rattle.std.proofs.Common.{◌≡◌, ℕ, Bool, true, false, List, ◌∷◌, length, replicate, Ok, Err, if◌then◌else◌, refl, sym, ap, ◌∙◌}
 use Rattle.fsoe_base.specs.declared.command.Command.{Command}
 use Rattle.fsoe_base.specs.declared.command.Command.TheVariants as command
 use Rattle.fsoe_base.specs.declared.command.State.TheVariants as state
@@ -19,7 +19,6 @@ use Rattle.end_model.specs.Step.{takes_frame, on_verdict, begun, with_data}
 use Rattle.end_model.specs.Verdict.{judged_contents, unless}
 use Rattle.master_core.specs.declared.phase.Phase.TheVariants as phase
 use Rattle.master_core.specs.Master.{Outcome, settles, answered_by}
-use Rattle.master_core.specs.MasterView.{MasterView}
 use Rattle.master_core.specs.States.{data_answered}
 use Rattle.master_core.specs.declared.states.InData.{InData}
 use Rattle.master_core.specs.ViewOf.{session_of, notes_of, kit_of, view_in}
@@ -30,9 +29,9 @@ use Rattle.master_core.proofs.Arrived.{Arrived, next_frame, next_chain, chain_af
 use Rattle.master_core.proofs.Taking.{After, takes-agree}
 use Rattle.std.proofs.lemmas.List.{length-replicate}
 use Rattle.failsafe_io.specs.Offer.{data_command, data_load}
-use Rattle.failsafe_io.specs.Outputs.{outputs_of}
 use Rattle.param_load.specs.declared.terms.Terms.{Terms}
 use Rattle.end_model.specs.Phases.{is_reset}
+use Rattle.end_model.specs.Outputs.{is_process}
 use Rattle.param_load.specs.Download.{terms_of}
 
 -- state Data by its parts
@@ -49,45 +48,34 @@ by-held ms e bytes false n load i = refl
 
 pub data_sent : (ms : MasterSettings) (e : List Deed) (bytes : List ℕ) (c : Command) → is_reset c ≡ false → Sound ms e
     → with_data (OfMaster ms) (begun (move.Deliver bytes) (takes_frame c (came ms bytes).load) ∷ e) ≡ next_frame ms e bytes ms.conn (data_command (kit_of ms e).offer) (data_load (kit_of ms e).offer)
-data_sent ms e bytes command.Reset r s = absurd (cc r)
-data_sent ms e bytes command.Session r s = by-held ms e bytes (held e) (length (offer (OfMaster ms) e)) (offer (OfMaster ms) e) s.offer_len
-data_sent ms e bytes command.Connection r s = by-held ms e bytes (held e) (length (offer (OfMaster ms) e)) (offer (OfMaster ms) e) s.offer_len
-data_sent ms e bytes command.Parameter r s = by-held ms e bytes (held e) (length (offer (OfMaster ms) e)) (offer (OfMaster ms) e) s.offer_len
-data_sent ms e bytes command.FailSafeData r s = by-held ms e bytes (held e) (length (offer (OfMaster ms) e)) (offer (OfMaster ms) e) s.offer_len
-data_sent ms e bytes command.ProcessData r s = by-held ms e bytes (held e) (length (offer (OfMaster ms) e)) (offer (OfMaster ms) e) s.offer_len
+data_sent ms e bytes c r s = rw r (by-held ms e bytes (held e) (length (offer (OfMaster ms) e)) (offer (OfMaster ms) e) s.offer_len)
 
--- the master after a data frame and the next one
-abbrev gone_on : MasterSettings → List Deed → List ℕ → Command → Command → List ℕ → MasterView
-gone_on ms e bytes c c2 load =
-    master_at (kit_of ms e)
-    (phase.Data (record { session = record { chain = next_chain ms e bytes ms.conn c2 load; last = bytes_of (came ms bytes) }; terms = terms_of ms; outputs = outputs_of c (came ms bytes).load }))
-    ms.watchdog 0
+-- what holds once a frame was taken and followed by a data frame with this command and load
+abbrev IsNext : MasterSettings → List Deed → List ℕ → Command → List ℕ → Command → List ℕ → Type 0
+IsNext ms e bytes c outputs c2 load = After ms e bytes c (next_frame ms e bytes ms.conn c2 load)
+    (master_at (kit_of ms e)
+    (phase.Data (record { session = record { chain = next_chain ms e bytes ms.conn c2 load; last = bytes_of (came ms bytes) }; terms = terms_of ms; outputs = outputs }))
+    ms.watchdog 0)
 
--- what holds after a data frame that is answered by one with this command and load
-abbrev IsNext : MasterSettings → List Deed → List ℕ → Command → Command → List ℕ → Type 0
-IsNext ms e bytes c c2 load = After ms e bytes c (next_frame ms e bytes ms.conn c2 load) (gone_on ms e bytes c c2 load)
+-- the outputs are then those that the frame brings
+abbrev Brings : MasterSettings → List ℕ → Command → List ℕ → Type 0
+Brings ms bytes c outputs = (if is_process c then (came ms bytes).load else replicate ms.lengths.slave 0) ≡ outputs
 
-process-next : (ms : MasterSettings) (e : List Deed) (bytes : List ℕ) (h : Bool) (load : List ℕ) → length load ≡ ms.lengths.master → Arrived ms bytes → Sound ms e
-    → IsNext ms e bytes command.ProcessData (if h then command.FailSafeData else command.ProcessData) (if h then replicate ms.lengths.master 0 else load)
-process-next ms e bytes true load h a s = record {
-  view = λ r. same_master _ _ _ _ _ _ _ refl (same_data _ _ _ _ _ _ _ (chain_after ms (since e) bytes command.ProcessData ms.conn command.FailSafeData (replicate ms.lengths.master 0) refl (length-replicate ms.lengths.master 0)) refl (sym (a.back r))) refl;
+by-offer : (ms : MasterSettings) (e : List Deed) (bytes : List ℕ) (c : Command) (outputs : List ℕ) (h : Bool) (n : ℕ) (load : List ℕ) → is_reset c ≡ false → Brings ms bytes c outputs → n ≡ ms.lengths.master → length load ≡ ms.lengths.master
+    → Arrived ms bytes → Sound ms e → IsNext ms e bytes c outputs (if h then command.FailSafeData else command.ProcessData) (if h then replicate n 0 else load)
+by-offer ms e bytes c outputs true n load r o i h a s = record {
+  view = λ b. same_master _ _ _ _ _ _ _ refl (same_data _ _ _ _ _ _ _ (chain_after ms (since e) bytes c ms.conn command.FailSafeData (replicate n 0) r (length-replicate n 0 ∙ i)) o (sym (a.back b))) refl;
   sound = record { in_state = refl; offer_len = s.offer_len; young = ms.some_watchdog };
 }
-process-next ms e bytes false load h a s = record {
-  view = λ r. same_master _ _ _ _ _ _ _ refl (same_data _ _ _ _ _ _ _ (chain_after ms (since e) bytes command.ProcessData ms.conn command.ProcessData load refl h) refl (sym (a.back r))) refl;
+by-offer ms e bytes c outputs false n load r o i h a s = record {
+  view = λ b. same_master _ _ _ _ _ _ _ refl (same_data _ _ _ _ _ _ _ (chain_after ms (since e) bytes c ms.conn command.ProcessData load r h) o (sym (a.back b))) refl;
   sound = record { in_state = refl; offer_len = s.offer_len; young = ms.some_watchdog };
 }
 
-failsafe-next : (ms : MasterSettings) (e : List Deed) (bytes : List ℕ) (h : Bool) (load : List ℕ) → length load ≡ ms.lengths.master → Arrived ms bytes → Sound ms e
-    → IsNext ms e bytes command.FailSafeData (if h then command.FailSafeData else command.ProcessData) (if h then replicate ms.lengths.master 0 else load)
-failsafe-next ms e bytes true load h a s = record {
-  view = λ r. same_master _ _ _ _ _ _ _ refl (same_data _ _ _ _ _ _ _ (chain_after ms (since e) bytes command.FailSafeData ms.conn command.FailSafeData (replicate ms.lengths.master 0) refl (length-replicate ms.lengths.master 0)) (ap (λ (n : ℕ). replicate n 0) (sym a.load_len)) (sym (a.back r))) refl;
-  sound = record { in_state = refl; offer_len = s.offer_len; young = ms.some_watchdog };
-}
-failsafe-next ms e bytes false load h a s = record {
-  view = λ r. same_master _ _ _ _ _ _ _ refl (same_data _ _ _ _ _ _ _ (chain_after ms (since e) bytes command.FailSafeData ms.conn command.ProcessData load refl h) (ap (λ (n : ℕ). replicate n 0) (sym a.load_len)) (sym (a.back r))) refl;
-  sound = record { in_state = refl; offer_len = s.offer_len; young = ms.some_watchdog };
-}
+-- the data frame that follows is the offer, or zeros
+pub data_after : (ms : MasterSettings) (e : List Deed) (bytes : List ℕ) (c : Command) (outputs : List ℕ) → is_reset c ≡ false → Brings ms bytes c outputs → Arrived ms bytes → Sound ms e
+    → IsNext ms e bytes c outputs (data_command (kit_of ms e).offer) (data_load (kit_of ms e).offer)
+data_after ms e bytes c outputs r o a s = by-offer ms e bytes c outputs (held e) (length (offer (OfMaster ms) e)) (offer (OfMaster ms) e) r o s.offer_len s.offer_len a s
 
 abbrev seen : MasterSettings → List ℕ → Command → SessionFrameView
 seen ms bytes c = record { command = c; frame = came ms bytes }
@@ -103,10 +91,7 @@ data_outcome ms e bytes c b = answered_by (settles (view_in state.Data ms e) (se
 pub process-passed : (ms : MasterSettings) (e : List Deed) (bytes : List ℕ) → Arrived ms bytes → Sound ms e
     → Agrees ms e (move.Deliver bytes) (takes_frame command.ProcessData (came ms bytes).load) (data_outcome ms e bytes command.ProcessData true)
 process-passed ms e bytes a s =
-    takes-agree ms e bytes command.ProcessData (data_outcome ms e bytes command.ProcessData true)
-    (subst (λ (n : ℕ). IsNext ms e bytes command.ProcessData (data_command (kit_of ms e).offer) (if held e then replicate n 0 else offer (OfMaster ms) e)) (sym s.offer_len)
-    (process-next ms e bytes (held e) (offer (OfMaster ms) e) s.offer_len a s))
-    refl (data_sent ms e bytes command.ProcessData refl s)
+    takes-agree ms e bytes command.ProcessData (data_outcome ms e bytes command.ProcessData true) (data_after ms e bytes command.ProcessData _ refl refl a s) refl (data_sent ms e bytes command.ProcessData refl s)
 
 -- a FailSafeData frame that passed the tests
 by-zeros : (ms : MasterSettings) (e : List Deed) (bytes : List ℕ) (b : Bool) → Arrived ms bytes → Sound ms e
@@ -114,9 +99,7 @@ by-zeros : (ms : MasterSettings) (e : List Deed) (bytes : List ℕ) (b : Bool) �
 by-zeros ms e bytes false a s = resets-agree state.Data ms e (move.Deliver bytes) true (cause.Found (code 0x07)) (code 0x07) refl refl s
 by-zeros ms e bytes true a s =
     takes-agree ms e bytes command.FailSafeData (data_outcome ms e bytes command.FailSafeData true)
-    (subst (λ (n : ℕ). IsNext ms e bytes command.FailSafeData (data_command (kit_of ms e).offer) (if held e then replicate n 0 else offer (OfMaster ms) e)) (sym s.offer_len)
-    (failsafe-next ms e bytes (held e) (offer (OfMaster ms) e) s.offer_len a s))
-    refl (data_sent ms e bytes command.FailSafeData refl s)
+    (data_after ms e bytes command.FailSafeData _ refl (ap (λ (n : ℕ). replicate n 0) (sym a.load_len)) a s) refl (data_sent ms e bytes command.FailSafeData refl s)
 
 pub failsafe-passed : (ms : MasterSettings) (e : List Deed) (bytes : List ℕ) → Arrived ms bytes → Sound ms e
     → Agrees ms e (move.Deliver bytes) (on_verdict state.Data (OfMaster ms) (judged_contents command.FailSafeData (came ms bytes).load (unless (all_zero (came ms bytes).load) 0x07))) (data_outcome ms e bytes command.FailSafeData (all_zero (came ms bytes).load))

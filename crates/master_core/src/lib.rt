@@ -27,12 +27,12 @@
 //! }
 //! ```
 //!
-//! A program whose next data depend on the received frame calls `accept` in place of `deliver`. If `due()` is true
-//! then, it calls `reply`. After `accept`, `outputs` has the data of that frame. The frame that `reply` writes has what
-//! was `put` before it. `hold(true)` makes the master send fail-safe data (zeros) in place of what was put, until
-//! `hold(false)`. `nonce` sets the session id of all sessions that begin after the call. The master never makes one
-//! itself: call `nonce` with a fresh id before each session. A reset changes neither what was put, nor the hold, nor
-//! the session id.
+//! A program whose next data depend on the received frame calls `accept` in place of `deliver`, reads `outputs`, and
+//! calls `put`. If `due()` is then true, it calls `reply`: a ProcessData frame that this sends carries what was put.
+//! `hold(true)` makes the master send fail-safe data (zeros) in place of what was put, until `hold(false)`. `nonce`
+//! sets the id of all sessions whose first Session frame the master sends after the call. The master never makes an id
+//! itself: call `nonce` with a fresh one before each session. A reset changes neither what was put, nor the hold, nor
+//! the id.
 //!
 //! ```rust
 //! use fsoe_base::{FrameBuf, Lengths};

@@ -421,8 +421,8 @@ impl Master {
         self.kit.hold(failsafe);
     }
 
-    /// Sets the session id of all sessions that begin after this call, also of one that begins with a due frame. At
-    /// most 65,535 in profile One. It outlasts resets: give a fresh one before each session.
+    /// Sets the id of all sessions whose first Session frame is sent after this call, also if that frame is due now. It
+    /// is at most 65,535 in profile One. It outlasts resets: give a fresh one before each session.
     #[tactic(auto, using(crate::proofs::Law::follows_by, crate::proofs::Waiting::nonce_keeps))]
     pub fn nonce(&mut self, id: u32)
         requires { IsTrue (allows_id self.old.kit.settings.profile id) }
