@@ -1,8 +1,7 @@
 -- What is known of a frame of a session that came, and how the chain goes on by it.
-use Rattle.std.proofs.Common.{◌≡◌, ℕ, suc, ◌+◌, ◌-◌, ◌*◌, ◌≤◌, ◌==◌, List, [], ◌∷◌, ◌++◌, length, take, drop, slice_index, Bool, true, false, Option, Some, None, unwrap_or, if◌then◌else◌, refl, sym, ap, ◌∙◌, arith}
+use Rattle.std.proofs.Common.{◌≡◌, ℕ, suc, ◌+◌, ◌-◌, ◌*◌, ◌≤◌, ◌==◌, List, [], ◌∷◌, ◌++◌, length, take, drop, slice_index, Bool, true, false, Option, Some, None, unwrap_or, if◌then◌else◌, refl, sym, ap, ◌∙◌, length-append, suc-mul, arith}
 use Rattle.std.specs.Option.{option_or}
 use Rattle.std.proofs.lemmas.Grind.{common_steps}
-use Rattle.std.proofs.Common.{length-append, suc-mul}
 use Rattle.fsoe_base.specs.declared.command.Command.{Command}
 use Rattle.fsoe_base.specs.declared.command.Command.TheVariants as command
 use Rattle.fsoe_base.specs.declared.command.State.{State}
@@ -24,9 +23,10 @@ use Rattle.param_load.specs.Payload.{session_payload, piece_from, padded}
 use Rattle.end_model.specs.Setup.{Setup, OfSlave, sends, receives, piece_len}
 use Rattle.end_model.specs.Phases.{phase_of, phase_of_known, phase_of_frame, same_phase, has_command, is_reset}
 use Rattle.end_model.specs.Deed.{Deed, is_empty}
-use Rattle.end_model.specs.Chain.{own_link, taken_link}
-use Rattle.end_model.specs.Step.{takes_frame}
+use Rattle.end_model.specs.Chain.{since, own_link, taken_link}
+use Rattle.end_model.specs.Step.{takes_frame, begun}
 use Rattle.end_model.proofs.Links.{own_crc}
+use Rattle.end_model.proofs.ReadBack.{read_back}
 use Rattle.slave_core.proofs.SameVerdict.{came}
 
 -- a frame of the master's length whose command byte is that of a command
@@ -63,10 +63,21 @@ abbrev pub frame_answered : Chain → SessionFrameView → ℕ → Command → L
 frame_answered chain f conn cmd load = frame_sent (after_taken chain f.frame) conn cmd load
 
 -- the chain with one deed more, which took a frame and sent an answer
-pub chain-next : (s : Setup) (e : List Deed) (bytes load sent : List ℕ) (c : Command) (conn : ℕ) (c2 : Command) (answer : List ℕ) → is_reset c ≡ false → is_empty sent ≡ false
+chain-next : (s : Setup) (e : List Deed) (bytes load sent : List ℕ) (c : Command) (conn : ℕ) (c2 : Command) (answer : List ℕ) → is_reset c ≡ false → is_empty sent ≡ false
     → frame_of (sends s) sent ≡ sealing.sealed (first_of (frame_of (receives s) bytes).crcs) (own_link s e) conn (command_byte c2) answer
     → chain_at s (record { what = move.Deliver bytes; did = takes_frame c load; sent = sent } ∷ e) ≡ chain_answered (chain_at s e) (record { command = c; frame = frame_of (receives s) bytes }) conn c2 answer
 chain-next s e bytes load sent c conn c2 answer r some back = simp (r, some, back, own_crc)
+
+-- the deed that takes a frame and sends this
+abbrev pub taking : SlaveSettings → List ℕ → Command → List ℕ → Deed
+taking ss bytes c sent = record { what = move.Deliver bytes; did = takes_frame c (came ss bytes).load; sent = sent }
+
+pub chain-after : (ss : SlaveSettings) (e : List Deed) (bytes : List ℕ) (c : Command) (conn : ℕ) (c2 : Command) (load : List ℕ) → is_reset c ≡ false → length load ≡ ss.lengths.slave
+    → chain_at (OfSlave ss) (taking ss bytes c (frame_answered (chain_at (OfSlave ss) (since e)) (record { command = c; frame = came ss bytes }) conn c2 load) ∷ since e)
+    ≡ chain_answered (chain_at (OfSlave ss) (since e)) (record { command = c; frame = came ss bytes }) conn c2 load
+chain-after ss e bytes c conn c2 load r h =
+    chain-next (OfSlave ss) (since e) bytes (came ss bytes).load (frame_answered (chain_at (OfSlave ss) (since e)) (record { command = c; frame = came ss bytes }) conn c2 load) c conn c2 load r refl
+    (read_back (OfSlave ss) (since (begun (move.Deliver bytes) (takes_frame command.Session (came ss bytes).load) ∷ e)) conn c2 load h)
 
 -- the first bytes of a load
 pub piece-len : (load : List ℕ) (l c : ℕ) → length load ≡ l → c ≤ l → length (take c load) ≡ c

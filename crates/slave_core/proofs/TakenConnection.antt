@@ -1,5 +1,5 @@
 -- A Connection frame that passed the tests: what the machine does is what looking back gives.
-use Rattle.std.proofs.Common.{◌≡◌, ◌==◌, ℕ, ◌+◌, ◌-◌, ◌<◌, ◌≤◌, nat_le, nat_lt, Bool, true, false, ◌&&◌, not, List, [], ◌∷◌, ◌++◌, length, take, drop, Option, Some, None, if◌then◌else◌, refl, sym, ap, subst, ◌∙◌, inl, inr, arith}
+use Rattle.std.proofs.Common.{◌≡◌, ◌==◌, ℕ, ◌+◌, ◌-◌, ◌<◌, ◌≤◌, nat_le, nat_lt, Bool, true, false, ◌&&◌, not, List, [], ◌∷◌, ◌++◌, length, take, drop, Option, Some, None, if◌then◌else◌, refl, sym, ap, ap₂, subst, ◌∙◌, inl, inr, arith}
 use Rattle.std.specs.Option.{option_or}
 use Rattle.std.proofs.lemmas.List.{get_or_append_left}
 use Rattle.std.proofs.lemmas.Bool.{eqb-true}
@@ -20,12 +20,10 @@ use Rattle.param_load.specs.UploadView.{UploadView}
 use Rattle.end_model.specs.Setup.{OfSlave, piece_len}
 use Rattle.end_model.specs.Phases.{has_command}
 use Rattle.end_model.specs.Deed.{Deed}
-use Rattle.end_model.specs.Chain.{since, seal}
 use Rattle.end_model.specs.Payloads.{slave_conn, conn_id}
 use Rattle.end_model.specs.Readiness.{state_of, slave_limit}
 use Rattle.end_model.specs.Step.{takes_frame, on_verdict, begun}
 use Rattle.end_model.specs.Verdict.{judged_contents, contents}
-use Rattle.end_model.proofs.ReadBack.{read_back}
 use Rattle.slave_core.specs.declared.now.Now.TheVariants as now
 use Rattle.slave_core.specs.declared.states.InConnection.{InConnection}
 use Rattle.seq_chain.specs.SessionFrame.{SessionFrameView}
@@ -36,7 +34,7 @@ use Rattle.slave_core.specs.ViewOf.{session_of, notes_of, kit_of, upload_of, vie
 use Rattle.slave_core.proofs.Sound.{Sound}
 use Rattle.slave_core.proofs.SameVerdict.{came}
 use Rattle.slave_core.proofs.Agrees.{Agrees, same_slave, fresh_limit, fault-agrees}
-use Rattle.slave_core.proofs.Arrived.{chain_answered, frame_answered, Arrived, chain-next, piece-len, filled, piece-own, piece-peer, last-piece, connects-first, is-there, there}
+use Rattle.slave_core.proofs.Arrived.{chain_answered, frame_answered, Arrived, chain-after, piece-len, filled, piece-own, piece-peer, last-piece, connects-first, is-there, there}
 
 -- a number in the joined bytes stays what it was tested to be
 stays : (u p : List ℕ) (k : ℕ) → k + 1 < length u → number_at k (u ++ p) ≡ number_at k u
@@ -122,15 +120,13 @@ connection-agrees None p ss e bytes tested at s j a =
     record {
       view = λ r. same_slave _ _ _ _ _ _ _ _ refl
           (same_connection _ _ _ _ _ _ _ _ _
-          (chain-next (OfSlave ss) (since e) bytes load (seal (OfSlave ss) (since before) (conn_id (OfSlave ss) before) command.Connection (padded (take c load) ss.lengths.slave)) command.Connection (conn_id (OfSlave ss) before) command.Connection (padded (take c load) ss.lengths.slave) refl refl (read_back (OfSlave ss) (since before) (conn_id (OfSlave ss) before) command.Connection (padded (take c load) ss.lengths.slave) full)
-          ∙ ap (λ (k : ℕ). chain_answered (notes_of ss e).chain (seen ss bytes) k command.Connection (padded (take c load) ss.lengths.slave)) conn_is
-          ∙ ap (λ (piece : List ℕ). chain_answered (notes_of ss e).chain (seen ss bytes) conn command.Connection (padded piece ss.lengths.slave)) (sym echo_is))
+          (chain-after ss e bytes command.Connection (conn_id (OfSlave ss) before) command.Connection (padded (take c load) ss.lengths.slave) refl full
+          ∙ ap₂ (λ (k : ℕ) (piece : List ℕ). chain_answered (notes_of ss e).chain (seen ss bytes) k command.Connection (padded piece ss.lengths.slave)) conn_is (sym echo_is))
           conn_is
           (sym (a.back r)))
           limit_is refl;
       did = refl;
-      sent = ap (λ (k : ℕ). frame_answered (notes_of ss e).chain (seen ss bytes) k command.Connection (padded (take c load) ss.lengths.slave)) conn_is
-          ∙ ap (λ (piece : List ℕ). frame_answered (notes_of ss e).chain (seen ss bytes) conn command.Connection (padded piece ss.lengths.slave)) (sym echo_is);
+      sent = ap₂ (λ (k : ℕ) (piece : List ℕ). frame_answered (notes_of ss e).chain (seen ss bytes) k command.Connection (padded piece ss.lengths.slave)) conn_is (sym echo_is);
       sound = record {
         in_state = record {
           kept_is = refl;

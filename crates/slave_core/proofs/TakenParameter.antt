@@ -1,5 +1,5 @@
 -- A Parameter frame that passed the tests: what the machine does is what looking back gives.
-use Rattle.std.proofs.Common.{◌≡◌, ℕ, ◌+◌, ◌-◌, ◌<◌, ◌≤◌, nat_le, Bool, true, false, List, ◌∷◌, ◌++◌, length, take, drop, Option, Some, None, unwrap_or, if◌then◌else◌, refl, sym, ap, ◌∙◌, arith}
+use Rattle.std.proofs.Common.{◌≡◌, ℕ, ◌+◌, ◌-◌, ◌<◌, ◌≤◌, nat_le, Bool, true, false, List, ◌∷◌, ◌++◌, length, take, drop, Option, Some, None, unwrap_or, if◌then◌else◌, refl, sym, ap, ap₂, ◌∙◌, arith}
 use Rattle.std.proofs.lemmas.Bool.{leb-true}
 use Rattle.fsoe_base.specs.declared.command.Code.{Code}
 use Rattle.fsoe_base.specs.declared.command.Command.TheVariants as command
@@ -17,13 +17,11 @@ use Rattle.param_load.specs.Upload.{advanced, outcome_by}
 use Rattle.param_load.specs.UploadView.{UploadView}
 use Rattle.end_model.specs.Setup.{OfSlave, piece_len}
 use Rattle.end_model.specs.Deed.{Deed}
-use Rattle.end_model.specs.Chain.{since, seal}
 use Rattle.end_model.specs.Payloads.{slave_conn, conn_id, whole}
 use Rattle.end_model.specs.Readiness.{state_of, slave_limit}
 use Rattle.end_model.specs.Step.{takes_frame, on_verdict, begun, deed_of}
 use Rattle.end_model.specs.Runs.{IsRun}
 use Rattle.end_model.specs.Verdict.{judged_contents}
-use Rattle.end_model.proofs.ReadBack.{read_back}
 use Rattle.end_model.proofs.Shown.{slave-run}
 use Rattle.end_model.proofs.SlaveShown.{SlaveShows, parameters}
 use Rattle.end_model.proofs.WholeUploads.{whole_parameters}
@@ -37,7 +35,7 @@ use Rattle.slave_core.specs.ViewOf.{session_of, notes_of, kit_of, upload_of, vie
 use Rattle.slave_core.proofs.Sound.{Sound}
 use Rattle.slave_core.proofs.SameVerdict.{came}
 use Rattle.slave_core.proofs.Agrees.{Agrees, same_slave, fault-agrees}
-use Rattle.slave_core.proofs.Arrived.{chain_answered, frame_answered, Arrived, chain-next, piece-len, filled, piece-own, piece-peer, last-piece, keeps, is-there, there}
+use Rattle.slave_core.proofs.Arrived.{chain_answered, frame_answered, Arrived, chain-after, piece-len, filled, piece-own, piece-peer, last-piece, keeps, is-there, there}
 
 -- the limit of a run isn't 0
 some : (b : Bool) (n h : ℕ) → (b ≡ true → 0 < n) → 0 < h → 0 < (if b then n else h)
@@ -101,15 +99,13 @@ parameter-agrees None p ss e bytes at s j a run =
     record {
       view = λ r. same_slave _ _ _ _ _ _ _ _ refl
           (same_parameter _ _ _ _ _ _ _ _ _ _
-          (chain-next (OfSlave ss) (since e) bytes load (seal (OfSlave ss) (since before) (conn_id (OfSlave ss) before) command.Parameter (padded (take c load) ss.lengths.slave)) command.Parameter (conn_id (OfSlave ss) before) command.Parameter (padded (take c load) ss.lengths.slave) refl refl (read_back (OfSlave ss) (since before) (conn_id (OfSlave ss) before) command.Parameter (padded (take c load) ss.lengths.slave) full)
-          ∙ ap (λ (k : ℕ). chain_answered (notes_of ss e).chain (seen ss bytes) k command.Parameter (padded (take c load) ss.lengths.slave)) conn_is
-          ∙ ap (λ (piece : List ℕ). chain_answered (notes_of ss e).chain (seen ss bytes) conn command.Parameter (padded piece ss.lengths.slave)) (sym echo_is))
+          (chain-after ss e bytes command.Parameter (conn_id (OfSlave ss) before) command.Parameter (padded (take c load) ss.lengths.slave) refl full
+          ∙ ap₂ (λ (k : ℕ) (piece : List ℕ). chain_answered (notes_of ss e).chain (seen ss bytes) k command.Parameter (padded piece ss.lengths.slave)) conn_is (sym echo_is))
           conn_is
           (sym (a.back r)))
           (ap (λ (b : Bool). if b then number_at 2 u else ss.hand) is_whole) refl;
       did = refl;
-      sent = ap (λ (k : ℕ). frame_answered (notes_of ss e).chain (seen ss bytes) k command.Parameter (padded (take c load) ss.lengths.slave)) conn_is
-          ∙ ap (λ (piece : List ℕ). frame_answered (notes_of ss e).chain (seen ss bytes) conn command.Parameter (padded piece ss.lengths.slave)) (sym echo_is);
+      sent = ap₂ (λ (k : ℕ) (piece : List ℕ). frame_answered (notes_of ss e).chain (seen ss bytes) k command.Parameter (padded piece ss.lengths.slave)) conn_is (sym echo_is);
       sound = record {
         in_state = record {
           kept_is = refl;

@@ -15,12 +15,10 @@ use Rattle.param_load.specs.Upload.{advanced, outcome_by}
 use Rattle.param_load.specs.UploadView.{UploadView}
 use Rattle.end_model.specs.Setup.{OfSlave, piece_len}
 use Rattle.end_model.specs.Deed.{Deed}
-use Rattle.end_model.specs.Chain.{since, seal}
 use Rattle.end_model.specs.Payloads.{nonce}
 use Rattle.end_model.specs.Readiness.{state_of, slave_limit}
 use Rattle.end_model.specs.Step.{takes_frame, on_verdict, begun, id_piece}
 use Rattle.end_model.specs.Verdict.{judged_contents}
-use Rattle.end_model.proofs.ReadBack.{read_back}
 use Rattle.slave_core.specs.declared.now.Now.TheVariants as now
 use Rattle.slave_core.specs.declared.states.InSession.{InSession}
 use Rattle.seq_chain.specs.SessionFrame.{SessionFrameView}
@@ -31,7 +29,7 @@ use Rattle.slave_core.specs.ViewOf.{session_of, Notes, notes_of, kit_of, upload_
 use Rattle.slave_core.proofs.Sound.{OfSession, count_of, SoundIn, Sound}
 use Rattle.slave_core.proofs.SameVerdict.{came}
 use Rattle.slave_core.proofs.Agrees.{Agrees, same_slave, fresh_limit, fault-agrees}
-use Rattle.slave_core.proofs.Arrived.{chain_answered, frame_answered, Arrived, chain-next, piece-len, filled, piece-own, piece-peer, id-piece as the-piece, count-next, connects-none, is-there}
+use Rattle.slave_core.proofs.Arrived.{chain_answered, frame_answered, Arrived, chain-after, piece-len, filled, piece-own, piece-peer, id-piece as the-piece, count-next, connects-none, is-there}
 
 -- what is noted before a Session frame: the id that is sent is i, and nothing came of the later phases
 pub record Opening (ss : SlaveSettings) (count : ℕ) (n : Notes) (nonce i : ℕ) : Type 0 where
@@ -93,8 +91,7 @@ session-agrees None p ss e bytes i at s o a =
     record {
       view = λ r. same_slave _ _ _ _ _ _ _ _ refl
           (same_session _ _ _ _ _ _ _ _ _
-          (chain-next (OfSlave ss) (since e) bytes load (seal (OfSlave ss) (since before) 0 command.Session (padded piece ss.lengths.slave)) command.Session 0 command.Session (padded piece ss.lengths.slave) refl refl (read_back (OfSlave ss) (since before) 0 command.Session (padded piece ss.lengths.slave) full)
-          ∙ ap (λ (piece : List ℕ). chain_answered (notes_of ss e).chain (seen ss bytes) 0 command.Session (padded piece ss.lengths.slave)) piece_is)
+          (chain-after ss e bytes command.Session 0 command.Session (padded piece ss.lengths.slave) refl full ∙ ap (λ (piece : List ℕ). chain_answered (notes_of ss e).chain (seen ss bytes) 0 command.Session (padded piece ss.lengths.slave)) piece_is)
           (ap (λ (o : Option ℕ). unwrap_or o 0) o.id_next)
           (sym (a.back r)))
           limit_is refl;

@@ -25,8 +25,8 @@
 //! ```
 //!
 //! `hold(true)` makes the slave send fail-safe data (zeros) in place of what was put, until `hold(false)`. `nonce` sets
-//! the session id of all sessions that begin after the call. The slave never makes one itself: call `nonce` with a
-//! fresh id before each session. A reset changes neither what was put, nor the hold, nor the session id.
+//! the id of all sessions whose first Session frame the slave sends after the call. The slave never makes an id itself:
+//! call `nonce` with a fresh one before each session. A reset changes neither what was put, nor the hold, nor the id.
 //!
 //! ```rust
 //! use fsoe_base::{FrameBuf, Lengths, State};

@@ -294,8 +294,8 @@ impl Slave {
         self.kit.hold(failsafe);
     }
 
-    /// Sets the session id of all sessions that begin after this call, at most 65,535 in profile One. It outlasts
-    /// resets: give a fresh one before each session.
+    /// Sets the id of all sessions whose first Session frame is sent after this call, at most 65,535 in profile One. It
+    /// outlasts resets: give a fresh one before each session.
     #[tactic(auto, using(crate::proofs::Law::follows_by))]
     pub fn nonce(&mut self, id: u32)
         requires { IsTrue (allows_id self.old.kit.settings.profile id) }
