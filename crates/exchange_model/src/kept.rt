@@ -1,6 +1,6 @@
 //! An item that is kept in place.
 ghost use Rattle.std.specs.Prelude.{◌≡◌, ◌<◌, ◌≤◌, ◌^◌, Some, None, length};
-ghost use Rattle.exchange_model.specs.Monitor.{sent_number, has, number_of, next_number};
+ghost use Rattle.exchange_model.specs.Monitor.{sent_number, number_of, next_number};
 
 use crate::side::Sent;
 use fsoe_base::{FrameBuf, MOST_FRAME};
@@ -74,18 +74,11 @@ impl Kept {
         }
     }
 
-    /// Whether there is an item with these bytes.
-    pub(crate) fn has(&self, bytes: &[u8]) -> bool
-        ensures { result ≡ has bytes.now self.now }
-    {
-        self.there && self.sent.bytes.bytes() == bytes
-    }
-
     /// The number of the item, where it has these bytes.
     pub(crate) fn number_of(&self, bytes: &[u8]) -> Option<u64>
         ensures { result ≡ number_of bytes.now self.now }
     {
-        if self.has(bytes) {
+        if self.there && self.sent.bytes.bytes() == bytes {
             Some(self.sent.number)
         } else {
             None

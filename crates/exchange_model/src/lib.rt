@@ -1,6 +1,6 @@
-//! The definition of a run of both ends, and of what makes it correct (fair). The laws are on all runs and on examples;
-//! the main one is the law of the pair. An entry is `other` if a guarded frame passed the test of the CRCs that wasn't
-//! the awaited one. Two monitors find the first such entry during a run. Nothing here runs an end.
+//! The definition of a run of both ends, and of when it is correct (fair). The laws say what is true of all runs and of
+//! examples; the main one is the law of the pair. An entry is `other` if a guarded frame other than the awaited one
+//! passed the test of the CRCs. Two monitors find the first such entry during a run. Nothing here runs an end.
 //!
 //! ```rust
 //! use exchange_model::Monitor;

@@ -6,7 +6,7 @@ ghost use Rattle.exchange_model.specs.ListMonitor.{is_answer_to, last_sent, last
 
 use crate::kept::Kept;
 use crate::reading::{delivered, is_reset_frame};
-use crate::side::{Sent, Side};
+use crate::side::{Sent, Side, is_other, number_taken};
 use fsoe_base::{End, Memory};
 use param_load::Entry;
 use std::alloc::Global;
@@ -84,19 +84,20 @@ fn add(mine: &mut Vec<Listed>, theirs: &[Listed], entry: &Entry) -> Result<bool,
     let own = side(mine, theirs);
     let peer = side(theirs, mine);
     let came = delivered(&entry.what);
+    let awaited = own.awaited.number_of(came);
     if !entry.sent.is_empty() {
         let item = Listed {
             sent: Sent {
                 number: own.newest.next_number(),
                 bytes: entry.sent.copy(),
             },
-            answers: own.number_taken(&peer, came, &entry.did.took),
+            answers: number_taken(awaited, &peer, came, &entry.did.took),
         };
         if mine.push(item).is_err() {
             return Err(Memory);
         }
     }
-    Ok(own.is_other(entry.did.passed, came))
+    Ok(is_other(entry.did.passed, came, awaited))
 }
 
 /// Finds the first `other` entry of a run of both ends, by lists of all frames that they sent: the plain program that

@@ -2,7 +2,7 @@
 ghost use Rattle.std.specs.Prelude.{◌≡◌};
 
 use crate::reading::delivered;
-use crate::side::{Side, note};
+use crate::side::{Side, is_other, note};
 use fsoe_base::{Did, End, FrameBuf};
 use param_load::Entry;
 use std::marker::Model;
@@ -95,10 +95,11 @@ impl Monitor {
     pub fn is_other(&self, at: End, came: &[u8], did: &Did) -> bool
         ensures { (w : List Entry) (x : Entry) (sent : List ℕ) → self.now ≡ view_of w → HasParts x at came.now did.now sent → result ≡ is_other (items w) x }
     {
-        match at {
-            End::Master => self.master.is_other(did.passed, came),
-            End::Slave => self.slave.is_other(did.passed, came),
-        }
+        let awaited = match at {
+            End::Master => self.master.awaited.number_of(came),
+            End::Slave => self.slave.awaited.number_of(came),
+        };
+        is_other(did.passed, came, awaited)
     }
 
     /// Returns the number, from 1, of the item that an end awaits, among those of its peer, or None if it awaits none.

@@ -1,6 +1,6 @@
 //! What a monitor keeps of one end.
 ghost use Rattle.std.specs.Prelude.{◌≡◌, ◌<◌, ◌^◌};
-ghost use Rattle.exchange_model.specs.Monitor.{first_side, next_number, is_answer, is_other_to, number_taken, sent_next, heard_next, own_after, peer_after};
+ghost use Rattle.exchange_model.specs.Monitor.{first_side, next_number, is_answer, is_other_to, number_of, number_taken, sent_next, heard_next, own_after, peer_after};
 
 use crate::kept::Kept;
 use crate::reading::{is_guarded, is_guarded_frame, is_reset_frame};
@@ -43,24 +43,6 @@ impl Side {
         }
     }
 
-    /// Returns true if an entry of the end is `other` at which these bytes came, by whether they passed their CRC test.
-    pub(crate) fn is_other(&self, passed: bool, came: &[u8]) -> bool
-        ensures { result ≡ is_other_to self.now passed came.now }
-    {
-        passed && is_guarded_frame(came) && !self.awaited.has(came)
-    }
-
-    /// The number of the peer's item that was taken from these bytes, if one was.
-    pub(crate) fn number_taken(&self, peer: &Side, bytes: &[u8], took: &Option<Took>) -> Option<u64>
-        ensures { result ≡ number_taken self.now peer.now bytes.now took.now }
-    {
-        match took {
-            Some(took) if is_guarded(took.command) => self.awaited.number_of(bytes),
-            Some(_) => peer.newest.number_of(bytes),
-            None => None,
-        }
-    }
-
     /// Whether an item that answers this one of the end's items answers the newest of them.
     fn is_answer(&self, answer: Option<u64>) -> bool
         ensures { result ≡ is_answer self.now.newest answer }
@@ -72,8 +54,34 @@ impl Side {
     }
 }
 
+/// Returns true if an entry is `other` at which these bytes came, by whether they passed their CRC test, and by the
+/// number of the awaited item, where it has these bytes.
+pub(crate) fn is_other(passed: bool, came: &[u8], awaited: Option<u64>) -> bool
+    ensures { (own : Side) → awaited ≡ number_of came.now own.awaited → result ≡ is_other_to own passed came.now }
+{
+    passed && is_guarded_frame(came) && awaited.is_none()
+}
+
+/// The number of the peer's item that was taken from these bytes, if one was, by that of the awaited item, where it has
+/// these bytes.
+pub(crate) fn number_taken(
+    awaited: Option<u64>,
+    peer: &Side,
+    bytes: &[u8],
+    took: &Option<Took>,
+) -> Option<u64>
+    ensures { (own : Side) → awaited ≡ number_of bytes.now own.awaited → result ≡ number_taken own peer.now bytes.now took.now }
+{
+    match took {
+        Some(took) if is_guarded(took.command) => awaited,
+        Some(_) => peer.newest.number_of(bytes),
+        None => None,
+    }
+}
+
 /// The end sends a frame: it has a newest item, and awaits none. Its peer awaits this item if it answers the peer's
 /// newest one and isn't a Reset frame.
+#[inline(always)]
 fn send(own: &mut Side, peer: &mut Side, frame: &FrameBuf, answer: Option<u64>)
     requires { next_number own.old.newest < 2 ^ 64 }
     ensures own { own.new ≡ sent_next own.old frame.now }
@@ -89,16 +97,18 @@ fn send(own: &mut Side, peer: &mut Side, frame: &FrameBuf, answer: Option<u64>)
 
 /// Notes an entry in what is kept of its end and of the peer: the bytes that came, what the end did, and the frame that
 /// it sent. Returns true if the entry is `other`.
+#[inline(always)]
 pub(crate) fn note(own: &mut Side, peer: &mut Side, came: &[u8], did: &Did, sent: &FrameBuf) -> bool
     requires { next_number own.old.newest < 2 ^ 64 }
     ensures other { result ≡ is_other_to own.old did.now.passed came.now }
     ensures own { own.new ≡ own_after own.old sent.now }
     ensures peer { peer.new ≡ peer_after own.old peer.old came.now did.now.took sent.now }
 {
-    let other = own.is_other(did.passed, came);
+    // The bytes are compared once with those of the awaited item.
+    let awaited = own.awaited.number_of(came);
     if !sent.is_empty() {
-        let answer = own.number_taken(peer, came, &did.took);
+        let answer = number_taken(awaited, peer, came, &did.took);
         send(own, peer, sent, answer);
     }
-    other
+    is_other(did.passed, came, awaited)
 }

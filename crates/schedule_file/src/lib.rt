@@ -1,6 +1,6 @@
-//! Parses node files, pair files and files of several pairs, line by line, without newlines: the header with the
-//! settings, and then the events. A refused line has one cause. A `Maker` makes the schedule of a number, without
-//! lines. Only the header of several pairs allocates.
+//! Parses the lines of node files, pair files and files of several pairs: the header with the settings, and then the
+//! events. A refused line has one cause. A `Maker` makes a schedule from a number. Only the header of several pairs
+//! allocates.
 //!
 //! ```rust
 //! use fsoe_base::End;

@@ -1,4 +1,4 @@
-//! The schedule of a number.
+//! A schedule that is made from a number.
 ghost use Rattle.std.specs.Prelude.{◌≡◌, if◌then◌else◌};
 ghost use Rattle.schedule_file.specs.Made.{event_of_word, is_switch_on, load_of, mask_of, place_of};
 ghost use Rattle.schedule_file.specs.Event.{FitsMade};

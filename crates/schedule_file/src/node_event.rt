@@ -129,6 +129,7 @@ fn read_first(
 }
 
 /// The same, written over `event`, which is as it was after an error. The word `end` is that of no event: `Word`.
+#[inline(always)]
 fn read_step(
     word: Word,
     fields: Option<&[u8]>,

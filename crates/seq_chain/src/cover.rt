@@ -15,6 +15,7 @@ pub(crate) type Crcs = ArrayVec<u16, 63>;
 
 /// Writes the CRCs of the groups of a load to `out`, whose old contents are lost. The part that they cover in common is
 /// fed once for all of them.
+#[inline(always)]
 pub(crate) fn crcs_into(last: u16, conn: u16, number: u16, command: u8, load: &[u8], out: &mut Crcs)
     requires { IsTrue (is_length (length load.now)) }
     ensures items { out.new.items ≡ crcs last conn number command load.now }

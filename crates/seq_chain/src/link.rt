@@ -56,6 +56,7 @@ pub(crate) fn crc_of(before: Option<Link>) -> Option<u16>
 
 /// Returns the number of the frame after `before`, and writes its CRCs to `out`, whose old contents are lost. If its
 /// CRC_0 would equal the one before, the number is incremented once more, and only then the CRCs are made twice.
+#[inline(always)]
 pub(crate) fn number_with_crcs(
     before: Option<Link>,
     last: u16,

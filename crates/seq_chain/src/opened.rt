@@ -29,6 +29,7 @@ pub enum Opened<'a> {
 /// - `Drop(Length)` if it isn't a frame with `l` safe data bytes, `Drop(Repeat)` if `repeats` is true;
 /// - code 02h if its first byte is that of no command;
 /// - for a Reset frame 03h if the connection id isn't 0, 04h if a CRC is wrong, 07h if a byte after the code isn't 0.
+#[inline(always)]
 pub fn open<'a>(frame: &'a [u8], l: usize, repeats: bool) -> Opened<'a>
     requires { IsTrue (is_length l) }
     ensures is { result ≡ opened l repeats frame.now }

@@ -1,9 +1,9 @@
 //! Reset frames, which don't belong to the chain: no frame was taken before, the connection id is 0, the number 1.
 
-ghost use Rattle.std.specs.Prelude.{◌≡◌, ◌<◌, ◌≤◌, length, IsTrue};
+ghost use Rattle.std.specs.Prelude.{◌≡◌, length, IsTrue};
 ghost use Rattle.fsoe_base.specs.Command.{command_byte};
 ghost use Rattle.fsoe_base.specs.Lengths.{is_length, group_count};
-ghost use Rattle.seq_chain.specs.Reset.{reset_load, reset_crcs};
+ghost use Rattle.seq_chain.specs.Reset.{reset_crcs};
 ghost use Rattle.seq_chain.specs.Reset as reset;
 
 use crate::compare::crcs_are;
@@ -14,14 +14,18 @@ use fsoe_frame::FrameView;
 
 /// Writes the Reset frame with this code and `l` safe data bytes, 1 or an even number from 2 to 126, to `out`, whose
 /// old contents are lost. The data are the code and zeros.
+#[cold]
+#[inline(never)]
 pub fn reset_frame(code: Code, l: usize, out: &mut FrameBuf)
     requires { IsTrue (is_length l) }
     ensures { out.new ≡ reset.reset_frame code.0 l }
 {
-    let load = data_of(code, l);
+    let mut data = [0; MOST_DATA];
+    data[0] = code.0;
+    let load = &data[..l];
     let mut crcs = ArrayVec::new();
-    crcs_of_reset(load.bytes(), &mut crcs);
-    fsoe_frame::write(Command::Reset, load.bytes(), crcs.as_slice(), 0, out);
+    crcs_of_reset(load, &mut crcs);
+    fsoe_frame::write(Command::Reset, load, crcs.as_slice(), 0, out);
 }
 
 /// Returns the code of a frame whose command is Reset. The first refusal counts: 03h if the connection id isn't 0, 04h
@@ -53,18 +57,4 @@ fn crcs_of_reset(load: &[u8], out: &mut Crcs)
     ensures count { length out.new.items ≡ group_count (length load.now) }
 {
     crcs_into(0, 0, 1, Command::Reset.byte(), load, out);
-}
-
-/// The data of a Reset frame.
-fn data_of(code: Code, l: usize) -> Image
-    requires least { 0 < l }
-    requires most { l ≤ MOST_DATA }
-    ensures { result ≡ reset_load code.0 l }
-{
-    let mut load = Image::new();
-    load.push(code.0);
-    for _ in 1..l {
-        load.push(0);
-    }
-    load
 }

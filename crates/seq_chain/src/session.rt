@@ -70,6 +70,7 @@ pub fn is_repeat(session: Option<&Session>, frame: &[u8]) -> bool
 /// Tests a frame with the session of the receiver, or with none. Returns the values to store when the frame is taken.
 /// The first refusal counts: 01h if the command isn't allowed, 03h if the connection id is wrong, 04h if a CRC is
 /// wrong.
+#[inline(never)]
 pub fn test_session(
     session: Option<&Session>,
     is_allowed: bool,
@@ -86,12 +87,9 @@ pub fn test_session(
     if !has_conn {
         return Err(Code::WRONG_CONNECTION);
     }
-    let link = match session {
-        None => Chain::new().test_frame(frame),
-        Some(session) => session.chain.test_frame(frame),
+    let chain = match session {
+        None => Chain::new(),
+        Some(session) => session.chain,
     };
-    match link {
-        None => Err(Code::WRONG_CRC),
-        Some(link) => Ok(link),
-    }
+    chain.test_frame(frame).ok_or(Code::WRONG_CRC)
 }

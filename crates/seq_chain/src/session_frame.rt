@@ -62,21 +62,21 @@ impl<'a> UnreadFrame<'a> {
     }
 
     /// Writes the command and the safe data to `did.took`, whose old contents are lost, and changes no other field.
+    #[inline(never)]
     pub fn took_into(&self, did: &mut Did)
         ensures value { did.new.took ≡ Some (record { command = self.now.command; load = self.now.frame.load }) }
         ensures valid { IsTrue (is_length (length self.now.frame.load)) }
         ensures groups { length self.now.frame.crcs ≡ group_count (length self.now.frame.load) }
     {
+        if did.took.is_none() {
+            did.took = Some(Took {
+                command: self.command,
+                load: Image::new(),
+            });
+        }
         if let Some(took) = &mut did.took {
             took.command = self.command;
             self.view.load_into(&mut took.load);
-        } else {
-            let mut took = Took {
-                command: self.command,
-                load: Image::new(),
-            };
-            self.view.load_into(&mut took.load);
-            did.took = Some(took);
         }
     }
 }

@@ -1,0 +1,15 @@
+use Rattle.std.proofs.Common.{◌≡◌, ◌≤◌, ◌∷◌, ◌∙◌, ℕ, zero, suc, List, take, replicate, ap, refl, arith}
+use Rattle.std.proofs.lemmas.List.{take-replicate}
+use Rattle.fsoe_frame.specs.Layout.{layout}
+use Rattle.seq_chain.specs.Reset.{reset_load, reset_crcs}
+use Rattle.seq_chain.proofs.reset.reset_frame.Goals as goal
+
+load-is : (code l : ℕ) → l ≤ 126 → take l (code ∷ replicate 125 0) ≡ reset_load code l
+load-is code zero h = refl
+load-is code (suc n) h = ap (λ (rest : List ℕ). code ∷ rest) (take-replicate n 125 0 (omega (arith, h)))
+
+pub returns : goal.returns
+returns c =
+    c.write.ensures
+    ∙ ap (λ (crcs : List ℕ). layout 42 (take c.args.l (c.args.code.0 ∷ replicate 125 0)) crcs 0) (c.as_slice.ensures.value ∙ c.crcs_of_reset.ensures.items)
+    ∙ ap (λ (load : List ℕ). layout 42 load (reset_crcs load) 0) (load-is c.args.code.0 c.args.l (grind (arith, c.requires)))
