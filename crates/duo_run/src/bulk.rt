@@ -6,6 +6,7 @@ ghost use Rattle.exchange_model.specs.Schedules.{IsWorld};
 ghost use Rattle.file_run.specs.Report.{other_line};
 ghost use Rattle.duo_run.specs.Summary.{summary_of};
 ghost use Rattle.duo_run.specs.Bulk.{entries_of, ends_line, state_line, number_line, summary_lines, RanBulk};
+ghost use Rattle.file_run.specs.Outside.{told};
 
 use crate::acting::Answer;
 use crate::coming::end_of;
@@ -114,12 +115,7 @@ fn write_summary(
 /// The status is `Ok` with place 0, or `Other` with the number of the first `other` entry. `Write` has the bytes
 /// written, only if the sink failed.
 pub fn run_bulk<K: Sink>(number: u64, events: u64, sink: &mut K) -> Ended
-    ensures { RanBulk number events result (record {
-      before = K.written sink.old;
-      after = K.written sink.new;
-      faults_before = K.faults sink.old;
-      faults_after = K.faults sink.new;
-    }) }
+    ensures { RanBulk number events result (told K.written K.faults sink.old sink.new) }
 {
     let (summary, other) = summarize(number, events);
     let mut text = LineText::new();

@@ -9,6 +9,7 @@ ghost use Rattle.schedule_file.specs.Input.{AtEnd, said_after};
 ghost use Rattle.file_run.specs.Halt.{Blames, Goes, Stalls};
 ghost use Rattle.duo_run.specs.Convert.{RanConvert, event_text, last_text};
 ghost use Rattle.duo_run.specs.Converting.{FindsTaken, Takes, event_taken, header_piece, header_taken, later_taken, left_to_take, line_taken, read_none};
+ghost use Rattle.file_run.specs.Outside.{told};
 
 use file_run::{Halt, Refusal, close, halt_run, next_line, send_before_read, write_failed};
 use fsoe_io::{Ended, LineReader, LineText, Output, Sink, Source, Status};
@@ -194,10 +195,7 @@ fn next_taken<S: Source>(
 /// the number of the refused line. `Read` has the complete lines read, only if the source failed; `Write` has the bytes
 /// written, only if the sink failed.
 pub fn run_convert<S: Source, K: Sink>(source: &mut S, sink: &mut K) -> Ended
-    ensures { RanConvert result (record {
-      source = record { before = S.left source.old; after = S.left source.new; faults_before = S.faults source.old; faults_after = S.faults source.new };
-      sink = record { before = K.written sink.old; after = K.written sink.new; faults_before = K.faults sink.old; faults_after = K.faults sink.new };
-    }) }
+    ensures { RanConvert result (record { source = told S.left S.faults source.old source.new; sink = told K.written K.faults sink.old sink.new }) }
 {
     let mut reader = LineReader::new();
     let mut output = Output::new();

@@ -8,6 +8,7 @@ ghost use Rattle.file_run.specs.Machine.{TakesEvent, MayCome, EndsStopped};
 ghost use Rattle.file_run.specs.Report.{events_line, other_line};
 ghost use Rattle.duo_run.specs.Replay.{line_of, told_line, replay_reporting, RanPair};
 ghost use Rattle.duo_run.specs.Duo.{ReplayStands};
+ghost use Rattle.file_run.specs.Outside.{told};
 
 use crate::acting::Answer;
 use crate::coming::end_of;
@@ -158,10 +159,7 @@ impl Machine for PairRun {
 /// refused line. `Read` has the complete lines read, only if the source failed; `Write` has the bytes written, only if
 /// the sink failed.
 pub fn run_pair<S: Source, K: Sink>(source: &mut S, sink: &mut K) -> Ended
-    ensures { RanPair result (record {
-      source = record { before = S.left source.old; after = S.left source.new; faults_before = S.faults source.old; faults_after = S.faults source.new };
-      sink = record { before = K.written sink.old; after = K.written sink.new; faults_before = K.faults sink.old; faults_after = K.faults sink.new };
-    }) }
+    ensures { RanPair result (record { source = told S.left S.faults source.old source.new; sink = told K.written K.faults sink.old sink.new }) }
 {
     run_over::<PairRun, S, K>(&mut (), source, sink)
 }

@@ -1,5 +1,6 @@
 //! The replay of an input of either version: of one pair, or of several.
 ghost use Rattle.duo_run.specs.Version.{RanReplay};
+ghost use Rattle.file_run.specs.Outside.{told};
 
 use crate::pair_run::PairRun;
 use crate::pairs_run::PairsRun;
@@ -21,10 +22,7 @@ const TITLE: &[u8] = b"fsoe 2 pairs";
 /// The status is that of `run_pair`, and the place of `Other` is the smallest event with an `other` entry. For several
 /// pairs it is `Memory` with place 0 if there was none before the first event; then nothing was written.
 pub fn run_replay<S: Source, K: Sink>(mut alloc: Global, source: &mut S, sink: &mut K) -> Ended
-    ensures { RanReplay result (record {
-      source = record { before = S.left source.old; after = S.left source.new; faults_before = S.faults source.old; faults_after = S.faults source.new };
-      sink = record { before = K.written sink.old; after = K.written sink.new; faults_before = K.faults sink.old; faults_after = K.faults sink.new };
-    }) }
+    ensures { RanReplay result (record { source = told S.left S.faults source.old source.new; sink = told K.written K.faults sink.old sink.new }) }
 {
     run_either::<PairsRun, PairRun, S, K>(TITLE, &mut alloc, &mut (), source, sink)
 }

@@ -12,6 +12,10 @@ pub record Told : Type 0 where
   pub faults_before : ℕ
   pub faults_after : ℕ
 
+-- what a source or a sink tells of its bytes and of its faults, as it is before a run and after it
+abbrev pub told : {A : Type 0} → (A → Option (List ℕ)) → (A → ℕ) → A → A → Told
+told bytes faults before after = record { before = bytes before; after = bytes after; faults_before = faults before; faults_after = faults after }
+
 -- a source tells the bytes that are to come from it, a sink those that were written to it
 pub record Outside : Type 0 where
   pub source : Told

@@ -2,7 +2,7 @@
 ghost use Rattle.std.specs.Prelude.{◌≡◌};
 ghost use Rattle.file_run.specs.ByTitle.{ByTitle};
 ghost use Rattle.file_run.specs.Running.{Leaves};
-ghost use Rattle.file_run.specs.Outside.{Outside};
+ghost use Rattle.file_run.specs.Outside.{Outside, told};
 ghost use Rattle.file_run.specs.Ran.{RanOver};
 
 use crate::line::next_line;
@@ -20,15 +20,9 @@ pub fn run_either<T: Machine, M: Machine, S: Source, K: Sink>(
     source: &mut S,
     sink: &mut K,
 ) -> Ended
-    ensures ran { let outside : Outside = record {
-      source = record { before = S.left source.old; after = S.left source.new; faults_before = S.faults source.old; faults_after = S.faults source.new };
-      sink = record { before = K.written sink.old; after = K.written sink.new; faults_before = K.faults sink.old; faults_after = K.faults sink.new };
-    } in
+    ensures ran { let outside : Outside = record { source = told S.left S.faults source.old source.new; sink = told K.written K.faults sink.old sink.new } in
         ByTitle title.now (S.left source.old) (RanOver (T.reporting titled.old) result outside) (RanOver (M.reporting plain.old) result outside) }
-    ensures leaves { let outside : Outside = record {
-      source = record { before = S.left source.old; after = S.left source.new; faults_before = S.faults source.old; faults_after = S.faults source.new };
-      sink = record { before = K.written sink.old; after = K.written sink.new; faults_before = K.faults sink.old; faults_after = K.faults sink.new };
-    } in
+    ensures leaves { let outside : Outside = record { source = told S.left S.faults source.old source.new; sink = told K.written K.faults sink.old sink.new } in
         ByTitle title.now (S.left source.old)
         ((plain.new ≡ plain.old)
         × Leaves (titled.new ≡ titled.old) (T.reporting titled.old) (λ h log text. (v : T) × T.stands titled.old v titled.new h log text) (T.closes titled.old titled.new) result outside)

@@ -5,6 +5,7 @@ ghost use Rattle.fsoe_io.specs.Output.{Puts};
 ghost use Rattle.fsoe_io.specs.Sink.{most_waiting};
 ghost use Rattle.file_run.specs.Ending.{Writes};
 ghost use Rattle.file_run.specs.Machine.{IsStanding, Keeps};
+ghost use Rattle.file_run.specs.Outside.{told};
 
 use crate::machine::Machine;
 use crate::stop::{close, write_failed};
@@ -72,12 +73,7 @@ pub(crate) fn close_run<M: Machine, K: Sink>(
 ) -> Ended
     requires stands { (first : M.Handed) × IsStanding (M.stands first machine.old handed.now) }
     requires room { output.old.sent + length output.old.bytes + 1024 * M.parts machine.old handed.now < 2 ^ 62 }
-    ensures writes { Writes output.old.sent (output.old.bytes ++ (text.old ++ M.waits machine.old handed.now)) ended result (record {
-      before = K.written sink.old;
-      after = K.written sink.new;
-      faults_before = K.faults sink.old;
-      faults_after = K.faults sink.new;
-    }) }
+    ensures writes { Writes output.old.sent (output.old.bytes ++ (text.old ++ M.waits machine.old handed.now)) ended result (told K.written K.faults sink.old sink.new) }
     ensures later { K.faults sink.old ≤ K.faults sink.new }
 {
     match put_text(machine, handed, text, output, sink) {

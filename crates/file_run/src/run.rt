@@ -4,7 +4,7 @@ ghost use Rattle.fsoe_io.specs.Line.{IsLine, most_held};
 ghost use Rattle.file_run.specs.Ending.{Writes};
 ghost use Rattle.file_run.specs.Running.{Leaves, LeavesDone, HasRead, Runs, Start, StepsTo, since};
 ghost use Rattle.file_run.specs.NextLine.{from_line};
-ghost use Rattle.file_run.specs.Outside.{Outside};
+ghost use Rattle.file_run.specs.Outside.{Outside, told};
 ghost use Rattle.file_run.specs.Ran.{RanOver};
 ghost use Rattle.file_run.specs.Stop.{halted_by, last_of};
 
@@ -30,12 +30,7 @@ struct Run<M, G, L> {
 
 /// How a run ends that began no machine.
 pub(crate) fn end_unread<K: Sink>(sink: &mut K, why: Halt) -> Ended
-    ensures writes { Writes 0 (last_of why) (halted_by why) result (record {
-      before = K.written sink.old;
-      after = K.written sink.new;
-      faults_before = K.faults sink.old;
-      faults_after = K.faults sink.new;
-    }) }
+    ensures writes { Writes 0 (last_of why) (halted_by why) result (told K.written K.faults sink.old sink.new) }
     ensures later { K.faults sink.old ≤ K.faults sink.new }
 {
     halt(&mut Output::new(), sink, why)
@@ -130,7 +125,7 @@ pub(crate) fn run_on<M: Machine, S: Source, K: Sink>(
     requires held { length reader.old.bytes ≤ most_held }
     ensures { let outside : Outside = record {
       source = record { before = from_line reader.old (S.left source.old); after = S.left source.new; faults_before = S.faults source.old; faults_after = S.faults source.new };
-      sink = record { before = K.written sink.old; after = K.written sink.new; faults_before = K.faults sink.old; faults_after = K.faults sink.new };
+      sink = told K.written K.faults sink.old sink.new;
     } in
         RanOver (M.reporting handed.old) result outside
         × Leaves (handed.new ≡ handed.old) (M.reporting handed.old) (λ h log text. (v : M) × M.stands handed.old v handed.new h log text) (M.closes handed.old handed.new) result outside }
@@ -172,13 +167,10 @@ pub fn run_over<M: Machine, S: Source, K: Sink>(
     source: &mut S,
     sink: &mut K,
 ) -> Ended
-    ensures ran { RanOver (M.reporting handed.old) result (record {
-      source = record { before = S.left source.old; after = S.left source.new; faults_before = S.faults source.old; faults_after = S.faults source.new };
-      sink = record { before = K.written sink.old; after = K.written sink.new; faults_before = K.faults sink.old; faults_after = K.faults sink.new };
-    }) }
+    ensures ran { RanOver (M.reporting handed.old) result (record { source = told S.left S.faults source.old source.new; sink = told K.written K.faults sink.old sink.new }) }
     ensures leaves { Leaves (handed.new ≡ handed.old) (M.reporting handed.old) (λ h log text. (v : M) × M.stands handed.old v handed.new h log text) (M.closes handed.old handed.new) result (record {
-      source = record { before = S.left source.old; after = S.left source.new; faults_before = S.faults source.old; faults_after = S.faults source.new };
-      sink = record { before = K.written sink.old; after = K.written sink.new; faults_before = K.faults sink.old; faults_after = K.faults sink.new };
+      source = told S.left S.faults source.old source.new;
+      sink = told K.written K.faults sink.old sink.new;
     }) }
 {
     M::laws();

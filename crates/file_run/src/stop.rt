@@ -5,6 +5,7 @@ ghost use Rattle.fsoe_io.specs.Line.{IsLine};
 ghost use Rattle.fsoe_io.specs.Output.{Puts};
 ghost use Rattle.file_run.specs.Ending.{Writes};
 ghost use Rattle.file_run.specs.Stop.{halted_by, last_of};
+ghost use Rattle.file_run.specs.Outside.{told};
 
 use crate::halt::Halt;
 use crate::report::write_refusal;
@@ -45,12 +46,7 @@ pub fn write_failed(output: &Output) -> Ended
 pub fn close<K: Sink>(output: &mut Output, sink: &mut K, last: &[u8], ended: Ended) -> Ended
     requires short { length last.now ≤ 1024 }
     requires count { output.old.sent + length output.old.bytes < 2 ^ 63 }
-    ensures writes { Writes output.old.sent (output.old.bytes ++ last.now) ended result (record {
-      before = K.written sink.old;
-      after = K.written sink.new;
-      faults_before = K.faults sink.old;
-      faults_after = K.faults sink.new;
-    }) }
+    ensures writes { Writes output.old.sent (output.old.bytes ++ last.now) ended result (told K.written K.faults sink.old sink.new) }
     ensures later { K.faults sink.old ≤ K.faults sink.new }
 {
     match output.finish(sink, last) {
@@ -62,12 +58,7 @@ pub fn close<K: Sink>(output: &mut Output, sink: &mut K, last: &[u8], ended: End
 /// Ends a run of whose input no more is read.
 pub fn halt<K: Sink>(output: &mut Output, sink: &mut K, why: Halt) -> Ended
     requires { output.old.sent + length output.old.bytes < 2 ^ 63 }
-    ensures writes { Writes output.old.sent (output.old.bytes ++ last_of why) (halted_by why) result (record {
-      before = K.written sink.old;
-      after = K.written sink.new;
-      faults_before = K.faults sink.old;
-      faults_after = K.faults sink.new;
-    }) }
+    ensures writes { Writes output.old.sent (output.old.bytes ++ last_of why) (halted_by why) result (told K.written K.faults sink.old sink.new) }
     ensures later { K.faults sink.old ≤ K.faults sink.new }
 {
     match why {
@@ -103,12 +94,7 @@ pub fn halt<K: Sink>(output: &mut Output, sink: &mut K, why: Halt) -> Ended
 
 /// Writes a whole report. The run ends so; or with `Write` and the bytes written, where the sink fails.
 pub fn write_report<K: Sink>(sink: &mut K, report: &[u8], ended: Ended) -> Ended
-    ensures writes { Writes 0 report.now ended result (record {
-      before = K.written sink.old;
-      after = K.written sink.new;
-      faults_before = K.faults sink.old;
-      faults_after = K.faults sink.new;
-    }) }
+    ensures writes { Writes 0 report.now ended result (told K.written K.faults sink.old sink.new) }
     ensures later { K.faults sink.old ≤ K.faults sink.new }
 {
     match put_all(sink, report) {

@@ -1,5 +1,6 @@
 //! The run over a node file.
 ghost use Rattle.node_runner.specs.Ran.{RanNode};
+ghost use Rattle.file_run.specs.Outside.{told};
 
 use crate::node::Node;
 use file_run::run_over;
@@ -14,10 +15,7 @@ use fsoe_io::{Ended, Sink, Source};
 /// The status is `Ok` with place 0. `Line` has the number of the refused line. `Read` has the complete lines read, only
 /// if the source failed; `Write` has the bytes written, only if the sink failed.
 pub fn run_node<S: Source, K: Sink>(mut end: End, source: &mut S, sink: &mut K) -> Ended
-    ensures { RanNode end result (record {
-      source = record { before = S.left source.old; after = S.left source.new; faults_before = S.faults source.old; faults_after = S.faults source.new };
-      sink = record { before = K.written sink.old; after = K.written sink.new; faults_before = K.faults sink.old; faults_after = K.faults sink.new };
-    }) }
+    ensures { RanNode end result (record { source = told S.left S.faults source.old source.new; sink = told K.written K.faults sink.old sink.new }) }
 {
     run_over::<Node, S, K>(&mut end, source, sink)
 }

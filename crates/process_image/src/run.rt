@@ -5,6 +5,7 @@ ghost use Rattle.process_image.specs.Ran.{RanImage};
 ghost use Rattle.process_image.specs.Telling.{DoesEvent, FitsImages};
 ghost use Rattle.process_image.specs.declared.header.TheConstants.{MOST_SIZE};
 ghost use Rattle.file_run.specs.declared.waiting.TheConstants.{MOST_TEXT};
+ghost use Rattle.file_run.specs.Outside.{told};
 
 use crate::event::{ImageEvent, MOST_EVENTS};
 use crate::event_line::{SlotEnd, read_image_line};
@@ -255,10 +256,7 @@ impl Machine for ImageRun {
 /// if the source failed; `Write` has the bytes written, only if the sink failed. `Memory` has place 0, if there was
 /// none before the first event; then nothing was written.
 pub fn run_image<S: Source, K: Sink>(mut alloc: Global, source: &mut S, sink: &mut K) -> Ended
-    ensures { RanImage result (record {
-      source = record { before = S.left source.old; after = S.left source.new; faults_before = S.faults source.old; faults_after = S.faults source.new };
-      sink = record { before = K.written sink.old; after = K.written sink.new; faults_before = K.faults sink.old; faults_after = K.faults sink.new };
-    }) }
+    ensures { RanImage result (record { source = told S.left S.faults source.old source.new; sink = told K.written K.faults sink.old sink.new }) }
 {
     run_over::<ImageRun, S, K>(&mut alloc, source, sink)
 }

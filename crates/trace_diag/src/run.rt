@@ -1,5 +1,6 @@
 //! The run over a recorded trace.
 ghost use Rattle.trace_diag.specs.Ran.{RanDiagnose};
+ghost use Rattle.file_run.specs.Outside.{told};
 
 use crate::diagnosis::Diagnosis;
 use file_run::run_over;
@@ -14,10 +15,7 @@ use fsoe_io::{Ended, Sink, Source};
 /// of the refused line. `Read` has the complete lines read, only if the source failed; `Write` has the bytes written,
 /// only if the sink failed.
 pub fn run_diagnose<S: Source, K: Sink>(source: &mut S, sink: &mut K) -> Ended
-    ensures { RanDiagnose result (record {
-      source = record { before = S.left source.old; after = S.left source.new; faults_before = S.faults source.old; faults_after = S.faults source.new };
-      sink = record { before = K.written sink.old; after = K.written sink.new; faults_before = K.faults sink.old; faults_after = K.faults sink.new };
-    }) }
+    ensures { RanDiagnose result (record { source = told S.left S.faults source.old source.new; sink = told K.written K.faults sink.old sink.new }) }
 {
     run_over::<Diagnosis, S, K>(&mut (), source, sink)
 }

@@ -30,7 +30,4 @@ loop-i-preserved c =
     }
 
 pub sample-requires : goal.sample-requires
-sample-requires c =
-    let i : ℕ = c.loop-i.i in
-    let seat : Seat = slice_index_or c.loop-i.seats i c.index-seats-i.result in
-    c.loop-i.invariant.sound i seat (omega arith) (slice_get-get_or c.loop-i.seats i c.index-seats-i.result (omega arith))
+sample-requires c = c.loop-i.invariant.sound c.loop-i.i _ (omega arith) (slice_get-get_or c.loop-i.seats c.loop-i.i c.index-seats-i.result (omega arith))

@@ -16,10 +16,7 @@ loop-i-init c = record {
 }
 
 pub tick-requires : goal.tick-requires
-tick-requires c =
-    let i : ℕ = c.loop-i.i in
-    let seat : Seat = slice_index_or c.loop-i.seats i c.index-seats-i.result in
-    c.loop-i.invariant.send i seat (omega arith) (slice_get-get_or c.loop-i.seats i c.index-seats-i.result (omega arith))
+tick-requires c = c.loop-i.invariant.send c.loop-i.i _ (omega arith) (slice_get-get_or c.loop-i.seats c.loop-i.i c.index-seats-i.result (omega arith))
 
 pub loop-i-preserved : goal.loop-i-preserved
 loop-i-preserved c =

@@ -17,10 +17,7 @@ loop-i-init c = record {
 }
 
 pub sample-requires-clause-sound : goal.sample-requires-clause-sound
-sample-requires-clause-sound c =
-    let i : ℕ = c.loop-i.i in
-    let seat : Seat = slice_index_or c.loop-i.seats i c.index-seats-i.result in
-    c.loop-i.invariant.sound i seat (omega arith) (slice_get-get_or c.loop-i.seats i c.index-seats-i.result (omega arith))
+sample-requires-clause-sound c = c.loop-i.invariant.sound c.loop-i.i _ (omega arith) (slice_get-get_or c.loop-i.seats c.loop-i.i c.index-seats-i.result (omega arith))
 
 pub loop-i-preserved : goal.loop-i-preserved
 loop-i-preserved c =
