@@ -50,7 +50,7 @@ pub fn outputs()
 
 /// The drive of an emergency stop whose acknowledgement comes as two bits is on exactly where the acknowledgement was
 /// seen released, then pressed, then released again since the stop was last pressed or the drive last lost, or since
-/// the first cycle. So it goes on at a release, and an acknowledgement that wasn't seen pressed, or wasn't seen
+/// the first cycle. So it is switched on at a release, and an acknowledgement that wasn't seen pressed, or wasn't seen
 /// released, leaves it off.
 #[tactic(auto, unfolding(crate::specs::Acknowledged::StopRow))]
 pub fn acknowledged()

@@ -17,7 +17,7 @@ use Rattle.black_channel.specs.declared.channel.Place.{Place}
 use Rattle.plant_conf.specs.declared.conf.LinkConf.{LinkConf}
 use Rattle.multi_master.specs.Standing as multi
 use Rattle.multi_master.specs.Standing.{MultiValue}
-use Rattle.multi_master.proofs.Places.{map_set, same_length}
+use Rattle.multi_master.proofs.Places.{Placed, map_set, same_length}
 use Rattle.plant_model.specs.Uses.{Use, Trace}
 use Rattle.plant_model.specs.Gifts.{place_of, sent_uses, each_uses}
 use Rattle.plant_core.specs.Doing.{SlaveActs, MasterActs, one_each, one_each_to, frames_pushed, AllActed, ActedTo, HaveParts}
@@ -171,14 +171,6 @@ noted_less most more vs le h = All-weaker (λ (z : LinkView). z.monitor.noted �
 
 pub fixed_set : (vs : List LinkView) (i : ℕ) (old new : LinkView) → slice_get vs i ≡ Some old → fixed_of new ≡ fixed_of old → fixed_in (slice_set vs i new) ≡ fixed_in vs
 fixed_set vs i old new at e = map_set fixed_of vs i old new at e
-
--- a connection's place by its number
-pub record Placed (vs : List LinkView) (n place : ℕ) (v : LinkView) : Type 0 where
-  pub number : n ≡ suc place
-  pub at : slice_get vs place ≡ Some v
-
-pub placed : (vs : List LinkView) (len n from : ℕ) (v : LinkView) → len ≡ length vs → from ≡ n → 1 ≤ n → n ≤ len → v ≡ slice_index_or vs (from - 1) v → Placed vs n (from - 1) v
-placed vs len n from v count same first last e = record { number = omega arith; at = slice_get_read vs len (from - 1) v count (omega arith) e }
 
 pub kept_fits : (vs : List LinkView) (n place : ℕ) (v : LinkView) (len : ℕ) → Placed vs n place v → IsSomeAnd (lengths_at (lengths_kept vs) n) (λ ends. len ≡ ends.slave) → len ≡ v.slave.kit.settings.lengths.slave
 kept_fits vs n place v len p h =

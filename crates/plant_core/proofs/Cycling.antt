@@ -8,13 +8,10 @@ use Rattle.fsoe_base.specs.declared.command.End.TheVariants as side
 use Rattle.fsoe_base.specs.declared.did.Did.{Did}
 use Rattle.param_load.specs.declared.entry.Entry.{Entry}
 use Rattle.param_load.specs.declared.entry.Move.TheVariants as move
-use Rattle.param_load.specs.declared.master_settings.MasterSettings.{MasterSettings}
 use Rattle.black_channel.specs.Told.{Told}
 use Rattle.black_channel.specs.declared.channel.Parcel.{Parcel}
 use Rattle.plant_conf.specs.declared.conf.LinkConf.{LinkConf}
 use Rattle.end_model.specs.Deed.{Deed}
-use Rattle.end_model.specs.Setup.{OfMaster}
-use Rattle.end_model.specs.Step.{step as next_step}
 use Rattle.exchange_model.specs.Ends.{peer}
 use Rattle.exchange_model.specs.Monitor.{HasParts}
 use Rattle.exchange_model.specs.World.{deeds, deed_in, frames_of}
@@ -22,6 +19,7 @@ use Rattle.multi_master.specs.Calls.{AppView, Call, Deliver, Tick, ChangeApp, Me
 use Rattle.multi_master.specs.Connection.{Connection, next_deed}
 use Rattle.multi_master.specs.Standing as multi
 use Rattle.multi_master.specs.Standing.{MultiView, StandsFor, AnswersFrame, AnswersTick, changed, newest_at}
+use Rattle.multi_master.proofs.Places.{Placed}
 use Rattle.plant_model.specs.declared.event.PlantEvent.TheVariants as event
 use Rattle.plant_model.specs.declared.journal.JournalStep.{JournalStep}
 use Rattle.plant_model.specs.declared.journal.JournalStep.TheVariants as step
@@ -35,7 +33,7 @@ use Rattle.plant_core.specs.Standing.{PlantView, LinkIs, LinksAre}
 use Rattle.plant_core.proofs.Acting.{trace_append}
 use Rattle.plant_model.proofs.Growing.{IsOne, pair_more, pair_own, pushes_each, no_entry}
 use Rattle.plant_core.proofs.Linking.{from_one, each_at, each_map}
-use Rattle.plant_model.proofs.Masters.{mastered, offers_by}
+use Rattle.plant_model.proofs.Masters.{master_with, mastered, offers_by}
 use Rattle.plant_core.proofs.Offering.{offers_send}
 use Rattle.plant_core.proofs.OneDeed.{one_links, one_pushes, quiet_pushes}
 
@@ -72,13 +70,11 @@ tick_parts : (b : Beginning) (done : List Act) (m : MultiView) (dids : List Did)
     → HaveParts b.links (master_next (journal b done)) dids frames
 tick_parts b done m dids frames h answers = record {
   each = λ place link did sent is did_at sent_at.
-      let own = mastered b done place link is in
-      let c : Connection = own.there in
-      let did_is : did ≡ (next_deed move.Tick c).did = some_same (λ c. (next_deed move.Tick c).did) (masters b done).connections place c did dids (answers.dids (settings b) b.app (calls b done) h) own.is did_at in
-      let sent_is : sent ≡ (next_deed move.Tick c).sent = some_same (λ c. (next_deed move.Tick c).sent) (masters b done).connections place c sent frames (answers.sent (settings b) b.app (calls b done) h) own.is sent_at in
-      let same : next_step (OfMaster link.master) (deeds side.Master (pair link (suc place) (journal b done))) move.Tick ≡ next_deed move.Tick c =
-      ap₂ (λ (s : MasterSettings) (e : List Deed). next_step (OfMaster s) e move.Tick) (sym own.settings_are) own.deeds_are in
-      record { parts = record { end_is = refl; came_is = refl; did_is = ap (λ (x : Deed). x.did) same ∙ sym did_is; sent_is = ap (λ (x : Deed). x.sent) same ∙ sym sent_is }; tick_is = refl };
+      let c : Connection = master_with link (pair link (suc place) (journal b done)) in
+      let at : slice_get (masters b done).connections place ≡ Some c = mastered b done place link is in
+      let did_is : did ≡ (next_deed move.Tick c).did = some_same (λ c. (next_deed move.Tick c).did) (masters b done).connections place c did dids (answers.dids (settings b) b.app (calls b done) h) at did_at in
+      let sent_is : sent ≡ (next_deed move.Tick c).sent = some_same (λ c. (next_deed move.Tick c).sent) (masters b done).connections place c sent frames (answers.sent (settings b) b.app (calls b done) h) at sent_at in
+      record { parts = record { end_is = refl; came_is = refl; did_is = sym did_is; sent_is = sym sent_is }; tick_is = refl };
 }
 
 tick_sends : (link : LinkConf) (k : ℕ) (steps : List JournalStep) (at : End) → frames_of at (pair link k (steps ++ step.Script event.Tick ∷ [])) ≡ frames_of at (master_next steps k link ∷ slave_next steps k link ∷ pair link k steps)
@@ -171,13 +167,12 @@ pub record FrameChange (old new : PlantView) (n : ℕ) (frame : List ℕ) (befor
   pub did : Did
   pub sent : List ℕ
   pub place : ℕ
-  pub number : n ≡ suc place
   pub was : LinkView
   pub is : LinkView
   pub follows : multi.Follows old.master (Deliver n frame) new.master
   pub answers : AnswersFrame old.master n frame did sent
   pub offers : OffersNoted new.master old.links mid old.journal js
-  pub at : slice_get mid place ≡ Some was
+  pub placed : Placed mid n place was
   pub acts : MasterActs n false frame did sent was is before after
   pub cut : is.cut ≡ was.cut
   pub links : new.links ≡ slice_set mid place is
@@ -223,15 +218,14 @@ frame_parts b done old n place frame did sent link steps e is call h answers jou
     let parcel : Parcel = record { to = place_of n side.Master; frame = frame } in
     let act : Act = PullFrom (Some parcel) in
     let x : Entry = next_of side.Master (move.Deliver frame) link (pair link n steps) in
-    let own = mastered b (act ∷ done) place link is in
+    let c : Connection = master_with link (pair link (suc place) (journal b (act ∷ done))) in
     let grown : pair link n (steps ++ step.Pulled parcel ∷ []) ≡ x ∷ pair link n steps = pair_own link steps (step.Pulled parcel) n side.Master (move.Deliver frame) (record { part = λ k. refl }) in
-    let deeds_are : deeds side.Master (x ∷ pair link n steps) ≡ own.there.deeds =
-    sym (ap (deeds side.Master) (ap (λ (js : List JournalStep). pair link n js) journal_is ∙ grown)) ∙ subst (λ (k : ℕ). deeds side.Master (pair link k (journal b (act ∷ done))) ≡ own.there.deeds) (sym e) own.deeds_are in
+    let deeds_are : c.deeds ≡ deed_in x ∷ deeds side.Master (pair link n steps) =
+    ap (λ (k : ℕ). deeds side.Master (pair link k (journal b (act ∷ done)))) (sym e) ∙ ap (deeds side.Master) (ap (pair link n) journal_is ∙ grown) in
     let m : Meant = meant (settings b) b.app (Deliver n frame ∷ calls b done) in
     let meant_is : masters b (act ∷ done) ≡ m = ap (λ (o : Option Call). meant (settings b) b.app (option_to_list o ++ calls b done)) call in
-    let there : connection n m ≡ Some own.there =
-    ap₂ (λ (k : ℕ) (z : Meant). connection k z) e (sym meant_is) ∙ own.is in
-    let same = newest_of m n own.there (deed_in x) (deeds side.Master (pair link n steps)) (record { what = move.Deliver frame; did = did; sent = sent }) there (sym deeds_are) (answers.answers (settings b) b.app (calls b done) h) in
+    let there : connection n m ≡ Some c = ap₂ connection e (sym meant_is) ∙ mastered b (act ∷ done) place link is in
+    let same = newest_of m n c (deed_in x) (deeds side.Master (pair link n steps)) (record { what = move.Deliver frame; did = did; sent = sent }) there deeds_are (answers.answers (settings b) b.app (calls b done) h) in
     record { end_is = refl; came_is = refl; did_is = ap (λ (z : Deed). z.did) same; sent_is = ap (λ (z : Deed). z.sent) same }
 
 pub frame_goes : (old new : PlantView) (n : ℕ) (frame : List ℕ) (before after : Told) → FrameChange old new n frame before after → Delivers old (record { to = place_of n side.Master; frame = frame }) new before after
@@ -246,9 +240,9 @@ frame_goes old new n frame before after c = record {
         let steps : List JournalStep = old.journal in
         let offers : List JournalStep = c.offers.offers in
         let offered : LinksAre b.links cut (pairs_by (steps ++ offers)) c.mid = c.offers.links b.links cut steps h.links in
-        let beside = each_at (LinkIs cut (pairs_by (steps ++ offers))) 1 b.links c.mid c.place n c.was offered c.at (from_one n c.place c.number) in
+        let beside = each_at (LinkIs cut (pairs_by (steps ++ offers))) 1 b.links c.mid c.place n c.was offered c.placed.at (from_one n c.place c.placed.number) in
         let link : LinkConf = beside.link in
-        let found : link_at b.links n ≡ Some link = subst (λ (k : ℕ). link_at b.links k ≡ Some link) (sym c.number) beside.is in
+        let found : link_at b.links n ≡ Some link = subst (λ (k : ℕ). link_at b.links k ≡ Some link) (sym c.placed.number) beside.is in
         let calls_it = master_call b n frame link found in
         let stands = c.follows.stands (settings b) b.app (calls b done) h.master in
         let offers_is = c.offers.offers_are (settings b) b.app (call ∷ calls b done) stands in
@@ -258,12 +252,12 @@ frame_goes old new n frame before after c = record {
         let journal_is : new.journal ≡ journal b (act ∷ done) =
         new_is ∙ append_assoc steps offers (s ∷ []) ∙ ap₂ (λ (a z : List JournalStep). a ++ (z ++ s ∷ [])) h.journal_is offers_is
         ∙ ap (λ (o : Option Call). journal b done ++ (offers_by b o done ++ s ∷ [])) (sym calls_it) in
-        let parts = frame_parts b done old.master n c.place frame c.did c.sent link (steps ++ offers) c.number beside.is calls_it h.master c.answers (sym journal_is ∙ new_is) in
+        let parts = frame_parts b done old.master n c.place frame c.did c.sent link (steps ++ offers) c.placed.number beside.is calls_it h.master c.answers (sym journal_is ∙ new_is) in
         let uses : all_pushes b.links cut (journal b done) (journal b (act ∷ done)) ≡ next_uses n side.Master (move.Deliver frame) link (pair link n (steps ++ offers)) (cut n) =
         ap₂ (all_pushes b.links cut) (sym h.journal_is) (sym journal_is ∙ new_is)
         ∙ later_pushes b.links cut steps (steps ++ offers) ((steps ++ offers) ++ s ∷ [])
         (λ at k l. ap (λ (os : List JournalStep). frames_of at (pair l k (steps ++ os))) offers_is ∙ offers_send (changed (settings b) b.app (call ∷ calls b done)) at l k steps)
-        ∙ one_pushes b.links cut (steps ++ offers) s n side.Master (move.Deliver frame) c.place link one beside.is c.number in
+        ∙ one_pushes b.links cut (steps ++ offers) s n side.Master (move.Deliver frame) c.place link one beside.is c.placed.number in
         let sent_is : next_uses n side.Master (move.Deliver frame) link (pair link n (steps ++ offers)) (cut n) ≡ sent_uses (place_of n side.Slave) c.sent c.was.cut =
         ap₂ (sent_uses (place_of n side.Slave)) parts.sent_is (sym beside.holds.cut) in
         record {
@@ -271,10 +265,10 @@ frame_goes old new n frame before after c = record {
             master = called b act done call new.master calls_it stands;
             links = subst (λ (vs : List LinkView). LinksAre b.links cut (pairs_by new.journal) vs) (sym c.links)
                 (subst (λ (z : List JournalStep). LinksAre b.links cut (pairs_by z) (slice_set c.mid c.place c.is)) (sym new_is)
-                (one_links b.links cut (steps ++ offers) s n side.Master (move.Deliver frame) c.place c.mid c.was c.is offered c.at c.number one
+                (one_links b.links cut (steps ++ offers) s n side.Master (move.Deliver frame) c.place c.mid c.was c.is offered c.placed.at c.placed.number one
                 (λ l is held.
                 c.acts.stands l (pair l n (steps ++ offers)) (next_of side.Master (move.Deliver frame) l (pair l n (steps ++ offers))) held
-                (record { parts = frame_parts b done old.master n c.place frame c.did c.sent l (steps ++ offers) c.number is calls_it h.master c.answers (sym journal_is ∙ new_is); tick_is = refl })) c.cut));
+                (record { parts = frame_parts b done old.master n c.place frame c.did c.sent l (steps ++ offers) c.placed.number is calls_it h.master c.answers (sym journal_is ∙ new_is); tick_is = refl })) c.cut));
             journal_is = journal_is;
           };
           channel = (before, pulled, subst (λ (us : List Use). Trace us before after) (sym (uses ∙ sent_is)) c.acts.channel);

@@ -34,10 +34,11 @@ use Rattle.plant_model.specs.Pair.{next_of, pair, link_at, pairs_by}
 use Rattle.plant_core.specs.Doing.{next_uses, slave_move, SlaveActs, GoesOn, Delivers}
 use Rattle.plant_core.specs.Link.{LinkView, LinkStands, MasterNoted}
 use Rattle.plant_core.specs.Standing.{PlantView, LinkIs, LinksAre, HasDone, lengths_kept}
-use Rattle.plant_model.proofs.Growing.{no_entry, IsOne, pair_one, pair_own, pair_other, with_frame, sent_in, frames_next, pushes_each, each_none, each_one}
-use Rattle.plant_core.proofs.Acting.{Placed, kept_fits}
+use Rattle.plant_model.proofs.Growing.{not_same, no_entry, IsOne, pair_one, pair_own, pair_other, with_frame, sent_in, frames_next, pushes_each, each_none, each_one}
+use Rattle.multi_master.proofs.Places.{Placed}
+use Rattle.plant_core.proofs.Acting.{kept_fits}
 use Rattle.plant_core.proofs.Linking.{from_one, each_at, each_map, each_set}
-use Rattle.plant_model.proofs.Masters.{not_same, offers_by}
+use Rattle.plant_model.proofs.Masters.{offers_by}
 
 -- one entry more at a connection
 pub one_links : (links : List LinkConf) (cut : ℕ → Bool) (steps : List JournalStep) (s : JournalStep) (n : ℕ) (end : End) (what : Move) (place : ℕ) (vs : List LinkView) (old new : LinkView)
@@ -124,10 +125,9 @@ pub record IsAtSlave (b : Beginning) (act : Act) (s : JournalStep) (n : ℕ) (wh
 -- what such an act changes
 pub record SlaveChange (old new : PlantView) (s : JournalStep) (n : ℕ) (what : Move) (before after : Told) : Type 0 where
   pub place : ℕ
-  pub number : n ≡ suc place
   pub was : LinkView
   pub is : LinkView
-  pub at : slice_get old.links place ≡ Some was
+  pub placed : Placed old.links n place was
   pub acts : SlaveActs n what was is before after
   pub cut : is.cut ≡ was.cut
   pub master : new.master ≡ old.master
@@ -144,21 +144,21 @@ pub slave_acted : (b : Beginning) (act : Act) (done : List Act) (old new : Plant
 slave_acted b act done old new s n what before after a c h =
     let cut : ℕ → Bool = λ k. is_cut k (act ∷ done) in
     let steps : List JournalStep = old.journal in
-    let beside = each_at (LinkIs (λ k. is_cut k done) (pairs_by steps)) 1 b.links old.links c.place n c.was h.links c.at (from_one n c.place c.number) in
+    let beside = each_at (LinkIs (λ k. is_cut k done) (pairs_by steps)) 1 b.links old.links c.place n c.was h.links c.placed.at (from_one n c.place c.placed.number) in
     let links : LinksAre b.links cut (pairs_by steps) old.links =
     each_map (LinkIs (λ k. is_cut k done) (pairs_by steps)) (LinkIs cut (pairs_by steps)) 1 b.links old.links h.links (λ k link v p. record { stands = p.stands; cut = p.cut ∙ sym (a.cuts k done) }) in
     let journal_is : new.journal ≡ journal b (act ∷ done) =
     c.journal ∙ ap₂ (λ (xs ys : List JournalStep). xs ++ ys) h.journal_is (sym a.steps) ∙ sym (quiet_journal b act done a.call) in
     let uses : all_pushes b.links cut (journal b done) (journal b (act ∷ done)) ≡ next_uses n side.Slave what beside.link (pair beside.link n steps) c.was.cut =
     ap₂ (all_pushes b.links cut) (sym h.journal_is) (sym journal_is ∙ c.journal)
-    ∙ one_pushes b.links cut steps s n side.Slave what c.place beside.link a.one beside.is c.number
+    ∙ one_pushes b.links cut steps s n side.Slave what c.place beside.link a.one beside.is c.placed.number
     ∙ ap (next_uses n side.Slave what beside.link (pair beside.link n steps)) (a.cuts n done ∙ sym beside.holds.cut) in
     record {
       has_done = record {
         master = quiet_calls b act done new.master a.call (subst (λ (m : MultiView). StandsFor (settings b) b.app m (calls b done)) (sym c.master) h.master);
         links = subst (λ (vs : List LinkView). LinksAre b.links cut (pairs_by new.journal) vs) (sym c.links)
             (subst (λ (js : List JournalStep). LinksAre b.links cut (pairs_by js) (slice_set old.links c.place c.is)) (sym c.journal)
-            (one_links b.links cut steps s n side.Slave what c.place old.links c.was c.is links c.at c.number a.one
+            (one_links b.links cut steps s n side.Slave what c.place old.links c.was c.is links c.placed.at c.placed.number a.one
             (λ link is stands. (c.acts.acts link (pair link n steps) stands).stands) c.cut));
         journal_is = journal_is;
       };
@@ -226,10 +226,9 @@ slave_delivered old new n frame before after c = record {
 -- what the session id of a master changes
 pub record MasterChange (old new : PlantView) (n id : ℕ) : Type 0 where
   pub place : ℕ
-  pub number : n ≡ suc place
   pub was : LinkView
   pub is : LinkView
-  pub at : slice_get old.links place ≡ Some was
+  pub placed : Placed old.links n place was
   pub noted : MasterNoted was false [] nothing [] is
   pub cut : is.cut ≡ was.cut
   pub follows : multi.Follows old.master (Nonce n id) new.master
@@ -244,17 +243,17 @@ master_nonce old new n id t c = record {
       let cut : ℕ → Bool = λ k. is_cut k done in
       let steps : List JournalStep = old.journal in
       let one : IsOne s n side.Master (move.Nonce id) = record { part = λ k. refl } in
-      let beside = each_at (LinkIs cut (pairs_by steps)) 1 b.links old.links c.place n c.was h.links c.at (from_one n c.place c.number) in
+      let beside = each_at (LinkIs cut (pairs_by steps)) 1 b.links old.links c.place n c.was h.links c.placed.at (from_one n c.place c.placed.number) in
       let journal_is : new.journal ≡ journal b (act ∷ done) =
       c.journal ∙ ap (λ (js : List JournalStep). js ++ s ∷ []) h.journal_is in
       let uses : all_pushes b.links cut (journal b done) (journal b (act ∷ done)) ≡ [] =
-      ap₂ (all_pushes b.links cut) (sym h.journal_is) (sym journal_is ∙ c.journal) ∙ one_pushes b.links cut steps s n side.Master (move.Nonce id) c.place beside.link one beside.is c.number in
+      ap₂ (all_pushes b.links cut) (sym h.journal_is) (sym journal_is ∙ c.journal) ∙ one_pushes b.links cut steps s n side.Master (move.Nonce id) c.place beside.link one beside.is c.placed.number in
       record {
         has_done = record {
           master = c.follows.stands (settings b) b.app (calls b done) h.master;
           links = subst (λ (vs : List LinkView). LinksAre b.links cut (pairs_by new.journal) vs) (sym c.links)
               (subst (λ (js : List JournalStep). LinksAre b.links cut (pairs_by js) (slice_set old.links c.place c.is)) (sym c.journal)
-              (one_links b.links cut steps s n side.Master (move.Nonce id) c.place old.links c.was c.is h.links c.at c.number one
+              (one_links b.links cut steps s n side.Master (move.Nonce id) c.place old.links c.was c.is h.links c.placed.at c.placed.number one
               (λ link is stands. c.noted.stands link (pair link n steps) (next_of side.Master (move.Nonce id) link (pair link n steps)) stands (record { parts = record { end_is = refl; came_is = refl; did_is = refl; sent_is = refl }; tick_is = refl })) c.cut));
           journal_is = journal_is;
         };
@@ -265,10 +264,9 @@ master_nonce old new n id t c = record {
 -- what a cut changes
 pub record CutChange (old new : PlantView) (n : ℕ) (cut : Bool) : Type 0 where
   pub place : ℕ
-  pub number : n ≡ suc place
   pub was : LinkView
   pub is : LinkView
-  pub at : slice_get old.links place ≡ Some was
+  pub placed : Placed old.links n place was
   pub cut_is : is ≡ record was { cut = cut }
   pub master : new.master ≡ old.master
   pub links : new.links ≡ slice_set old.links place is
@@ -294,7 +292,7 @@ cut_event old new n cut t c = record {
           master = subst (λ (m : MultiView). StandsFor (settings b) b.app m (calls b done)) (sym c.master) h.master;
           links = subst (λ (vs : List LinkView). LinksAre b.links now (pairs_by new.journal) vs) (sym c.links)
               (subst (λ (js : List JournalStep). LinksAre b.links now (pairs_by js) (slice_set old.links c.place c.is)) (sym c.journal)
-              (each_set (LinkIs was (pairs_by steps)) (LinkIs now (pairs_by (steps ++ s ∷ []))) 1 b.links old.links c.place n c.was c.is h.links c.at (from_one n c.place c.number)
+              (each_set (LinkIs was (pairs_by steps)) (LinkIs now (pairs_by (steps ++ s ∷ []))) 1 b.links old.links c.place n c.was c.is h.links c.placed.at (from_one n c.place c.placed.number)
               (λ link is p.
               record {
                 stands = subst (λ (w : List Entry). LinkStands link c.is w) (sym (no_entry link n steps s refl)) (same_stands link (pair link n steps) c.was c.is cut c.cut_is p.stands);

@@ -1,10 +1,9 @@
 -- What a plant shows of an end is what the pair of its connection tells.
-use Rattle.std.proofs.Common.{◌≡◌, ◌≤◌, ◌<◌, ℕ, zero, suc, List, length, slice_get, Option, Some, option_map, sym, ap, ap₂, subst, ◌∙◌, arith}
+use Rattle.std.proofs.Common.{◌≡◌, ◌≤◌, ◌<◌, ℕ, zero, suc, List, length, slice_get, Option, Some, option_map, sym, ap, subst, ◌∙◌, arith}
 use Rattle.std.specs.Prelude.{IsSomeAnd}
 use Rattle.fsoe_base.specs.declared.command.End.TheVariants as side
 use Rattle.fsoe_base.specs.declared.command.State.{State}
 use Rattle.fsoe_base.specs.declared.did.Did.{Did}
-use Rattle.param_load.specs.declared.master_settings.MasterSettings.{MasterSettings}
 use Rattle.plant_conf.specs.declared.conf.LinkConf.{LinkConf}
 use Rattle.end_model.specs.Deed.{Deed}
 use Rattle.end_model.specs.Outputs.{out}
@@ -15,46 +14,44 @@ use Rattle.slave_core.specs.Standing as slave_core
 use Rattle.multi_master.specs.Connection.{Connection, setup, outputs_at}
 use Rattle.multi_master.specs.Standing as multi
 use Rattle.multi_master.specs.Standing.{MultiView, ShowsAt}
-use Rattle.multi_master.proofs.Places.{some_at}
+use Rattle.multi_master.proofs.Places.{Placed, some_at}
 use Rattle.plant_model.specs.declared.journal.JournalStep.{JournalStep}
-use Rattle.plant_model.specs.Acts.{Beginning, settings, calls, masters, is_cut}
+use Rattle.plant_model.specs.Acts.{Beginning, Act, settings, calls, masters, journal, is_cut}
 use Rattle.plant_core.specs.Link.{LinkView}
 use Rattle.plant_model.specs.Pair as pairs
 use Rattle.plant_model.specs.Pair.{pair, link_at, pairs_by}
 use Rattle.plant_core.specs.Standing.{PlantView, PlantValue, IsPlant, HasLink, LinkIs, PlantStands, ShowsPair}
 use Rattle.plant_model.specs.Turns.{Turn, acts}
-use Rattle.plant_core.proofs.Linking.{each_at, each_count}
-use Rattle.plant_model.proofs.Masters.{mastered}
+use Rattle.plant_core.proofs.Linking.{from_one, each_at, each_count}
+use Rattle.plant_model.proofs.Masters.{master_with, mastered}
 
 -- a word of the slave is that word of its deeds in the pair
-pub slave_shown : {X : Type 0} (v : PlantView) (k place : ℕ) (l : LinkView) (shown : X) (word : Setup → List Deed → X) → k ≡ suc place → slice_get v.links place ≡ Some l → slave_core.Shows l.slave shown word
+pub slave_shown : {X : Type 0} (v : PlantView) (k place : ℕ) (l : LinkView) (shown : X) (word : Setup → List Deed → X) → Placed v.links k place l → slave_core.Shows l.slave shown word
     → ShowsPair v k shown (λ link w. word (OfSlave link.slave) (deeds side.Slave w))
-slave_shown v k place l shown word n at s = record {
+slave_shown v k place l shown word p s = record {
   shows = λ b turns h.
-      let beside = each_at (LinkIs (λ j. is_cut j (acts turns)) (pairs_by v.journal)) 1 b.links v.links place k l h.has_done.links at (omega arith) in
-      let found : link_at b.links k ≡ Some beside.link = subst (λ (j : ℕ). link_at b.links j ≡ Some beside.link) (sym n) beside.is in
+      let beside = each_at (LinkIs (λ j. is_cut j (acts turns)) (pairs_by v.journal)) 1 b.links v.links place k l h.has_done.links p.at (from_one k place p.number) in
+      let found : link_at b.links k ≡ Some beside.link = subst (λ (j : ℕ). link_at b.links j ≡ Some beside.link) (sym p.number) beside.is in
       subst (λ (o : Option LinkConf). IsSomeAnd o (λ link. shown ≡ word (OfSlave link.slave) (deeds side.Slave (pair link k v.journal)))) (sym found)
       (s.shows beside.link.slave (deeds side.Slave (pair beside.link k v.journal)) beside.holds.stands.slave);
 }
 
 -- the same of the master
-told_by : {X : Type 0} (shown : X) (word : Setup → List Deed → X) (ms : MasterSettings) (e : List Deed) (o : Option Connection) (c : Connection) → o ≡ Some c → c.settings ≡ ms → e ≡ c.deeds
-    → option_map (λ (z : Connection). word (setup z) z.deeds) o ≡ Some shown → shown ≡ word (OfMaster ms) e
-told_by shown word ms e o c is settings_are deeds_are h =
+told_by : {X : Type 0} (shown : X) (word : Setup → List Deed → X) (o : Option Connection) (c : Connection) → o ≡ Some c → option_map (λ (z : Connection). word (setup z) z.deeds) o ≡ Some shown → shown ≡ word (setup c) c.deeds
+told_by shown word o c is h =
     let told : Some (word (setup c) c.deeds) ≡ Some shown = sym (ap (option_map (λ (z : Connection). word (setup z) z.deeds)) is) ∙ h in
     let same : word (setup c) c.deeds ≡ shown = cc in
-    sym same ∙ ap₂ (λ (s : MasterSettings) (d : List Deed). word (OfMaster s) d) settings_are (sym deeds_are)
+    sym same
 
 master_at : {X : Type 0} (v : PlantView) (place : ℕ) (shown : X) (word : Setup → List Deed → X) → ShowsAt v.master (suc place) shown (λ c. word (setup c) c.deeds) → place < length v.links
     → (b : Beginning) (turns : List Turn) → PlantStands b v turns → IsSomeAnd (link_at b.links (suc place)) (λ link. shown ≡ word (OfMaster link.master) (deeds side.Master (pair link (suc place) v.journal)))
 master_at v place shown word s lt b turns h =
     let count = each_count (LinkIs (λ j. is_cut j (acts turns)) (pairs_by v.journal)) 1 b.links v.links h.has_done.links in
     let link = some_at b.links place (omega arith) in
-    let m = mastered b (acts turns) place link.0 link.1 in
-    let same : deeds side.Master (pair link.0 (suc place) v.journal) ≡ m.there.deeds = ap (λ (j : List JournalStep). deeds side.Master (pair link.0 (suc place) j)) h.has_done.journal_is ∙ m.deeds_are in
+    let done : List Act = acts turns in
     subst (λ (o : Option LinkConf). IsSomeAnd o (λ link. shown ≡ word (OfMaster link.master) (deeds side.Master (pair link (suc place) v.journal)))) (sym link.1)
-    (told_by shown word link.0.master (deeds side.Master (pair link.0 (suc place) v.journal)) (slice_get (masters b (acts turns)).connections place) m.there m.is m.settings_are same
-    (s.shows (settings b) b.app (calls b (acts turns)) h.has_done.master))
+    (told_by shown word (slice_get (masters b done).connections place) (master_with link.0 (pair link.0 (suc place) (journal b done))) (mastered b done place link.0 link.1) (s.shows (settings b) b.app (calls b done) h.has_done.master)
+    ∙ ap (λ (js : List JournalStep). word (OfMaster link.0.master) (deeds side.Master (pair link.0 (suc place) js))) (sym h.has_done.journal_is))
 
 master_shown : {X : Type 0} (v : PlantView) (k : ℕ) (shown : X) (word : Setup → List Deed → X) → ShowsAt v.master k shown (λ c. word (setup c) c.deeds) → 1 ≤ k → k ≤ length v.links
     → ShowsPair v k shown (λ link w. word (OfMaster link.master) (deeds side.Master w))
@@ -68,4 +65,4 @@ pub master_outputs_shown : (v : PlantView) (k : ℕ) (shown : List ℕ) → Show
 master_outputs_shown v k shown s first last = master_shown v k shown out s first last
 
 pub master_has : {A : Type 0} (v : PlantValue A) (link : ℕ) (dids : List Did) (outs : List (List ℕ)) (len : ℕ) → HasLink v link → IsPlant v.master v.links dids outs len → multi.HasLink v.master link
-master_has v link dids outs len has is = let count = is.count in record { first = has.first; last = let last = has.last in omega arith }
+master_has v link dids outs len has is = subst (λ (n : ℕ). multi.IsNumber n link) is.count has

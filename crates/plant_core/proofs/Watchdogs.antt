@@ -40,17 +40,15 @@ use Rattle.plant_conf.specs.declared.conf.BoundSpec.{BoundSpec}
 use Rattle.reaction_bound.specs.Age.{told_age, worst_of}
 use Rattle.reaction_bound.specs.Ages.{AgesView, HasWatchdog, watchdog_in}
 use Rattle.reaction_bound.specs.Ages as ages
-use Rattle.plant_model.specs.declared.journal.JournalStep.{JournalStep}
-use Rattle.plant_model.specs.Acts.{Beginning, calls, is_cut, journal, masters, settings}
+use Rattle.plant_model.specs.Acts.{Beginning, calls, is_cut, journal, settings}
 use Rattle.plant_core.specs.Standing.{TellsStill, EachLink, LinkIs, PlantStands, PlantView, kept_at, ShowsOn, ShowsWorst}
 use Rattle.plant_model.specs.Bound.{is_guarded}
 use Rattle.plant_core.specs.Link.{AllTell, LinkView, TellsWatchdog}
 use Rattle.plant_model.specs.Pair.{link_at, outputs_at, own_events, pair, pairs_by}
 use Rattle.plant_model.specs.Turns.{Turn, acts}
 use Rattle.plant_model.proofs.FairPlant.{AreNext, are_next}
-use Rattle.plant_core.proofs.Worlds.{zip_at}
+use Rattle.plant_core.proofs.Worlds.{master_runs}
 use Rattle.plant_core.proofs.Linking.{each_at}
-use Rattle.plant_model.proofs.Masters.{mastered}
 
 -- where ProcessData was taken, the state is Data
 abbrev IsInData : Setup → List Deed → Option Took → Type 0
@@ -95,13 +93,7 @@ all_tell ms ss (x ∷ w) h run = let t = told_at ms ss x.end x w refl h.0 run in
 -- so it is of each connection of a plant
 pair_tells : (b : Beginning) (v : PlantView) (turns : List Turn) (place : ℕ) (link : LinkConf) → PlantStands b v turns → slice_get b.links place ≡ Some link → AllTell link.master.watchdog (pair link (suc place) v.journal)
 pair_tells b v turns place link h e =
-    let done = h.has_done in
-    let m = mastered b (acts turns) place link e in
-    let beside = zip_at (masters b (acts turns)).connections v.master.masters place m.there done.master.masters m.is in
-    let run : IsRun (OfMaster link.master) m.there.deeds = subst (λ (z : MasterSettings). IsRun (OfMaster z) m.there.deeds) m.settings_are beside.1.reached in
-    let own : deeds side.Master (pair link (suc place) v.journal) ≡ m.there.deeds = ap (λ (j : List JournalStep). deeds side.Master (pair link (suc place) j)) done.journal_is ∙ m.deeds_are in
-    all_tell link.master link.slave (pair link (suc place) v.journal) (are_next link.master link.slave (own_events (suc place) v.journal) [] tt)
-    (subst (λ (z : List Deed). IsRun (OfMaster link.master) z) (sym own) run)
+    all_tell link.master link.slave (pair link (suc place) v.journal) (are_next link.master link.slave (own_events (suc place) v.journal) [] tt) (master_runs b v turns place link h e)
 
 -- what a look-up of an element gives
 pub item_copied : {X : Type 0} (xs : List X) (i : ℕ) (r : Option (Bor X)) → IsItemAt xs i r → option_copied r ≡ slice_get xs i

@@ -1,11 +1,10 @@
 -- The pairs of a plant are worlds of proper events, since both ends of each are where their deeds leave them; so what
 -- holds of worlds holds of them.
-use Rattle.std.proofs.Common.{◌≡◌, ℕ, zero, suc, List, [], ◌∷◌, slice_get, Some, All, sym, ap, subst, ◌∙◌, arith}
+use Rattle.std.proofs.Common.{◌≡◌, ℕ, zero, suc, List, [], ◌∷◌, slice_get, Some, All, sym, subst, arith}
 use Rattle.std.specs.List.{AllZip}
 use Rattle.fsoe_base.specs.declared.command.End.TheVariants as side
-use Rattle.param_load.specs.declared.master_settings.MasterSettings.{MasterSettings}
 use Rattle.plant_conf.specs.Kept.{HasSameLengths}
-use Rattle.end_model.specs.Deed.{Deed}
+use Rattle.plant_conf.specs.declared.conf.LinkConf.{LinkConf}
 use Rattle.end_model.specs.Setup.{OfMaster}
 use Rattle.end_model.specs.Runs.{IsRun}
 use Rattle.exchange_model.specs.World.{deeds}
@@ -20,7 +19,7 @@ use Rattle.plant_model.specs.Pair.{pair, pairs_by}
 use Rattle.plant_core.specs.Standing.{PlantView, LinkIs, PlantStands}
 use Rattle.plant_model.specs.Turns.{Turn, acts}
 use Rattle.plant_model.proofs.Cycled.{sound_acts}
-use Rattle.plant_model.proofs.Masters.{mastered}
+use Rattle.plant_model.proofs.Masters.{master_with, mastered}
 use Rattle.plant_core.proofs.Linking.{kept_at}
 use Rattle.plant_model.proofs.FairPlant.{AreWorlds, world_of_runs, worlds_are_fair}
 use Rattle.plant_model.proofs.Reacting.{worlds_react}
@@ -31,22 +30,26 @@ use Rattle.plant_model.specs.Promises.{AllSound}
 use Rattle.plant_model.specs.Acts.{journal}
 
 -- what stands beside a place of the first list
-pub zip_at : (cs : List Connection) (ms : List MasterView) (place : ℕ) (c : Connection) → AllZip IsWhere cs ms → slice_get cs place ≡ Some c → (m : MasterView) × IsWhere c m
+zip_at : (cs : List Connection) (ms : List MasterView) (place : ℕ) (c : Connection) → AllZip IsWhere cs ms → slice_get cs place ≡ Some c → (m : MasterView) × IsWhere c m
 zip_at [] [] place c h e = absurd (cc e)
 zip_at [] (m ∷ ms) place c h e = absurd h
 zip_at (a ∷ cs) [] place c h e = absurd h
 zip_at (a ∷ cs) (m ∷ ms) zero c h e = let i : a ≡ c = cc in (m, subst (λ (z : Connection). IsWhere z m) i h.0)
 zip_at (a ∷ cs) (m ∷ ms) (suc place) c h e = zip_at cs ms place c h.1 e
 
+-- what the master of a pair did is a run
+pub master_runs : (b : Beginning) (v : PlantView) (turns : List Turn) (place : ℕ) (link : LinkConf) → PlantStands b v turns → slice_get b.links place ≡ Some link
+    → IsRun (OfMaster link.master) (deeds side.Master (pair link (suc place) v.journal))
+master_runs b v turns place link h e =
+    let done = h.has_done in
+    let c : Connection = master_with link (pair link (suc place) (journal b (acts turns))) in
+    let beside = zip_at (masters b (acts turns)).connections v.master.masters place c done.master.masters (mastered b (acts turns) place link e) in
+    subst (λ (js : List JournalStep). IsRun (OfMaster link.master) (deeds side.Master (pair link (suc place) js))) (sym done.journal_is) beside.1.reached
+
 pub worlds : (b : Beginning) (v : PlantView) (turns : List Turn) → PlantStands b v turns → All HasSameLengths b.links → AreWorlds b.links v.journal
 worlds b v turns h same = λ place link e.
-    let done = h.has_done in
-    let kept = kept_at (LinkIs (λ j. is_cut j (acts turns)) (pairs_by v.journal)) 1 b.links v.links place (suc place) link done.links e (omega arith) in
-    let m = mastered b (acts turns) place link e in
-    let beside = zip_at (masters b (acts turns)).connections v.master.masters place m.there done.master.masters m.is in
-    let run : IsRun (OfMaster link.master) m.there.deeds = subst (λ (z : MasterSettings). IsRun (OfMaster z) m.there.deeds) m.settings_are beside.1.reached in
-    let own : deeds side.Master (pair link (suc place) v.journal) ≡ m.there.deeds = ap (λ (j : List JournalStep). deeds side.Master (pair link (suc place) j)) done.journal_is ∙ m.deeds_are in
-    world_of_runs link (suc place) v.journal (all_at HasSameLengths b.links place link same e) (subst (λ (z : List Deed). IsRun (OfMaster link.master) z) (sym own) run) kept.holds.stands.slave.reached
+    let kept = kept_at (LinkIs (λ j. is_cut j (acts turns)) (pairs_by v.journal)) 1 b.links v.links place (suc place) link h.has_done.links e (omega arith) in
+    world_of_runs link (suc place) v.journal (all_at HasSameLengths b.links place link same e) (master_runs b v turns place link h e) kept.holds.stands.slave.reached
 
 -- by the journal of its acts
 by_acts : (b : Beginning) (v : PlantView) (turns : List Turn) → PlantStands b v turns → All HasSameLengths b.links → AreWorlds b.links (journal b (acts turns))

@@ -56,9 +56,8 @@ pub record IsPlant {A : Type 0} (master : MultiValue A) (links : List LinkView) 
   pub noted : AreNoted (2 * len) links
 
 -- there is a connection with this number
-pub record HasLink {A : Type 0} (v : PlantValue A) (link : ℕ) : Type 0 where
-  pub first : 1 ≤ link
-  pub last : link ≤ length v.links
+abbrev pub HasLink : {A : Type 0} → PlantValue A → ℕ → Type 0
+HasLink v link = multi.IsNumber (length v.links) link
 
 -- the lengths of the connections of which this is kept
 abbrev pub lengths_kept : List LinkView → List Lengths

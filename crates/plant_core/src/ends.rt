@@ -121,8 +121,7 @@ impl<A: Application> Ends<A> {
         steps: &mut Vec<JournalStep>,
         channel: &mut C,
     )
-        requires first { 1 ≤ link }
-        requires last { link ≤ vec_len self.old.links }
+        requires link { multi.IsNumber (vec_len self.old.links) link }
         requires ready { IsPlant self.old.master self.old.links.items self.old.dids.items self.old.outs.items (vec_len steps.old) }
         requires room { vec_len steps.old + 1 + vec_len self.old.links ≤ vec_capacity steps.old }
         ensures delivers { let seen = sees A.rule A.holds A.guards in Delivers (seen self.old.master self.old.links.items steps.old.items) (record { to = record { link = link; end = side.Master }; frame = frame.now }) (seen self.new.master self.new.links.items steps.new.items) (C.told channel.old) (C.told channel.new) }
@@ -159,8 +158,7 @@ impl<A: Application> Ends<A> {
         steps: &mut Vec<JournalStep>,
         channel: &mut C,
     )
-        requires first { 1 ≤ link }
-        requires last { link ≤ vec_len self.old.links }
+        requires link { multi.IsNumber (vec_len self.old.links) link }
         requires ready { IsPlant self.old.master self.old.links.items self.old.dids.items self.old.outs.items (vec_len steps.old) }
         requires room { vec_len steps.old + 1 + vec_len self.old.links ≤ vec_capacity steps.old }
         ensures delivers { let seen = sees A.rule A.holds A.guards in Delivers (seen self.old.master self.old.links.items steps.old.items) (record { to = record { link = link; end = side.Slave }; frame = frame.now }) (seen self.new.master self.new.links.items steps.new.items) (C.told channel.old) (C.told channel.new) }
@@ -250,8 +248,7 @@ impl<A: Application> Ends<A> {
         channel: &mut C,
     )
         requires is { slave_move event.now ≡ Some (link, what.now) }
-        requires first { 1 ≤ link }
-        requires last { link ≤ vec_len self.old.links }
+        requires link { multi.IsNumber (vec_len self.old.links) link }
         requires fits { Fits (lengths_kept self.old.links.items) event.now }
         requires ready { IsPlant self.old.master self.old.links.items self.old.dids.items self.old.outs.items (vec_len steps.old) }
         requires room { vec_len steps.old + 1 ≤ vec_capacity steps.old }
@@ -266,8 +263,7 @@ impl<A: Application> Ends<A> {
 
     /// Sets the session id with which the master of this connection begins its next session.
     fn master_nonce(&mut self, link: u16, id: u16, steps: &mut Vec<JournalStep>)
-        requires first { 1 ≤ link }
-        requires last { link ≤ vec_len self.old.links }
+        requires link { multi.IsNumber (vec_len self.old.links) link }
         requires ready { IsPlant self.old.master self.old.links.items self.old.dids.items self.old.outs.items (vec_len steps.old) }
         requires room { vec_len steps.old + 1 ≤ vec_capacity steps.old }
         ensures goes { let seen = sees A.rule A.holds A.guards in (told : Told) → GoesOn (seen self.old.master self.old.links.items steps.old.items) (Happen (Event (event.Nonce link side.Master id)) ∷ []) (seen self.new.master self.new.links.items steps.new.items) told told }
@@ -291,8 +287,7 @@ impl<A: Application> Ends<A> {
 
     /// Cuts the connection, or joins it again.
     fn cut(&mut self, link: u16, cut: bool, steps: &mut Vec<JournalStep>)
-        requires first { 1 ≤ link }
-        requires last { link ≤ vec_len self.old.links }
+        requires link { multi.IsNumber (vec_len self.old.links) link }
         requires ready { IsPlant self.old.master self.old.links.items self.old.dids.items self.old.outs.items (vec_len steps.old) }
         requires room { vec_len steps.old + 1 ≤ vec_capacity steps.old }
         ensures goes { let seen = sees A.rule A.holds A.guards in (told : Told) → GoesOn (seen self.old.master self.old.links.items steps.old.items) (Happen (Event (event.Cut link cut)) ∷ []) (seen self.new.master self.new.links.items steps.new.items) told told }

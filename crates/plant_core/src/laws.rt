@@ -24,9 +24,9 @@ pub fn answers()
     ensures { (b : Beginning) (v : PlantView) (turns : List Turn) → PlantStands b v turns → AllSound b (acts turns) }
 {}
 
-/// The reaction bound. Let an e-stop be off from some acts on, and let each later cycle that reads its bit as 0 keep
-/// the drive off. Then the drive is off after each step by which twice both watchdogs' ticks, less 3, have come since.
-/// This holds whatever the channel gave, if neither pair has an `other` entry.
+/// The reaction bound. Let an e-stop's bit be 0, or its slave held, from some acts on, and let each later cycle that
+/// reads its bit as 0 keep the drive off. Then the drive is off after each step by which twice both watchdogs' ticks,
+/// less 3, have come since. This holds whatever the channel gave, if neither pair has an `other` entry.
 pub fn reacts()
     ensures { (b : Beginning) (v : PlantView) (turns : List Turn) → PlantStands b v turns → All HasSameLengths b.links → Reacts b (acts turns) }
 {}

@@ -190,7 +190,7 @@ impl<A: Application> Plant<A> {
         }
     }
 
-    /// Returns true if the bound's stop is active, as `quiet` says. An e-stop at no existing connection is off.
+    /// Returns true if the bound's stop is active, as `quiet` says. An e-stop without a connection counts as pressed.
     pub fn is_still(&self, bound: BoundSpec) -> bool
         ensures { TellsStill (seen A.rule A.holds A.guards self.now) bound result }
     {

@@ -1,5 +1,5 @@
 -- Which acts run a cycle, and that its answer is sound.
-use Rattle.std.proofs.Common.{◌≡◌, ℕ, zero, suc, ◌==◌, Bool, true, false, List, [], ◌∷◌, ◌++◌, map, slice_get, Option, Some, None, if◌then◌else◌, refl, sym, ap, ap₂, ◌∙◌, append_assoc}
+use Rattle.std.proofs.Common.{◌≡◌, ℕ, zero, suc, ◌==◌, Bool, true, false, List, [], ◌∷◌, ◌++◌, map, slice_get, Option, Some, None, if◌then◌else◌, refl, sym, ap, ◌∙◌, append_assoc}
 use Rattle.std.specs.Prelude.{is_some, option_and_then, option_to_list, IfSome}
 use Rattle.std.proofs.lemmas.List.{append-nil}
 use Rattle.fsoe_base.specs.Did.{nothing}
@@ -63,11 +63,8 @@ heard b done place frame link is =
     let steps : List JournalStep = journal b done in
     let offers : List JournalStep = offers_by b (Some call) done in
     let own = mastered b done place link is in
-    let own_did : did_on (OfMaster own.there.settings) own.there.deeds (move.Deliver frame) ≡ did_on (OfMaster link.master) (deeds side.Master (pair link n steps)) (move.Deliver frame) =
-    ap₂ (λ (s : MasterSettings) (e : List Deed). did_on (OfMaster s) e (move.Deliver frame)) own.settings_are (sym own.deeds_are) in
     some_if (is_heard frame (connection n (masters b done))) _
-    ∙ ap (is_heard frame) own.is
-    ∙ ap tells_due own_did
+    ∙ ap (is_heard frame) own
     ∙ ap tells_due (sym (after_offers (changed_by (cycle_in call (masters b done)) (masters b done).connections) link n frame steps))
     ∙ sym (ap tells_hearing (ap (pair link n) (sym (append_assoc steps offers (step.Pulled parcel ∷ []))) ∙ pair_own link (steps ++ offers) (step.Pulled parcel) n side.Master (move.Deliver frame) (record { part = λ j. refl })))
 

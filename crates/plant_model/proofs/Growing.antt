@@ -1,8 +1,9 @@
 -- How the entries of a pair grow with the journal, and which frames are pushed then.
-use Rattle.std.proofs.Common.{◌≡◌, ◌≢◌, ◌<◌, ℕ, zero, suc, ◌+◌, ◌-◌, ◌==◌, Bool, true, false, List, [], ◌∷◌, ◌++◌, map, take, reverse, length, slice_get, Option, Some, if◌then◌else◌, refl, sym, ap, ap₂, subst, ◌∙◌, arith}
+use Rattle.std.proofs.Common.{◌≡◌, ◌≢◌, ◌⊎◌, inl, inr, ◌<◌, ℕ, zero, suc, ◌+◌, ◌-◌, ◌==◌, Bool, true, false, List, [], ◌∷◌, ◌++◌, map, take, reverse, length, slice_get, Option, Some, if◌then◌else◌, refl, sym, ap, ap₂, subst, ◌∙◌, arith}
 use Rattle.std.proofs.lemmas.Grind.{flat_map-append}
 use Rattle.std.proofs.lemmas.List.{append-nil}
 use Rattle.std.proofs.lemmas.Bool.{eq-eqb}
+use Rattle.std.proofs.lemmas.Bool.Decides.{eqb_tells}
 use Rattle.fsoe_base.specs.declared.command.End.{End}
 use Rattle.fsoe_base.specs.declared.command.End.TheVariants as side
 use Rattle.param_load.specs.declared.entry.Entry.{Entry}
@@ -16,12 +17,57 @@ use Rattle.plant_conf.specs.declared.conf.LinkConf.{LinkConf}
 use Rattle.end_model.specs.Deed.{is_empty}
 use Rattle.exchange_model.specs.Ends.{same_end, peer}
 use Rattle.exchange_model.specs.World.{setup_of, deeds, frames_of, end_of_event, move_from, next_entry, entry_on, entry_at, going_on, world_after, world}
+use Rattle.plant_model.specs.declared.event.PlantEvent.{PlantEvent}
+use Rattle.plant_model.specs.declared.event.PlantEvent.TheVariants as event
 use Rattle.plant_model.specs.declared.journal.JournalStep.{JournalStep}
+use Rattle.plant_model.specs.declared.journal.JournalStep.TheVariants as journal_step
 use Rattle.plant_model.specs.Acts.{newer, push_to, pushes_of}
 use Rattle.plant_model.specs.Uses.{Use}
 use Rattle.plant_model.specs.Gifts.{place_of, sent_uses, each_uses}
-use Rattle.plant_model.specs.Pair.{next_of, if_same, own_part, own_events, pair, pairs_by}
-use Rattle.plant_model.proofs.Masters.{IsPlain, ArePlain, events_plain, not_same}
+use Rattle.plant_model.specs.Pair.{next_of, if_same, script_part, own_part, own_events, pair, pairs_by}
+
+-- an event names no frame
+abbrev pub IsPlain : Event → Type 0
+IsPlain (at.Deliver to back) = ⊥
+IsPlain (at.Altered to back pos mask) = ⊥
+IsPlain _ = Unit {0}
+
+abbrev pub ArePlain : List Event → Type 0
+ArePlain [] = Unit {0}
+ArePlain (e ∷ events) = IsPlain e × ArePlain events
+
+plain_if : (b : Bool) (e : Event) → IsPlain e → ArePlain (if b then e ∷ [] else [])
+plain_if true e h = (h, tt)
+plain_if false e h = tt
+
+plain_append : (xs ys : List Event) → ArePlain xs → ArePlain ys → ArePlain (xs ++ ys)
+plain_append [] ys h i = i
+plain_append (e ∷ xs) ys h i = (h.0, plain_append xs ys h.1 i)
+
+script_plain : (k : ℕ) (e : PlantEvent) → ArePlain (script_part k e)
+script_plain k event.Tick = (tt, (tt, tt))
+script_plain k (event.Put link load) = plain_if (link == k) (at.Put side.Slave load) tt
+script_plain k (event.Hold link failsafe) = plain_if (link == k) (at.Hold side.Slave failsafe) tt
+script_plain k (event.Local link) = plain_if (link == k) (at.Local side.Slave) tt
+script_plain k (event.Nonce link end id) = plain_if (link == k) (at.Nonce end id) tt
+script_plain k (event.Cut link cut) = tt
+
+step_plain : (k : ℕ) (s : JournalStep) → ArePlain (own_part k s)
+step_plain k (journal_step.Script e) = script_plain k e
+step_plain k journal_step.App = tt
+step_plain k (journal_step.Offer link load) = plain_if (link == k) (at.Put side.Master load) tt
+step_plain k (journal_step.Pulled parcel) = plain_if (parcel.to.link == k) (at.Raw parcel.to.end parcel.frame) tt
+
+pub events_plain : (k : ℕ) (steps : List JournalStep) → ArePlain (own_events k steps)
+events_plain k [] = tt
+events_plain k (s ∷ steps) = plain_append (own_part k s) (own_events k steps) (step_plain k s) (events_plain k steps)
+
+not_same_by : (n k : ℕ) → n ≢ k → (((n == k) ≡ true) × (n ≡ k)) ⊎ (((n == k) ≡ false) × (n ≢ k)) → (n == k) ≡ false
+not_same_by n k h (inl i) = absurd (h i.1)
+not_same_by n k h (inr i) = i.0
+
+pub not_same : (n k : ℕ) → n ≢ k → (n == k) ≡ false
+not_same n k h = not_same_by n k h (eqb_tells n k)
 
 -- an event that names no frame, at an end
 abbrev pub event_for : End → Move → Event

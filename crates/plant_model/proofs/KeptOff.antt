@@ -15,7 +15,6 @@ use Rattle.param_load.specs.declared.entry.Move.TheVariants as move
 use Rattle.param_load.specs.declared.master_settings.MasterSettings.{MasterSettings}
 use Rattle.param_load.specs.declared.slave_settings.SlaveSettings.{SlaveSettings}
 use Rattle.plant_conf.specs.declared.conf.LinkConf.{LinkConf}
-use Rattle.end_model.specs.Deed.{Deed}
 use Rattle.end_model.specs.Outputs.{out}
 use Rattle.end_model.specs.Readiness.{offer_after, offer, held_after, held}
 use Rattle.end_model.specs.Setup.{Setup, OfMaster, sends}
@@ -32,7 +31,7 @@ use Rattle.multi_master.proofs.Neighbours.{event_keeps}
 use Rattle.plant_model.specs.Acts.{Beginning, Act, settings, call_of, calls, masters, cycle_of, journal}
 use Rattle.plant_model.specs.Bound.{inputs_after, offers_after}
 use Rattle.plant_model.specs.Pair.{pair, link_at}
-use Rattle.plant_model.proofs.Masters.{mastered}
+use Rattle.plant_model.proofs.Masters.{master_with, mastered}
 
 -- whether an end is held, and what it put last, by its entries and by its deeds
 held_if : (which : End) (x : Entry) (w : List Entry) (mine : Bool) → is_held (of_end which w) ≡ held (deeds which w)
@@ -98,17 +97,15 @@ out_due ms ss which w same h =
 input_at : (b : Beginning) (bit : Bit) (acts : List Act) (place : ℕ) (link : LinkConf) → bit.link ≡ suc place → slice_get b.links place ≡ Some link
     → bit_at (inputs_after b acts) bit ≡ bit_of (out (OfMaster link.master) (deeds side.Master (pair link bit.link (journal b acts)))) bit.bit
 input_at b bit acts place link n is =
-    let m = mastered b acts place link is in
     ap (λ (k : ℕ). bit_at (inputs_after b acts) (record { link = k; bit = bit.bit })) n
-    ∙ ap (λ (image : List ℕ). bit_of image bit.bit) (mapped_at outputs_at (masters b acts).connections place m.there m.is ∙ ap₂ (λ (s : MasterSettings) (e : List Deed). out (OfMaster s) e) m.settings_are (sym m.deeds_are))
+    ∙ ap (λ (image : List ℕ). bit_of image bit.bit) (mapped_at outputs_at (masters b acts).connections place (master_with link (pair link (suc place) (journal b acts))) (mastered b acts place link is))
     ∙ ap (λ (k : ℕ). bit_of (out (OfMaster link.master) (deeds side.Master (pair link k (journal b acts)))) bit.bit) (sym n)
 
 offer_bit_at : (b : Beginning) (bit : Bit) (acts : List Act) (place : ℕ) (link : LinkConf) → bit.link ≡ suc place → slice_get b.links place ≡ Some link
     → bit_at (offers_after b acts) bit ≡ bit_of (offer (OfMaster link.master) (deeds side.Master (pair link bit.link (journal b acts)))) bit.bit
 offer_bit_at b bit acts place link n is =
-    let m = mastered b acts place link is in
     ap (λ (k : ℕ). bit_at (offers_after b acts) (record { link = k; bit = bit.bit })) n
-    ∙ ap (λ (image : List ℕ). bit_of image bit.bit) (mapped_at offer_at (masters b acts).connections place m.there m.is ∙ ap₂ (λ (s : MasterSettings) (e : List Deed). offer (OfMaster s) e) m.settings_are (sym m.deeds_are))
+    ∙ ap (λ (image : List ℕ). bit_of image bit.bit) (mapped_at offer_at (masters b acts).connections place (master_with link (pair link (suc place) (journal b acts))) (mastered b acts place link is))
     ∙ ap (λ (k : ℕ). bit_of (offer (OfMaster link.master) (deeds side.Master (pair link k (journal b acts)))) bit.bit) (sym n)
 
 -- a connection that there is has a place

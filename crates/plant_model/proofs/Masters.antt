@@ -1,11 +1,7 @@
--- The master of each pair of a journal does what this connection of the master of many does: both are the runs of the
--- same events.
-use Rattle.std.proofs.Common.{◌≡◌, ◌≢◌, ◌⊎◌, inl, inr, ℕ, zero, suc, ◌+◌, ◌<◌, ◌==◌, List, [], ◌∷◌, ◌++◌, map, slice_get, Option, Some, None, IfSome, Bool, true, false, if◌then◌else◌, refl, sym, ap, ap₂, subst, ◌∙◌, append_assoc, arith}
-use Rattle.std.specs.Prelude.{IsSome, IsSomeAnd, option_and_then, option_to_list}
-use Rattle.std.specs.List.{flat_map}
-use Rattle.std.proofs.lemmas.Bool.Decides.{eqb_tells}
-use Rattle.std.proofs.lemmas.Bool.{eq-eqb, eqb-true}
-use Rattle.std.proofs.lemmas.Grind.{flat_map-append}
+-- The masters of a plant did what their pairs in the journal say: connection by connection both have the same deeds.
+use Rattle.std.proofs.Common.{◌≡◌, ℕ, zero, suc, ◌+◌, ◌<◌, ◌==◌, List, [], ◌∷◌, ◌++◌, map, slice_get, Option, Some, None, IfSome, Bool, true, false, if◌then◌else◌, refl, sym, ap, ap₂, subst, ◌∙◌, append_assoc, arith}
+use Rattle.std.specs.Prelude.{IsSomeAnd, option_and_then, option_map, option_to_list}
+use Rattle.std.proofs.lemmas.Bool.{eq-eqb}
 use Rattle.std.proofs.lemmas.List.{append-nil}
 use Rattle.fsoe_base.specs.declared.command.End.{End}
 use Rattle.fsoe_base.specs.declared.command.End.TheVariants as side
@@ -13,362 +9,210 @@ use Rattle.failsafe_io.specs.Application.{Answer}
 use Rattle.param_load.specs.declared.entry.Entry.{Entry}
 use Rattle.param_load.specs.declared.entry.Move.{Move}
 use Rattle.param_load.specs.declared.entry.Move.TheVariants as move
-use Rattle.param_load.specs.declared.master_settings.MasterSettings.{MasterSettings}
-use Rattle.param_load.specs.declared.slave_settings.SlaveSettings.{SlaveSettings}
 use Rattle.schedule_file.specs.declared.event.Event.{Event}
 use Rattle.schedule_file.specs.declared.event.Event.TheVariants as at
 use Rattle.plant_conf.specs.declared.conf.LinkConf.{LinkConf}
-use Rattle.end_model.specs.Runs.{events_of}
-use Rattle.end_model.specs.Setup.{OfMaster, OfSlave}
-use Rattle.end_model.specs.Step.{run, continued}
-use Rattle.exchange_model.specs.World.{deeds, next_entry, world_after}
-use Rattle.multi_master.specs.Connection.{Connection, fresh, setup, with_event, is_offer, with_offer, with_offers}
-use Rattle.multi_master.specs.Calls.{Call, Deliver, Tick, Nonce, ChangeApp, Meant, connection, all_tick, answer, cycle_in, with_cycle, after, meant, changed_from, changed_by}
-use Rattle.multi_master.proofs.Neighbours.{Stood, event_stood, one_of, runs_alone, settings_alone, ticks_stood}
+use Rattle.exchange_model.specs.World.{deeds, world_after}
+use Rattle.multi_master.specs.Connection.{Connection, fresh, with_event, is_offer, with_offers}
+use Rattle.multi_master.specs.Calls.{AppView, Call, connection, event_on, cycle_in, with_cycle, meant, changed_from, changed_by}
 use Rattle.multi_master.proofs.Ticking.{told_ticked}
-use Rattle.plant_model.specs.declared.event.PlantEvent.{PlantEvent}
 use Rattle.plant_model.specs.declared.event.PlantEvent.TheVariants as event
 use Rattle.plant_model.specs.declared.journal.JournalStep.{JournalStep}
-use Rattle.plant_model.specs.declared.journal.JournalStep.TheVariants as journal_step
-use Rattle.plant_model.specs.Pair.{script_part, own_part, own_events, pair, link_at}
-use Rattle.plant_model.specs.Acts.{Beginning, Event as SaysEvent, App, Act, Start, Happen, PullFrom, delivery_call, call_of, calls, settings, masters, offer_step, steps_of, journal}
+use Rattle.plant_model.specs.declared.journal.JournalStep.TheVariants as step
+use Rattle.plant_model.specs.Pair.{own_part, own_events, pair, link_at, next_of}
+use Rattle.plant_model.specs.Acts.{Beginning, Event as SaysEvent, App, Act, Start, Happen, PullFrom, delivery_call, calls, settings, masters, cycle_of, offer_step, journal}
 use Rattle.plant_model.specs.JournalLaws.{MastersAgree}
+use Rattle.plant_model.proofs.Growing.{IsOne, not_same, pair_more, pair_one, pair_other, pair_own, no_entry}
 
--- what an event means for the master, where it names no frame
-abbrev at_master : Event → List Move
-at_master (at.Deliver to back) = []
-at_master (at.Altered to back pos mask) = []
-at_master (at.Raw side.Master frame) = move.Deliver frame ∷ []
-at_master (at.Raw side.Slave frame) = []
-at_master (at.Tick side.Master) = move.Tick ∷ []
-at_master (at.Tick side.Slave) = []
-at_master (at.Put side.Master load) = move.Put load ∷ []
-at_master (at.Put side.Slave load) = []
-at_master (at.Hold side.Master failsafe) = move.Hold failsafe ∷ []
-at_master (at.Hold side.Slave failsafe) = []
-at_master (at.Nonce side.Master id) = move.Nonce id ∷ []
-at_master (at.Nonce side.Slave id) = []
-at_master (at.Local side.Master) = move.Local ∷ []
-at_master (at.Local side.Slave) = []
+-- a master that did what a pair with these entries says, and so those of these connections by a journal, the first of
+-- which has number k
+abbrev pub master_with : LinkConf → List Entry → Connection
+master_with link w = record { settings = link.master; deeds = deeds side.Master w }
 
--- an event names no frame
-abbrev pub IsPlain : Event → Type 0
-IsPlain (at.Deliver to back) = ⊥
-IsPlain (at.Altered to back pos mask) = ⊥
-IsPlain _ = Unit {0}
+abbrev pub masters_from : ℕ → List LinkConf → List JournalStep → List Connection
+masters_from k [] js = []
+masters_from k (link ∷ links) js = master_with link (pair link k js) ∷ masters_from (suc k) links js
 
-abbrev pub ArePlain : List Event → Type 0
-ArePlain [] = Unit {0}
-ArePlain (e ∷ events) = IsPlain e × ArePlain events
+-- both have the same masters, connection by connection
+same_from : (k : ℕ) (links : List LinkConf) (js ks : List JournalStep) → ((j : ℕ) (link : LinkConf) → deeds side.Master (pair link j js) ≡ deeds side.Master (pair link j ks))
+    → masters_from k links js ≡ masters_from k links ks
+same_from k [] js ks h = refl
+same_from k (link ∷ links) js ks h = ap₂ (λ e (cs : List Connection). record { settings = link.master; deeds = e } ∷ cs) (h k link) (same_from (suc k) links js ks h)
 
-plain_if : (b : Bool) (e : Event) → IsPlain e → ArePlain (if b then e ∷ [] else [])
-plain_if true e h = (h, tt)
-plain_if false e h = tt
+slave_keeps : (link : LinkConf) (what : Move) (w : List Entry) (b : Bool) → deeds side.Master (if b then next_of side.Slave what link w ∷ w else w) ≡ deeds side.Master w
+slave_keeps link what w true = refl
+slave_keeps link what w false = refl
 
-plain_append : (xs ys : List Event) → ArePlain xs → ArePlain ys → ArePlain (xs ++ ys)
-plain_append [] ys h i = i
-plain_append (e ∷ xs) ys h i = (h.0, plain_append xs ys h.1 i)
+-- a step at a slave, and one that means nothing for any end
+slave_from : (links : List LinkConf) (js : List JournalStep) (s : JournalStep) (n : ℕ) (what : Move) → IsOne s n side.Slave what → masters_from 1 links (js ++ s ∷ []) ≡ masters_from 1 links js
+slave_from links js s n what h =
+    same_from 1 links (js ++ s ∷ []) js (λ j link. ap (deeds side.Master) (pair_one link j js s n side.Slave what h) ∙ slave_keeps link what (pair link j js) (n == j))
 
-script_plain : (k : ℕ) (e : PlantEvent) → ArePlain (script_part k e)
-script_plain k event.Tick = (tt, (tt, tt))
-script_plain k (event.Put link load) = plain_if (link == k) (at.Put side.Slave load) tt
-script_plain k (event.Hold link failsafe) = plain_if (link == k) (at.Hold side.Slave failsafe) tt
-script_plain k (event.Local link) = plain_if (link == k) (at.Local side.Slave) tt
-script_plain k (event.Nonce link end id) = plain_if (link == k) (at.Nonce end id) tt
-script_plain k (event.Cut link cut) = tt
+pub ticks_from : (k : ℕ) (links : List LinkConf) (js : List JournalStep) → masters_from k links (js ++ step.Script event.Tick ∷ []) ≡ map (with_event move.Tick) (masters_from k links js)
+ticks_from k [] js = refl
+ticks_from k (link ∷ links) js = ap₂ (λ (w : List Entry) (cs : List Connection). master_with link w ∷ cs) (pair_more link k js (step.Script event.Tick ∷ [])) (ticks_from (suc k) links js)
 
-step_plain : (k : ℕ) (s : JournalStep) → ArePlain (own_part k s)
-step_plain k (journal_step.Script e) = script_plain k e
-step_plain k journal_step.App = tt
-step_plain k (journal_step.Offer link load) = plain_if (link == k) (at.Put side.Master load) tt
-step_plain k (journal_step.Pulled parcel) = plain_if (parcel.to.link == k) (at.Raw parcel.to.end parcel.frame) tt
+-- a step at the master of connection n
+past_from : (k n : ℕ) (links : List LinkConf) (js : List JournalStep) (s : JournalStep) (what : Move) → IsOne s n side.Master what → n < k → masters_from k links (js ++ s ∷ []) ≡ masters_from k links js
+past_from k n [] js s what h less = refl
+past_from k n (link ∷ links) js s what h less =
+    ap₂ (λ (w : List Entry) (cs : List Connection). master_with link w ∷ cs) (pair_other link k js s n side.Master what h (λ e. absurd (omega arith))) (past_from (suc k) n links js s what h (omega arith))
 
-pub events_plain : (k : ℕ) (steps : List JournalStep) → ArePlain (own_events k steps)
-events_plain k [] = tt
-events_plain k (s ∷ steps) = plain_append (own_part k s) (own_events k steps) (step_plain k s) (events_plain k steps)
-
--- the master's deeds in a world of such events are the run of those at the master
-master_deeds : (ms : MasterSettings) (ss : SlaveSettings) (events : List Event) (w : List Entry) → ArePlain events
-    → deeds side.Master (world_after ms ss events w) ≡ continued (OfMaster ms) (deeds side.Master w) (flat_map at_master events)
-master_deeds ms ss [] w h = refl
-master_deeds ms ss (at.Deliver to back ∷ events) w h = absurd h.0
-master_deeds ms ss (at.Altered to back pos mask ∷ events) w h = absurd h.0
-master_deeds ms ss (at.Raw side.Master frame ∷ events) w h = master_deeds ms ss events (next_entry (OfMaster ms) (deeds side.Master w) (move.Deliver frame) ∷ w) h.1
-master_deeds ms ss (at.Raw side.Slave frame ∷ events) w h = master_deeds ms ss events (next_entry (OfSlave ss) (deeds side.Slave w) (move.Deliver frame) ∷ w) h.1
-master_deeds ms ss (at.Tick side.Master ∷ events) w h = master_deeds ms ss events (next_entry (OfMaster ms) (deeds side.Master w) move.Tick ∷ w) h.1
-master_deeds ms ss (at.Tick side.Slave ∷ events) w h = master_deeds ms ss events (next_entry (OfSlave ss) (deeds side.Slave w) move.Tick ∷ w) h.1
-master_deeds ms ss (at.Put side.Master load ∷ events) w h = master_deeds ms ss events (next_entry (OfMaster ms) (deeds side.Master w) (move.Put load) ∷ w) h.1
-master_deeds ms ss (at.Put side.Slave load ∷ events) w h = master_deeds ms ss events (next_entry (OfSlave ss) (deeds side.Slave w) (move.Put load) ∷ w) h.1
-master_deeds ms ss (at.Hold side.Master failsafe ∷ events) w h = master_deeds ms ss events (next_entry (OfMaster ms) (deeds side.Master w) (move.Hold failsafe) ∷ w) h.1
-master_deeds ms ss (at.Hold side.Slave failsafe ∷ events) w h = master_deeds ms ss events (next_entry (OfSlave ss) (deeds side.Slave w) (move.Hold failsafe) ∷ w) h.1
-master_deeds ms ss (at.Nonce side.Master id ∷ events) w h = master_deeds ms ss events (next_entry (OfMaster ms) (deeds side.Master w) (move.Nonce id) ∷ w) h.1
-master_deeds ms ss (at.Nonce side.Slave id ∷ events) w h = master_deeds ms ss events (next_entry (OfSlave ss) (deeds side.Slave w) (move.Nonce id) ∷ w) h.1
-master_deeds ms ss (at.Local side.Master ∷ events) w h = master_deeds ms ss events (next_entry (OfMaster ms) (deeds side.Master w) move.Local ∷ w) h.1
-master_deeds ms ss (at.Local side.Slave ∷ events) w h = master_deeds ms ss events (next_entry (OfSlave ss) (deeds side.Slave w) move.Local ∷ w) h.1
-
--- what steps of a journal mean for the master of connection k
-abbrev master_moves : ℕ → List JournalStep → List Move
-master_moves k steps = flat_map at_master (own_events k steps)
-
-moves_append : (k : ℕ) (xs ys : List JournalStep) → master_moves k (xs ++ ys) ≡ master_moves k xs ++ master_moves k ys
-moves_append k xs ys = ap (flat_map at_master) (flat_map-append (own_part k) xs ys) ∙ flat_map-append at_master (own_events k xs) (own_events k ys)
-
-not_same_by : (n k : ℕ) → n ≢ k → (((n == k) ≡ true) × (n ≡ k)) ⊎ (((n == k) ≡ false) × (n ≢ k)) → (n == k) ≡ false
-not_same_by n k h (inl i) = absurd (h i.1)
-not_same_by n k h (inr i) = i.0
-
-pub not_same : (n k : ℕ) → n ≢ k → (n == k) ≡ false
-not_same n k h = not_same_by n k h (eqb_tells n k)
-
--- an offer of another connection means nothing here
-skipped : (k n : ℕ) (load : List ℕ) (b : Bool) (rest : List (ℕ × List ℕ)) (x : List Move) → (n == k) ≡ false → master_moves k (map offer_step rest) ≡ x
-    → master_moves k (map offer_step (if b then rest else (n, load) ∷ rest)) ≡ x
-skipped k n load true rest x e h = h
-skipped k n load false rest x e h =
-    subst (λ (is : Bool). flat_map at_master ((if is then at.Put side.Master load ∷ [] else []) ++ own_events k (map offer_step rest)) ≡ x) (sym e) h
-
--- one of this connection is put
-met : (k n : ℕ) (load : List ℕ) (b : Bool) (rest : List (ℕ × List ℕ)) → (n == k) ≡ true → master_moves k (map offer_step rest) ≡ []
-    → master_moves k (map offer_step (if b then rest else (n, load) ∷ rest)) ≡ (if b then [] else move.Put load ∷ [])
-met k n load true rest e h = h
-met k n load false rest e h =
-    subst (λ (is : Bool). flat_map at_master ((if is then at.Put side.Master load ∷ [] else []) ++ own_events k (map offer_step rest)) ≡ move.Put load ∷ []) (sym e)
-    (ap (λ (xs : List Move). move.Put load ∷ xs) h)
-
-none_before : (k n : ℕ) (cs : List Connection) (loads : List (List ℕ)) → k < n → master_moves k (map offer_step (changed_from n cs loads)) ≡ []
-none_before k n [] loads h = refl
-none_before k n (c ∷ cs) [] h = refl
-none_before k n (c ∷ cs) (load ∷ loads) h =
-    skipped k n load (is_offer load c) (changed_from (suc n) cs loads) [] (not_same n k (λ e. absurd (omega arith))) (none_before k (suc n) cs loads (omega arith))
-
--- the events of a connection, after some moves
-record Went (moves : List Move) (c d : Connection) : Type 0 where
-  settings : d.settings ≡ c.settings
-  events : events_of d.deeds ≡ events_of c.deeds ++ moves
-
-stays : (c : Connection) → Went [] c c
-stays c = record { settings = refl; events = sym (append-nil (events_of c.deeds)) }
-
-offered : (load : List ℕ) (c : Connection) (b : Bool) → Went (if b then [] else move.Put load ∷ []) c (if b then c else with_event (move.Put load) c)
-offered load c true = stays c
-offered load c false = record { settings = refl; events = refl }
-
--- the offers that a cycle changed are put at connection k as the journal says
-put_went : (k n place : ℕ) (cs : List Connection) (loads : List (List ℕ)) (d : Connection) → k ≡ n + place → slice_get (with_offers loads cs) place ≡ Some d
-    → Stood cs place (λ c. Went (master_moves k (map offer_step (changed_from n cs loads))) c d)
-put_went k n place [] [] d e h = absurd (cc h)
-put_went k n place [] (load ∷ loads) d e h = absurd (cc h)
-put_went k n place (c ∷ cs) [] d e h = record { was = d; is = h; holds = stays d }
-put_went k n zero (c ∷ cs) (load ∷ loads) d e h =
-    let i : with_offer load c ≡ d = cc in
+place_from : (k n place : ℕ) (links : List LinkConf) (js : List JournalStep) (s : JournalStep) (what : Move) → IsOne s n side.Master what → n ≡ k + place
+    → masters_from k links (js ++ s ∷ []) ≡ event_on (suc place) what (masters_from k links js)
+place_from k n place [] js s what h e = refl
+place_from k n zero (link ∷ links) js s what h e =
     let same : n ≡ k = omega arith in
-    let moves = met k n load (is_offer load c) (changed_from (suc n) cs loads) (eq-eqb n k same) (none_before k (suc n) cs loads (omega arith)) in
-    record { was = c; is = refl; holds = subst (λ (xs : List Move). Went xs c d) (sym moves) (subst (λ (z : Connection). Went (if is_offer load c then [] else move.Put load ∷ []) c z) i (offered load c (is_offer load c))) }
-put_went k n (suc place) (c ∷ cs) (load ∷ loads) d e h =
-    let s = put_went k (suc n) place cs loads d (omega arith) h in
-    let moves = skipped k n load (is_offer load c) (changed_from (suc n) cs loads) _ (not_same n k (λ z. absurd (omega arith))) refl in
-    record { was = s.was; is = s.is; holds = subst (λ (xs : List Move). Went xs s.was d) (sym moves) s.holds }
+    ap₂ (λ (w : List Entry) (cs : List Connection). master_with link w ∷ cs)
+    (ap (λ (j : ℕ). pair link j (js ++ s ∷ [])) (sym same) ∙ pair_own link js s n side.Master what h ∙ ap (λ (j : ℕ). next_of side.Master what link (pair link j js) ∷ pair link j js) same)
+    (past_from (suc k) n links js s what h (omega arith))
+place_from k n (suc place) (link ∷ links) js s what h e =
+    ap₂ (λ (w : List Entry) (cs : List Connection). master_with link w ∷ cs) (pair_other link k js s n side.Master what h (λ z. absurd (omega arith))) (place_from (suc k) n place links js s what h (omega arith))
 
-cycle_went : (o : Option Answer) (m : Meant) (place : ℕ) (d : Connection) → slice_get (with_cycle o m).connections place ≡ Some d
-    → Stood m.connections place (λ c. Went (master_moves (suc place) (map offer_step (changed_by o m.connections))) c d)
-cycle_went None m place d h = record { was = d; is = h; holds = stays d }
-cycle_went (Some a) m place d h = put_went (suc place) 1 place m.connections a.outputs d (omega arith) h
+none_on : (what : Move) (cs : List Connection) → event_on 0 what cs ≡ cs
+none_on what [] = refl
+none_on what (c ∷ cs) = refl
 
--- what a call means for connection k, where these puts are those of its cycle
-abbrev call_moves : ℕ → Call → List Move → List Move
-call_moves k (Deliver link bytes) puts = puts ++ (if link == k then move.Deliver bytes ∷ [] else [])
-call_moves k Tick puts = move.Tick ∷ puts
-call_moves k (Nonce link id) puts = (if link == k then move.Nonce id ∷ [] else []) ++ puts
-call_moves k (ChangeApp app) puts = puts
+pub master_from : (n : ℕ) (links : List LinkConf) (js : List JournalStep) (s : JournalStep) (what : Move) → IsOne s n side.Master what → masters_from 1 links (js ++ s ∷ []) ≡ event_on n what (masters_from 1 links js)
+master_from zero links js s what h = past_from 1 0 links js s what h (omega arith) ∙ sym (none_on what (masters_from 1 links js))
+master_from (suc place) links js s what h = place_from 1 (suc place) place links js s what h (omega arith)
 
-went_then : (a b : List Move) (c d e : Connection) → Went a c d → Went b d e → Went (a ++ b) c e
-went_then a b c d e g h = record {
-  settings = h.settings ∙ g.settings;
-  events = h.events ∙ ap (λ (xs : List Move). xs ++ b) g.events ∙ append_assoc (events_of c.deeds) a b;
-}
+-- offers of later connections are none of connection k, and that of an earlier one is none of the later
+none_if : (k n : ℕ) (load : List ℕ) (rest : List (ℕ × List ℕ)) (same : Bool) → k < n → own_events k (map offer_step rest) ≡ []
+    → own_events k (map offer_step (if same then rest else (n, load) ∷ rest)) ≡ []
+none_if k n load rest true h e = e
+none_if k n load rest false h e =
+    ap₂ (λ (b : Bool) (es : List Event). (if b then at.Put side.Master load ∷ [] else []) ++ es) (not_same n k (λ z. absurd (omega arith))) e
 
-event_went : (b : Bool) (what : Move) (c d : Connection) → d ≡ one_of b what c → Went (if b then what ∷ [] else []) c d
-event_went true what c d e = subst (λ (z : Connection). Went (what ∷ []) c z) (sym e) (record { settings = refl; events = refl })
-event_went false what c d e = subst (λ (z : Connection). Went [] c z) (sym e) (stays c)
+none_of : (k n : ℕ) (cs : List Connection) (loads : List (List ℕ)) → k < n → own_events k (map offer_step (changed_from n cs loads)) ≡ []
+none_of k n [] loads h = refl
+none_of k n (c ∷ cs) [] h = refl
+none_of k n (c ∷ cs) (load ∷ loads) h = none_if k n load (changed_from (suc n) cs loads) (is_offer load c) h (none_of k (suc n) cs loads (omega arith))
 
-grown : (call : Call) (m : Meant) (place : ℕ) (d : Connection) → slice_get (after call m).connections place ≡ Some d
-    → Stood m.connections place (λ c. Went (call_moves (suc place) call (master_moves (suc place) (map offer_step (changed_by (cycle_in call m) m.connections)))) c d)
-grown (Deliver link bytes) m place d h =
-    let o : Option Answer = cycle_in (Deliver link bytes) m in
-    let s = event_stood (with_cycle o m).connections link place (move.Deliver bytes) d h in
-    let t = cycle_went o m place s.was s.is in
-    record {
-      was = t.was;
-      is = t.is;
-      holds = went_then (master_moves (suc place) (map offer_step (changed_by o m.connections))) (if link == suc place then move.Deliver bytes ∷ [] else []) t.was s.was d t.holds (event_went (link == suc place) (move.Deliver bytes) s.was d s.holds);
-    }
-grown Tick m place d h =
-    let a : Answer = answer true (all_tick m) in
-    let s = cycle_went (Some a) (all_tick m) place d h in
-    let t = ticks_stood m.connections place s.was s.is in
-    let puts = subst (λ (xs : List (ℕ × List ℕ)). Went (master_moves (suc place) (map offer_step xs)) s.was d) (told_ticked 1 m.connections a.outputs) s.holds in
-    record { was = t.was; is = t.is; holds = went_then (move.Tick ∷ []) (master_moves (suc place) (map offer_step (changed_from 1 m.connections a.outputs))) t.was s.was d (event_went true move.Tick t.was s.was t.holds) puts }
-grown (Nonce link id) m place d h =
-    let s = event_stood m.connections link place (move.Nonce id) d h in
-    let own : List Move = if link == suc place then move.Nonce id ∷ [] else [] in
-    record { was = s.was; is = s.is; holds = subst (λ (xs : List Move). Went xs s.was d) (sym (append-nil own)) (event_went (link == suc place) (move.Nonce id) s.was d s.holds) }
-grown (ChangeApp app) m place d h = cycle_went (cycle_in (ChangeApp app) m) (record m { app = app }) place d h
+skip_from : (k n : ℕ) (load : List ℕ) (links : List LinkConf) (js rest : List JournalStep) → n < k → masters_from k links (js ++ step.Offer n load ∷ rest) ≡ masters_from k links (js ++ rest)
+skip_from k n load [] js rest h = refl
+skip_from k n load (link ∷ links) js rest h =
+    ap₂ (λ (w : List Entry) (cs : List Connection). master_with link w ∷ cs)
+    (pair_more link k js (step.Offer n load ∷ rest)
+    ∙ ap (λ (b : Bool). world_after link.master link.slave ((if b then at.Put side.Master load ∷ [] else []) ++ own_events k rest) (pair link k js)) (not_same n k (λ e. absurd (omega arith)))
+    ∙ sym (pair_more link k js rest))
+    (skip_from (suc k) n load links js rest (omega arith))
 
--- an event for a connection, and others
-if_moves : (b : Bool) (e : Event) (xs : List Event) → flat_map at_master ((if b then e ∷ [] else []) ++ xs) ≡ (if b then at_master e else []) ++ flat_map at_master xs
-if_moves true e xs = refl
-if_moves false e xs = refl
+-- an offer that a cycle changed is put, and no other
+put_from : (k : ℕ) (load : List ℕ) (rest : List (ℕ × List ℕ)) (link : LinkConf) (links : List LinkConf) (js : List JournalStep) (ds : List Connection) (same : Bool)
+    → own_events k (map offer_step rest) ≡ [] → masters_from (suc k) links (js ++ map offer_step rest) ≡ ds
+    → masters_from k (link ∷ links) (js ++ map offer_step (if same then rest else (k, load) ∷ rest))
+    ≡ (if same then master_with link (pair link k js) else with_event (move.Put load) (master_with link (pair link k js))) ∷ ds
+put_from k load rest link links js ds true e h =
+    ap₂ (λ (w : List Entry) (cs : List Connection). master_with link w ∷ cs)
+    (pair_more link k js (map offer_step rest) ∙ ap (λ (es : List Event). world_after link.master link.slave es (pair link k js)) e) h
+put_from k load rest link links js ds false e h =
+    ap₂ (λ (w : List Entry) (cs : List Connection). master_with link w ∷ cs)
+    (pair_more link k js (step.Offer k load ∷ map offer_step rest)
+    ∙ ap₂ (λ (b : Bool) (es : List Event). world_after link.master link.slave ((if b then at.Put side.Master load ∷ [] else []) ++ es) (pair link k js)) (eq-eqb k k refl) e)
+    (skip_from (suc k) k load links js (map offer_step rest) (omega arith) ∙ h)
 
-parcel_moves : (there : Option LinkConf) (end : End) (link k : ℕ) (frame : List ℕ) (call : Call) (puts : List Move) → delivery_call there end link frame ≡ Some call
-    → puts ++ flat_map at_master ((if link == k then at.Raw end frame ∷ [] else []) ++ []) ≡ call_moves k call puts
-parcel_moves None end link k frame call puts e = absurd (cc e)
-parcel_moves (Some conf) side.Slave link k frame call puts e = absurd (cc e)
-parcel_moves (Some conf) side.Master link k frame call puts e =
-    let i : Deliver link frame ≡ call = cc in
-    subst (λ (z : Call). puts ++ flat_map at_master ((if link == k then at.Raw side.Master frame ∷ [] else []) ++ []) ≡ call_moves k z puts) i
-    (ap (λ (ys : List Move). puts ++ ys) (if_moves (link == k) (at.Raw side.Master frame) [] ∙ append-nil (if link == k then move.Deliver frame ∷ [] else [])))
+puts_from : (k : ℕ) (links : List LinkConf) (js : List JournalStep) (loads : List (List ℕ))
+    → masters_from k links (js ++ map offer_step (changed_from k (masters_from k links js) loads)) ≡ with_offers loads (masters_from k links js)
+puts_from k [] js [] = refl
+puts_from k [] js (load ∷ loads) = refl
+puts_from k (link ∷ links) js [] = ap (masters_from k (link ∷ links)) (append-nil js)
+puts_from k (link ∷ links) js (load ∷ loads) =
+    put_from k load (changed_from (suc k) (masters_from (suc k) links js) loads) link links js (with_offers loads (masters_from (suc k) links js)) (is_offer load (master_with link (pair link k js)))
+    (none_of k (suc k) (masters_from (suc k) links js) loads (omega arith)) (puts_from (suc k) links js loads)
 
--- the steps of an act that makes a call mean what the call does
-act_moves : (act : Act) (b : Beginning) (call : Call) (k : ℕ) (changed : List JournalStep) → call_of b act ≡ Some call → master_moves k (steps_of act changed) ≡ call_moves k call (master_moves k changed)
-act_moves Start b call k changed e =
-    let i : ChangeApp b.app ≡ call = cc in subst (λ (z : Call). master_moves k changed ≡ call_moves k z (master_moves k changed)) i refl
-act_moves (Happen (SaysEvent event.Tick)) b call k changed e =
-    let i : Tick ≡ call = cc in subst (λ (z : Call). move.Tick ∷ master_moves k changed ≡ call_moves k z (master_moves k changed)) i refl
-act_moves (Happen (SaysEvent (event.Put link bytes))) b call k changed e = absurd (cc e)
-act_moves (Happen (SaysEvent (event.Hold link failsafe))) b call k changed e = absurd (cc e)
-act_moves (Happen (SaysEvent (event.Local link))) b call k changed e = absurd (cc e)
-act_moves (Happen (SaysEvent (event.Nonce link side.Slave id))) b call k changed e = absurd (cc e)
-act_moves (Happen (SaysEvent (event.Nonce link side.Master id))) b call k changed e =
-    let i : Nonce link id ≡ call = cc in
-    subst (λ (z : Call). flat_map at_master ((if link == k then at.Nonce side.Master id ∷ [] else []) ++ own_events k changed) ≡ call_moves k z (master_moves k changed)) i
-    (if_moves (link == k) (at.Nonce side.Master id) (own_events k changed))
-act_moves (Happen (SaysEvent (event.Cut link cut))) b call k changed e = absurd (cc e)
-act_moves (Happen (App app)) b call k changed e =
-    let i : ChangeApp app ≡ call = cc in subst (λ (z : Call). master_moves k changed ≡ call_moves k z (master_moves k changed)) i refl
-act_moves (PullFrom None) b call k changed e = absurd (cc e)
-act_moves (PullFrom (Some parcel)) b call k changed e =
-    moves_append k changed (journal_step.Pulled parcel ∷ []) ∙ parcel_moves (link_at b.links parcel.to.link) parcel.to.end parcel.to.link k parcel.frame call (master_moves k changed) e
+-- the offers of a cycle, if there was one
+cycle_from : (links : List LinkConf) (js : List JournalStep) (cs : List Connection) (app : AppView) (o : Option Answer) → cs ≡ masters_from 1 links js
+    → (with_cycle o (record { connections = cs; app = app })).connections ≡ masters_from 1 links (js ++ map offer_step (changed_by o cs))
+cycle_from links js cs app None e = e ∙ ap (masters_from 1 links) (sym (append-nil js))
+cycle_from links js cs app (Some a) e =
+    ap (with_offers a.outputs) e ∙ sym (puts_from 1 links js a.outputs)
+    ∙ ap (λ (ds : List Connection). masters_from 1 links (js ++ map offer_step (changed_from 1 ds a.outputs))) (sym e)
 
-slave_if : (b : Bool) (e : Event) → at_master e ≡ [] → flat_map at_master ((if b then e ∷ [] else []) ++ []) ≡ []
-slave_if true e h = append-nil (at_master e) ∙ h
-slave_if false e h = refl
+-- a line of the script, and then the offers of its cycle
+line_from : (links : List LinkConf) (js : List JournalStep) (s : JournalStep) (cs : List Connection) (app : AppView) (o : Option Answer) → cs ≡ masters_from 1 links (js ++ s ∷ [])
+    → (with_cycle o (record { connections = cs; app = app })).connections ≡ masters_from 1 links (js ++ (s ∷ map offer_step (changed_by o cs)))
+line_from links js s cs app o e =
+    cycle_from links (js ++ s ∷ []) cs app o e ∙ ap (masters_from 1 links) (append_assoc js (s ∷ []) (map offer_step (changed_by o cs)))
 
--- a parcel makes no call where its connection doesn't exist, or where it goes to a slave: for the master of one that
--- exists it means nothing
-no_parcel_by : (there : Option LinkConf) (end : End) (link k : ℕ) (frame : List ℕ) → IsSome there → delivery_call there end link frame ≡ None
-    → flat_map at_master ((if link == k then at.Raw end frame ∷ [] else []) ++ []) ≡ []
-no_parcel_by None end link k frame h e = absurd (cc h)
-no_parcel_by (Some conf) side.Master link k frame h e = absurd (cc e)
-no_parcel_by (Some conf) side.Slave link k frame h e = slave_if (link == k) (at.Raw side.Slave frame) refl
+-- what has the place of a connection
+there : (k place : ℕ) (links : List LinkConf) (js : List JournalStep) → slice_get (masters_from k links js) place ≡ option_map (λ link. master_with link (pair link (k + place) js)) (slice_get links place)
+there k place [] js = refl
+there k zero (link ∷ links) js = let number : k ≡ k + 0 = omega arith in ap (λ (j : ℕ). Some (master_with link (pair link j js))) number
+there k (suc place) (link ∷ links) js =
+    there (suc k) place links js ∙ (let number : suc k + place ≡ k + suc place = omega arith in ap (λ (j : ℕ). option_map (λ l. master_with l (pair l j js)) (slice_get links place)) number)
 
-no_parcel : (links : List LinkConf) (end : End) (link k : ℕ) (frame : List ℕ) (same : Bool) → (link == k) ≡ same → IsSome (link_at links k) → delivery_call (link_at links link) end link frame ≡ None
-    → flat_map at_master ((if link == k then at.Raw end frame ∷ [] else []) ++ []) ≡ []
-no_parcel links end link k frame false is there e = ap (λ (b : Bool). flat_map at_master ((if b then at.Raw end frame ∷ [] else []) ++ [])) is
-no_parcel links end link k frame true is there e =
-    let i : link ≡ k = eqb-true link k is in
-    no_parcel_by (link_at links link) end link k frame (subst (λ (n : ℕ). IsSome (link_at links n)) (sym i) there) e
+there_at : (links : List LinkConf) (js : List JournalStep) (place : ℕ) (o : Option LinkConf) → slice_get links place ≡ o
+    → slice_get (masters_from 1 links js) place ≡ option_map (λ link. master_with link (pair link (suc place) js)) o
+there_at links js place o e =
+    there 1 place links js ∙ (let number : 1 + place ≡ suc place = omega arith in ap₂ (λ (j : ℕ) (o : Option LinkConf). option_map (λ l. master_with l (pair l j js)) o) number e)
 
--- the steps of an act that makes none mean nothing for a master
-no_moves : (act : Act) (b : Beginning) (k : ℕ) → IsSome (link_at b.links k) → call_of b act ≡ None → master_moves k (steps_of act []) ≡ []
-no_moves Start b k there e = absurd (cc e)
-no_moves (Happen (SaysEvent event.Tick)) b k there e = absurd (cc e)
-no_moves (Happen (SaysEvent (event.Put link load))) b k there e = slave_if (link == k) (at.Put side.Slave load) refl
-no_moves (Happen (SaysEvent (event.Hold link failsafe))) b k there e = slave_if (link == k) (at.Hold side.Slave failsafe) refl
-no_moves (Happen (SaysEvent (event.Local link))) b k there e = slave_if (link == k) (at.Local side.Slave) refl
-no_moves (Happen (SaysEvent (event.Nonce link side.Slave id))) b k there e = slave_if (link == k) (at.Nonce side.Slave id) refl
-no_moves (Happen (SaysEvent (event.Nonce link side.Master id))) b k there e = absurd (cc e)
-no_moves (Happen (SaysEvent (event.Cut link cut))) b k there e = refl
-no_moves (Happen (App app)) b k there e = absurd (cc e)
-no_moves (PullFrom None) b k there e = refl
-no_moves (PullFrom (Some parcel)) b k there e = no_parcel b.links parcel.to.end parcel.to.link k parcel.frame (parcel.to.link == k) refl there e
+-- an event of a connection that there isn't
+no_event : (place : ℕ) (what : Move) (cs : List Connection) → slice_get cs place ≡ None → event_on (suc place) what cs ≡ cs
+no_event place what [] e = refl
+no_event zero what (c ∷ cs) e = absurd (cc e)
+no_event (suc place) what (c ∷ cs) e = ap (λ (ds : List Connection). c ∷ ds) (no_event place what cs e)
 
-fresh_events : (all : List MasterSettings) (place : ℕ) (c : Connection) → slice_get (map fresh all) place ≡ Some c → events_of c.deeds ≡ []
-fresh_events [] place c h = absurd (cc h)
-fresh_events (s ∷ all) zero c h = let i : fresh s ≡ c = cc in ap (λ (z : Connection). events_of z.deeds) (sym i)
-fresh_events (s ∷ all) (suc place) c h = fresh_events all place c h
+absent : (links : List LinkConf) (js : List JournalStep) (n : ℕ) (what : Move) → link_at links n ≡ None → event_on n what (masters_from 1 links js) ≡ masters_from 1 links js
+absent links js zero what e = none_on what (masters_from 1 links js)
+absent links js (suc place) what e = no_event place what (masters_from 1 links js) (there_at links js place None e)
 
 -- the offers that an act changed which makes this call, or none
 abbrev pub offers_by : Beginning → Option Call → List Act → List JournalStep
 offers_by b o acts = map offer_step (changed_by (option_and_then (λ call. cycle_in call (masters b acts)) o) (masters b acts).connections)
 
--- so it is after one act more
-agree_by : (b : Beginning) (act : Act) (acts : List Act) (place : ℕ) (d : Connection) (o : Option Call)
-    → ((c : Connection) → slice_get (masters b acts).connections place ≡ Some c → events_of c.deeds ≡ master_moves (suc place) (journal b acts))
-    → IsSome (link_at b.links (suc place)) → call_of b act ≡ o → slice_get (meant (settings b) b.app (option_to_list o ++ calls b acts)).connections place ≡ Some d
-    → events_of d.deeds ≡ master_moves (suc place) (journal b acts ++ steps_of act (offers_by b o acts))
-agree_by b act acts place d None before there e h =
-    before d h
-    ∙ sym (moves_append (suc place) (journal b acts) (steps_of act []) ∙ ap (λ (xs : List Move). master_moves (suc place) (journal b acts) ++ xs) (no_moves act b (suc place) there e)
-    ∙ append-nil (master_moves (suc place) (journal b acts)))
-agree_by b act acts place d (Some call) before there e h =
-    let s = grown call (masters b acts) place d h in
-    let changed : List JournalStep = offers_by b (Some call) acts in
-    s.holds.events
-    ∙ ap₂ (λ (xs ys : List Move). xs ++ ys) (before s.was s.is) (sym (act_moves act b call (suc place) changed e))
-    ∙ sym (moves_append (suc place) (journal b acts) (steps_of act changed))
+-- a parcel: for a connection that there isn't, for a slave, for a master
+parcel_from : (b : Beginning) (acts : List Act) (n : ℕ) (end : End) (frame : List ℕ) (o : Option LinkConf) → link_at b.links n ≡ o → (masters b acts).connections ≡ masters_from 1 b.links (journal b acts)
+    → (meant (settings b) b.app (option_to_list (delivery_call o end n frame) ++ calls b acts)).connections
+    ≡ masters_from 1 b.links (journal b acts ++ (offers_by b (delivery_call o end n frame) acts ++ step.Pulled (record { to = record { link = n; end = end }; frame = frame }) ∷ []))
+parcel_from b acts n side.Slave frame None e h = h ∙ sym (slave_from b.links (journal b acts) _ n (move.Deliver frame) (record { part = λ k. refl }))
+parcel_from b acts n side.Slave frame (Some link) e h = h ∙ sym (slave_from b.links (journal b acts) _ n (move.Deliver frame) (record { part = λ k. refl }))
+parcel_from b acts n side.Master frame None e h =
+    h ∙ sym (master_from n b.links (journal b acts) (step.Pulled (record { to = record { link = n; end = side.Master }; frame = frame })) (move.Deliver frame) (record { part = λ k. refl }) ∙ absent b.links (journal b acts) n (move.Deliver frame) e)
+parcel_from b acts n side.Master frame (Some link) e h =
+    let s : JournalStep = step.Pulled (record { to = record { link = n; end = side.Master }; frame = frame }) in
+    let call : Option Call = delivery_call (Some link) side.Master n frame in
+    ap (event_on n (move.Deliver frame)) (cycle_from b.links (journal b acts) (masters b acts).connections (masters b acts).app (option_and_then (λ call. cycle_in call (masters b acts)) call) h)
+    ∙ sym (master_from n b.links (journal b acts ++ offers_by b call acts) s (move.Deliver frame) (record { part = λ k. refl }))
+    ∙ ap (masters_from 1 b.links) (append_assoc (journal b acts) (offers_by b call acts) (s ∷ []))
 
--- there is a link for each connection
-link_there : (links : List LinkConf) (cs : List Connection) (place : ℕ) (c : Connection) → map (λ c. c.settings) cs ≡ map (λ l. l.master) links → slice_get cs place ≡ Some c → IsSome (slice_get links place)
-link_there links [] place c e h = absurd (cc h)
-link_there [] (a ∷ cs) place c e h = absurd (cc e)
-link_there (l ∷ links) (a ∷ cs) zero c e h = refl
-link_there (l ∷ links) (a ∷ cs) (suc place) c e h = link_there links cs place c (cc) h
+fresh_from : (k : ℕ) (links : List LinkConf) → map fresh (map (λ l. l.master) links) ≡ masters_from k links []
+fresh_from k [] = refl
+fresh_from k (link ∷ links) = ap (λ (cs : List Connection). fresh link.master ∷ cs) (fresh_from (suc k) links)
 
-there_is : (b : Beginning) (acts : List Act) (place : ℕ) (c : Connection) → slice_get (masters b acts).connections place ≡ Some c → IsSome (link_at b.links (suc place))
-there_is b acts place c h = link_there b.links (masters b acts).connections place c (settings_alone (settings b) b.app (calls b acts)) h
+quiet_from : (links : List LinkConf) (js : List JournalStep) (s : JournalStep) → ((j : ℕ) → own_part j s ≡ []) → masters_from 1 links (js ++ s ∷ []) ≡ masters_from 1 links js
+quiet_from links js s h = same_from 1 links (js ++ s ∷ []) js (λ j link. ap (deeds side.Master) (no_entry link j js s (h j)))
 
--- the events of a connection are what the journal means for its master
-agree : (b : Beginning) (acts : List Act) (place : ℕ) (c : Connection) → slice_get (masters b acts).connections place ≡ Some c → events_of c.deeds ≡ master_moves (suc place) (journal b acts)
-agree b [] place c h = fresh_events (settings b) place c h
-agree b (act ∷ acts) place c h = agree_by b act acts place c (call_of b act) (agree b acts place) (there_is b (act ∷ acts) place c h) refl h
-
--- there is a connection with the settings of each link
-there_by : (ss : List MasterSettings) (cs : List Connection) (place : ℕ) (s : MasterSettings) → map (λ c. c.settings) cs ≡ ss → slice_get ss place ≡ Some s → (c : Connection) × (slice_get cs place ≡ Some c) × (c.settings ≡ s)
-there_by [] [] place s e h = absurd (cc h)
-there_by [] (c ∷ cs) place s e h = absurd (cc h)
-there_by (a ∷ ss) [] place s e h = absurd (cc e)
-there_by (a ∷ ss) (c ∷ cs) zero s e h = let i : c.settings ≡ a = cc in let j : a ≡ s = cc in (c, refl, i ∙ j)
-there_by (a ∷ ss) (c ∷ cs) (suc place) s e h = there_by ss cs place s (cc) h
-
-setting_at : (links : List LinkConf) (place : ℕ) (link : LinkConf) → slice_get links place ≡ Some link → slice_get (map (λ l. l.master) links) place ≡ Some link.master
-setting_at [] place link h = absurd (cc h)
-setting_at (l ∷ links) zero link h = let i : l ≡ link = cc in ap (λ (z : LinkConf). Some z.master) i
-setting_at (l ∷ links) (suc place) link h = setting_at links place link h
-
--- the deeds of the connection, and those of the master in its pair
-deeds_agree : (b : Beginning) (acts : List Act) (place : ℕ) (link : LinkConf) (c : Connection) → slice_get (masters b acts).connections place ≡ Some c → c.settings ≡ link.master
-    → deeds side.Master (pair link (suc place) (journal b acts)) ≡ c.deeds
-deeds_agree b acts place link c h e =
-    let alone : IfSome (Some c) (λ z. z.deeds ≡ run (setup z) (events_of z.deeds)) =
-    subst (λ (o : Option Connection). IfSome o (λ z. z.deeds ≡ run (setup z) (events_of z.deeds))) h (runs_alone (settings b) b.app (calls b acts) (suc place)) in
-    master_deeds link.master link.slave (own_events (suc place) (journal b acts)) [] (events_plain (suc place) (journal b acts))
-    ∙ ap (run (OfMaster link.master)) (sym (agree b acts place c h))
-    ∙ ap (λ (z : MasterSettings). run (OfMaster z) (events_of c.deeds)) (sym e)
-    ∙ sym alone
+-- the masters are those by the journal
+pub masters_are : (b : Beginning) (acts : List Act) → (masters b acts).connections ≡ masters_from 1 b.links (journal b acts)
+masters_are b [] = fresh_from 1 b.links
+masters_are b (Start ∷ acts) = cycle_from b.links (journal b acts) (masters b acts).connections b.app (cycle_of b Start acts) (masters_are b acts)
+masters_are b (Happen (SaysEvent event.Tick) ∷ acts) =
+    let cs : List Connection = (masters b acts).connections in
+    line_from b.links (journal b acts) (step.Script event.Tick) (map (with_event move.Tick) cs) (masters b acts).app (cycle_of b (Happen (SaysEvent event.Tick)) acts) (ap (map (with_event move.Tick)) (masters_are b acts) ∙ sym (ticks_from 1 b.links (journal b acts)))
+    ∙ ap (λ (listed : List (ℕ × List ℕ)). masters_from 1 b.links (journal b acts ++ (step.Script event.Tick ∷ map offer_step listed))) (told_ticked 1 cs _)
+masters_are b (Happen (SaysEvent (event.Put n load)) ∷ acts) = masters_are b acts ∙ sym (slave_from b.links (journal b acts) _ n (move.Put load) (record { part = λ k. refl }))
+masters_are b (Happen (SaysEvent (event.Hold n failsafe)) ∷ acts) = masters_are b acts ∙ sym (slave_from b.links (journal b acts) _ n (move.Hold failsafe) (record { part = λ k. refl }))
+masters_are b (Happen (SaysEvent (event.Local n)) ∷ acts) = masters_are b acts ∙ sym (slave_from b.links (journal b acts) _ n move.Local (record { part = λ k. refl }))
+masters_are b (Happen (SaysEvent (event.Nonce n side.Slave id)) ∷ acts) = masters_are b acts ∙ sym (slave_from b.links (journal b acts) _ n (move.Nonce id) (record { part = λ k. refl }))
+masters_are b (Happen (SaysEvent (event.Nonce n side.Master id)) ∷ acts) =
+    ap (event_on n (move.Nonce id)) (masters_are b acts) ∙ sym (master_from n b.links (journal b acts) (step.Script (event.Nonce n side.Master id)) (move.Nonce id) (record { part = λ k. refl }))
+masters_are b (Happen (SaysEvent (event.Cut n cut)) ∷ acts) = masters_are b acts ∙ sym (quiet_from b.links (journal b acts) (step.Script (event.Cut n cut)) (λ j. refl))
+masters_are b (Happen (App app) ∷ acts) =
+    line_from b.links (journal b acts) step.App (masters b acts).connections app (cycle_of b (Happen (App app)) acts) (masters_are b acts ∙ sym (quiet_from b.links (journal b acts) step.App (λ j. refl)))
+masters_are b (PullFrom None ∷ acts) = masters_are b acts ∙ ap (masters_from 1 b.links) (sym (append-nil (journal b acts)))
+masters_are b (PullFrom (Some parcel) ∷ acts) = parcel_from b acts parcel.to.link parcel.to.end parcel.frame (link_at b.links parcel.to.link) refl (masters_are b acts)
 
 -- the connection of the master of many that has the number of a link
-pub record Mastered (b : Beginning) (acts : List Act) (place : ℕ) (link : LinkConf) : Type 0 where
-  pub there : Connection
-  pub is : slice_get (masters b acts).connections place ≡ Some there
-  pub settings_are : there.settings ≡ link.master
-  pub deeds_are : deeds side.Master (pair link (suc place) (journal b acts)) ≡ there.deeds
-
-pub mastered : (b : Beginning) (acts : List Act) (place : ℕ) (link : LinkConf) → slice_get b.links place ≡ Some link → Mastered b acts place link
-mastered b acts place link h =
-    let there = there_by (settings b) (masters b acts).connections place link.master (settings_alone (settings b) b.app (calls b acts)) (setting_at b.links place link h) in
-    record { there = there.0; is = there.1; settings_are = there.2; deeds_are = deeds_agree b acts place link there.0 there.1 there.2 }
-
-at_link : (b : Beginning) (acts : List Act) (place : ℕ) (link : LinkConf) → slice_get b.links place ≡ Some link
-    → IsSomeAnd (slice_get (masters b acts).connections place) (λ c. deeds side.Master (pair link (suc place) (journal b acts)) ≡ c.deeds)
-at_link b acts place link h =
-    let m = mastered b acts place link h in
-    subst (λ (o : Option Connection). IsSomeAnd o (λ c. deeds side.Master (pair link (suc place) (journal b acts)) ≡ c.deeds)) (sym m.is) m.deeds_are
+pub mastered : (b : Beginning) (acts : List Act) (place : ℕ) (link : LinkConf) → slice_get b.links place ≡ Some link → slice_get (masters b acts).connections place ≡ Some (master_with link (pair link (suc place) (journal b acts)))
+mastered b acts place link h = ap (λ (cs : List Connection). slice_get cs place) (masters_are b acts) ∙ there_at b.links (journal b acts) place (Some link) h
 
 agree_if : (b : Beginning) (acts : List Act) (k : ℕ) (o : Option LinkConf) → link_at b.links k ≡ o
     → IfSome o (λ link. IsSomeAnd (connection k (masters b acts)) (λ c. deeds side.Master (pair link k (journal b acts)) ≡ c.deeds))
 agree_if b acts k None h = tt
 agree_if b acts zero (Some link) h = absurd (cc h)
-agree_if b acts (suc place) (Some link) h = at_link b acts place link h
+agree_if b acts (suc place) (Some link) h =
+    subst (λ (o : Option Connection). IsSomeAnd o (λ c. deeds side.Master (pair link (suc place) (journal b acts)) ≡ c.deeds)) (sym (mastered b acts place link h)) refl
 
 pub masters_agree : (b : Beginning) (acts : List Act) → MastersAgree b acts
 masters_agree b acts = λ k. agree_if b acts k (link_at b.links k) refl

@@ -28,7 +28,7 @@ use Rattle.exchange_model.proofs.Offering.Older.{older_world, older_clean}
 use Rattle.plant_model.specs.declared.event.PlantEvent.TheVariants as event
 use Rattle.plant_model.specs.declared.journal.JournalStep.{JournalStep}
 use Rattle.plant_model.specs.Acts.{Beginning, Event, App, Act, Start, Happen, PullFrom, cycle_of, offers, steps_of, journal}
-use Rattle.plant_model.specs.Bound.{slave_offers, is_off, inputs_after, offers_after, Quiet, HasLinks, is_on, Reacts}
+use Rattle.plant_model.specs.Bound.{slave_offers, is_off, inputs_after, offers_after, StaysOff, HasLinks, is_on, Reacts}
 use Rattle.plant_model.specs.Pair.{pair, link_at, is_tick, ticks}
 use Rattle.plant_model.proofs.FairPlant.{AreWorlds}
 use Rattle.plant_model.proofs.KeptOff.{out_due, placed, input_is, offered_zero, act_keeps}
@@ -86,13 +86,13 @@ zero_offered b bound estop done e off =
     sym (ap (λ (o : Option LinkConf). offers_bit bound.estop.bit (option_map_or (λ link. next_offered (of_end side.Slave (pair link bound.estop.link (journal b done)))) o Unset)) e)
     ∙ not_true (offers_bit bound.estop.bit (slave_offers b bound.estop.link done)) off
 
-quiet_offers : (b : Beginning) (bound : BoundSpec) (estop : LinkConf) (later earlier : List Act) → link_at b.links bound.estop.link ≡ Some estop → Quiet b bound later earlier
+quiet_offers : (b : Beginning) (bound : BoundSpec) (estop : LinkConf) (later earlier : List Act) → link_at b.links bound.estop.link ≡ Some estop → StaysOff b bound later earlier
     → HoldsAfter (λ done. OffersZero side.Slave bound.estop.bit (pair estop bound.estop.link (journal b done))) later earlier
 quiet_offers b bound estop [] earlier e q = tt
 quiet_offers b bound estop (act ∷ later) earlier e q = (zero_offered b bound estop (act ∷ later ++ earlier) e q.0, quiet_offers b bound estop later earlier e q.2)
 
 -- so the application reads it as 0, some ticks later
-input_off : (b : Beginning) (bound : BoundSpec) (estop : LinkConf) (later earlier : List Act) → link_at b.links bound.estop.link ≡ Some estop → Quiet b bound later earlier
+input_off : (b : Beginning) (bound : BoundSpec) (estop : LinkConf) (later earlier : List Act) → link_at b.links bound.estop.link ≡ Some estop → StaysOff b bound later earlier
     → Clean estop bound.estop.link (journal b (later ++ earlier)) → ticks (journal b earlier) + 2 * estop.master.watchdog ≤ ticks (journal b (later ++ earlier)) + 1
     → bit_at (inputs_after b (later ++ earlier)) bound.estop ≡ false
 input_off b bound estop later earlier e q c many =
@@ -119,7 +119,7 @@ by_cycle X Y was None e some x none = none e
 by_cycle X Y was (Some a) e some x none = subst (λ (o : Option Answer). IfSome o (λ a. X → Y)) e some x
 
 -- the master of the drive offers its bit as 0 from then on
-offer_off : (b : Beginning) (bound : BoundSpec) (estop : LinkConf) (later earlier : List Act) → link_at b.links bound.estop.link ≡ Some estop → Quiet b bound later earlier
+offer_off : (b : Beginning) (bound : BoundSpec) (estop : LinkConf) (later earlier : List Act) → link_at b.links bound.estop.link ≡ Some estop → StaysOff b bound later earlier
     → Clean estop bound.estop.link (journal b (later ++ earlier)) → ticks (journal b earlier) + 2 * estop.master.watchdog ≤ ticks (journal b (later ++ earlier)) + 1
     → bit_at (offers_after b (later ++ earlier)) bound.drive ≡ false
 offer_off b bound estop [] earlier e q c many = let some : 0 < estop.master.watchdog = estop.master.some_watchdog in absurd (omega arith)
@@ -141,7 +141,7 @@ record Kept (b : Beginning) (bound : BoundSpec) (estop drive : LinkConf) (later 
 zero_back : (bound : BoundSpec) (drive : LinkConf) → GoesBack (OffersZero side.Master bound.drive.bit) drive
 zero_back bound drive = λ end bytes w. delivered_zero side.Master bound.drive.bit end bytes drive w
 
-kept_off : (b : Beginning) (bound : BoundSpec) (estop drive : LinkConf) (later earlier : List Act) → HasLinks b bound estop drive → Quiet b bound later earlier
+kept_off : (b : Beginning) (bound : BoundSpec) (estop drive : LinkConf) (later earlier : List Act) → HasLinks b bound estop drive → StaysOff b bound later earlier
     → Clean estop bound.estop.link (journal b (later ++ earlier)) → ticks (journal b earlier) + 2 * estop.master.watchdog ≤ ticks (journal b (later ++ earlier)) + 2 → Kept b bound estop drive later earlier
 kept_off b bound estop drive [] earlier links q c many =
     let some : 0 < estop.master.watchdog = estop.master.some_watchdog in
@@ -161,7 +161,7 @@ kept_off b bound estop drive (act ∷ later) earlier links q c many =
     ]
 
 -- so its slave has it as 0 in time, also after some steps more of an act, in which nothing is pulled
-drive_off : (b : Beginning) (bound : BoundSpec) (estop drive : LinkConf) (later earlier : List Act) (part : List JournalStep) → HasLinks b bound estop drive → Quiet b bound later earlier → Silent part
+drive_off : (b : Beginning) (bound : BoundSpec) (estop drive : LinkConf) (later earlier : List Act) (part : List JournalStep) → HasLinks b bound estop drive → StaysOff b bound later earlier → Silent part
     → Clean estop bound.estop.link (journal b (later ++ earlier)) → Clean drive bound.drive.link (journal b (later ++ earlier) ++ part)
     → ticks (journal b earlier) + (2 * estop.master.watchdog + 2 * drive.master.watchdog) ≤ ticks (journal b (later ++ earlier) ++ part) + 3
     → ticks (journal b (later ++ earlier) ++ part) ≤ ticks (journal b (later ++ earlier)) + 1 → is_on bound drive (journal b (later ++ earlier) ++ part) ≡ false
@@ -200,7 +200,7 @@ ticks_joined_steps : (xs ys : List JournalStep) → ticks (xs ++ ys) ≡ ticks x
 ticks_joined_steps xs ys = sum_by-append (λ s. cond (is_tick s) 1 0) xs ys
 
 -- after the first steps of an act, or after all of it
-within_off : (b : Beginning) (bound : BoundSpec) (estop drive : LinkConf) (act : Act) (later earlier : List Act) (us rest : List JournalStep) → HasLinks b bound estop drive → Quiet b bound (act ∷ later) earlier
+within_off : (b : Beginning) (bound : BoundSpec) (estop drive : LinkConf) (act : Act) (later earlier : List Act) (us rest : List JournalStep) → HasLinks b bound estop drive → StaysOff b bound (act ∷ later) earlier
     → steps_of act (offers b act (later ++ earlier)) ≡ us ++ rest → Clean estop bound.estop.link (journal b (later ++ earlier) ++ us) → Clean drive bound.drive.link (journal b (later ++ earlier) ++ us)
     → ticks (journal b earlier) + (2 * estop.master.watchdog + 2 * drive.master.watchdog) ≤ ticks (journal b (later ++ earlier) ++ us) + 3 → is_on bound drive (journal b (later ++ earlier) ++ us) ≡ false
 within_off b bound estop drive act later earlier us [] links q e ce cd many =
@@ -222,7 +222,7 @@ within_off b bound estop drive act later earlier us (r ∷ rest) links q e ce cd
     drive_off b bound estop drive later earlier us links q.2 (part_silent b act (later ++ earlier) us rest r e) (clean_before estop bound.estop.link js us ce) cd many (omega arith)
 
 -- after each step with as many ticks
-pub steps_off : (b : Beginning) (bound : BoundSpec) (estop drive : LinkConf) (later earlier : List Act) (steps rest : List JournalStep) → HasLinks b bound estop drive → Quiet b bound later earlier
+pub steps_off : (b : Beginning) (bound : BoundSpec) (estop drive : LinkConf) (later earlier : List Act) (steps rest : List JournalStep) → HasLinks b bound estop drive → StaysOff b bound later earlier
     → journal b (later ++ earlier) ≡ steps ++ rest → Clean estop bound.estop.link steps → Clean drive bound.drive.link steps
     → ticks (journal b earlier) + (2 * estop.master.watchdog + 2 * drive.master.watchdog) ≤ ticks steps + 3 → is_on bound drive steps ≡ false
 steps_off b bound estop drive [] earlier steps rest links q e ce cd many =

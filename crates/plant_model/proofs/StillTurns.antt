@@ -25,7 +25,7 @@ use Rattle.plant_model.specs.declared.event.PlantEvent.TheVariants as event
 use Rattle.plant_model.specs.declared.journal.JournalStep.{JournalStep}
 use Rattle.plant_model.specs.declared.journal.JournalStep.TheVariants as step
 use Rattle.plant_model.specs.Acts.{Beginning, Event, App, Act, Start, Happen, PullFrom, settings, delivery_call, calls, masters, cycle_of, offer_step, offers, journal}
-use Rattle.plant_model.specs.Bound.{is_off, is_guarded, is_still, Quiet}
+use Rattle.plant_model.specs.Bound.{is_off, is_guarded, is_still, StaysOff}
 use Rattle.plant_model.specs.Pair.{next_of, pair, link_at}
 use Rattle.plant_model.specs.Promises.{AllSound}
 use Rattle.plant_model.specs.Turns.{turn_acts}
@@ -49,7 +49,7 @@ both_second false false h = h
 
 -- an act after which a bound is still goes on with what was quiet
 pub quiet_on : (b : Beginning) (bound : BoundSpec) (act : Act) (later earlier : List Act) → AllSound b (act ∷ later ++ earlier) → is_still b bound (act ∷ later ++ earlier) ≡ true
-    → Quiet b bound later earlier → Quiet b bound (act ∷ later) earlier
+    → StaysOff b bound later earlier → StaysOff b bound (act ∷ later) earlier
 quiet_on b bound act later earlier s still q =
     let done : List Act = act ∷ later ++ earlier in (
       both_first (is_off b bound.estop done) (is_guarded b bound done) still,
@@ -184,7 +184,7 @@ turn_of_tick parcels = pulls_of_tick (nat_lt (length parcels) 64) parcels
 -- a bound that is still before a tick is still and quiet after it
 pub record StaysQuiet (b : Beginning) (bound : BoundSpec) (later earlier : List Act) : Type 0 where
   pub still : is_still b bound (later ++ earlier) ≡ true
-  pub quiet : Quiet b bound later earlier
+  pub quiet : StaysOff b bound later earlier
 
 pub ticked_quiet : (b : Beginning) (bound : BoundSpec) (more later earlier : List Act) → AreOfTick more → AllSound b ((more ++ later) ++ earlier)
     → StaysQuiet b bound later earlier → StaysQuiet b bound (more ++ later) earlier

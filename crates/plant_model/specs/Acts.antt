@@ -1,5 +1,6 @@
 -- What a plant did, act by act, and what that means: the calls of its master of many connections, the steps of its
--- journal, and the uses of its channel. Acts and calls are listed newest first, steps and uses oldest first.
+-- journal, and the uses of its channel. Acts and calls are listed newest first, steps and uses oldest first. Within an
+-- act, its steps and its uses have no order against each other.
 use Rattle.std.specs.Prelude.{ℕ, suc, ◌-◌, ◌==◌, Bool, false, List, [], ◌∷◌, ◌++◌, length, map, take, reverse, Option, Some, None, option_to_list, option_and_then, if◌then◌else◌}
 use Rattle.fsoe_base.specs.declared.command.End.{End}
 use Rattle.fsoe_base.specs.declared.command.End.TheVariants as side
@@ -67,7 +68,8 @@ calls b (act ∷ acts) = option_to_list (call_of b act) ++ calls b acts
 abbrev pub settings : Beginning → List MasterSettings
 settings b = map (λ link. link.master) b.links
 
--- what the calls of these acts mean: the connections of the master, and the application that runs
+-- what the calls of these acts mean: the connections of the master, and the application that runs. `b.app` is only what
+-- the start changes to
 abbrev pub masters : Beginning → List Act → Meant
 masters b acts = meant (settings b) b.app (calls b acts)
 
@@ -110,7 +112,8 @@ is_cut k (Happen (Event event) ∷ acts) = cut_after k event (is_cut k acts)
 is_cut k (Happen (App app) ∷ acts) = is_cut k acts
 is_cut k (PullFrom gift ∷ acts) = is_cut k acts
 
--- of the frames sent by now those that weren't sent before, the first of which comes first; both lists are newest first
+-- of the frames sent by now those that weren't sent before, the first of which comes first; both lists are newest
+-- first. In an act an end sends one frame at most
 abbrev pub newer : List (List ℕ) → List (List ℕ) → List (List ℕ)
 newer before now = reverse (take (length now - length before) now)
 
@@ -139,7 +142,7 @@ uses_of seed Start pushes = Begin seed ∷ pushes
 uses_of seed (Happen said) pushes = pushes
 uses_of seed (PullFrom gift) pushes = Pull gift ∷ pushes
 
--- the uses of the channel by these further acts, after those
+-- the uses of the channel by these further acts, after those; oldest first
 abbrev pub uses_after : Beginning → List Act → List Act → List Use
 uses_after b [] acts = []
 uses_after b (act ∷ more) acts =

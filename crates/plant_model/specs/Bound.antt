@@ -1,4 +1,4 @@
--- The reaction bound of a plant: for how long a drive may stay on after the e-stop that guards it went off, whatever
+-- The reaction bound of a plant: for how long a drive may stay on after the e-stop that guards it was pressed, whatever
 -- the channel gives. The e-stop is a bit that a slave offers and that its master takes to the application; the drive is
 -- a bit that the application answers, and that its master offers to another slave. Acts are listed newest first, steps
 -- oldest first.
@@ -24,7 +24,7 @@ use Rattle.plant_model.specs.Turns.{acts}
 abbrev pub slave_offers : Beginning → ℕ → List Act → Offered
 slave_offers b k acts = option_map_or (λ link. next_offered (of_end side.Slave (pair link k (journal b acts)))) (link_at b.links k) Unset
 
--- whether the slave of the e-stop offers its bit as 0, or is held
+-- whether the e-stop is off: its slave offers its bit as 0, or is held
 abbrev pub is_off : Beginning → Bit → List Act → Bool
 is_off b estop acts = not (offers_bit estop.bit (slave_offers b estop.link acts))
 
@@ -32,7 +32,8 @@ is_off b estop acts = not (offers_bit estop.bit (slave_offers b estop.link acts)
 abbrev pub is_guarded : Beginning → BoundSpec → List Act → Bool
 is_guarded b bound acts = (masters b acts).app.guards bound.drive bound.estop
 
--- whether a bound is still after these acts: its e-stop is off, and the application that runs guards its drive by that
+-- whether a bound is still (active) after these acts, not by the journal alone: its e-stop is off, and the application
+-- that runs guards its drive by that
 abbrev pub is_still : Beginning → BoundSpec → List Act → Bool
 is_still b bound acts = is_off b bound.estop acts && is_guarded b bound acts
 
@@ -49,19 +50,20 @@ KeepsOff b bound act acts =
     IfSome (cycle_of b act acts) (λ a.
     bit_at (inputs_after b (act ∷ acts)) bound.estop ≡ false → bit_at (offers_after b (act ∷ acts)) bound.drive ≡ false)
 
--- a bound is quiet from some acts on: its e-stop is off after these and after each later one, and each later one keeps
--- its drive off
-abbrev pub Quiet : Beginning → BoundSpec → List Act → List Act → Type 0
-Quiet b bound [] earlier = IsTrue (is_off b bound.estop earlier)
-Quiet b bound (act ∷ later) earlier =
-    IsTrue (is_off b bound.estop (act ∷ later ++ earlier)) × KeepsOff b bound act (later ++ earlier) × Quiet b bound later earlier
+-- from some acts on the e-stop of a bound is off, after these and after each later one, and each later one keeps the
+-- drive off
+abbrev pub StaysOff : Beginning → BoundSpec → List Act → List Act → Type 0
+StaysOff b bound [] earlier = IsTrue (is_off b bound.estop earlier)
+StaysOff b bound (act ∷ later) earlier =
+    IsTrue (is_off b bound.estop (act ∷ later ++ earlier)) × KeepsOff b bound act (later ++ earlier) × StaysOff b bound later earlier
 
 -- the connections of a bound, which there are
 pub record HasLinks (b : Beginning) (bound : BoundSpec) (estop drive : LinkConf) : Type 0 where
   pub estop_is : link_at b.links bound.estop.link ≡ Some estop
   pub drive_is : link_at b.links bound.drive.link ≡ Some drive
 
--- the limit of a bound in ticks: twice the watchdog of the one connection and twice that of the other
+-- the limit of a bound in ticks: twice the watchdog of the one connection and twice that of the other. A report calls a
+-- tick late from the limit on; the law below is sharper by three
 abbrev pub limit : LinkConf → LinkConf → ℕ
 limit estop drive = 2 * estop.master.watchdog + 2 * drive.master.watchdog
 
@@ -74,11 +76,12 @@ pub record AreClean (bound : BoundSpec) (estop drive : LinkConf) (journal : List
 abbrev pub is_on : BoundSpec → LinkConf → List JournalStep → Bool
 is_on bound drive journal = bit_of (outputs_at drive side.Slave (pair drive bound.drive.link journal)) bound.drive.bit
 
--- the reaction bound: where a bound is quiet from some acts on, its drive is off after each step before which, that
--- step counted, as many ticks came since as the limit has, less three, as long as neither pair has an other entry
+-- the reaction bound: let the e-stop stay off after `earlier`. The drive is off by each first part of the journal that
+-- has at least as many ticks more than that of `earlier` as the limit, less three, as long as no entry of either pair
+-- is other in this part
 abbrev pub Reacts : Beginning → List Act → Type 0
 Reacts b done =
-    (bound : BoundSpec) (estop drive : LinkConf) (more later earlier : List Act) (steps rest : List JournalStep)
-    → HasLinks b bound estop drive → done ≡ more ++ (later ++ earlier) → Quiet b bound later earlier
-    → journal b (later ++ earlier) ≡ steps ++ rest → AreClean bound estop drive steps
+    (bound : BoundSpec) (estop drive : LinkConf) (more later earlier : List Act) (steps newer : List JournalStep)
+    → HasLinks b bound estop drive → done ≡ more ++ (later ++ earlier) → StaysOff b bound later earlier
+    → journal b (later ++ earlier) ≡ steps ++ newer → AreClean bound estop drive steps
     → ticks (journal b earlier) + limit estop drive ≤ ticks steps + 3 → is_on bound drive steps ≡ false

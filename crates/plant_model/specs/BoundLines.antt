@@ -31,7 +31,7 @@ abbrev pub is_driven : Beginning → BoundSpec → List Act → Bool
 is_driven b bound done = option_map_or (λ drive. is_on bound drive (journal b done)) (link_at b.links bound.drive.link) false
 
 -- what a line of the script says of a bound after what was said before, where these are all acts with it: if it is a
--- tick, whether the drive is on; and whether the moment after it is still
+-- tick, whether the drive is on; and then whether the moment after it is still
 abbrev pub heard : Beginning → BoundSpec → Bool → List Act → List reaction.Said → List reaction.Said
 heard b bound tick done before =
     reaction.Quiet (is_still b bound done) ∷ (if tick then reaction.Tick (is_driven b bound done) ∷ before else before)
@@ -41,7 +41,7 @@ abbrev pub said_of : Beginning → BoundSpec → List Turn → List reaction.Sai
 said_of b bound [] = heard b bound false (acts []) []
 said_of b bound (turn ∷ turns) = heard b bound (is_tick (line_step turn.said)) (acts (turn ∷ turns)) (said_of b bound turns)
 
--- the least number of a late tick, if there is one
+-- the least number of a late tick, if there is one; ticks are counted as in the lines of ticks
 abbrev pub broken_at : Beginning → BoundSpec → List Turn → Option ℕ
 broken_at b bound turns = reaction.broken_of (limit_of b.links bound) (said_of b bound turns)
 

@@ -31,7 +31,7 @@ pub record IsTurn (links : List LinkConf) (turn : Turn) : Type 0 where
   pub fits : SaidFits links turn.said
   pub few : MayPull turn.said turn.pulled
 
--- the pulls of a tick: each gave a parcel, until one gave nothing or 64 were done
+-- the pulls of a tick, the last in front: each gave a parcel, until one gave nothing or 64 were done
 abbrev pub pulls : List Parcel → List Act
 pulls parcels =
     (if nat_lt (length parcels) 64 then PullFrom None ∷ [] else []) ++ map (λ parcel. PullFrom (Some parcel)) parcels
@@ -41,7 +41,9 @@ abbrev pub pulls_at : Said → List Parcel → List Act
 pulls_at (Event event.Tick) parcels = pulls parcels
 pulls_at _ parcels = []
 
--- the acts at a line: what it says, and then the pulls
+-- the acts at a line, the last in front: what it says, and then the pulls. So at a tick come first the ticks of all
+-- slaves and of all masters with a cycle of the application (`script_part`, `event_call`, `cycle_in`), its offers and
+-- the frames that were sent (`offers`, `all_pushes`); and then pull after pull, each with what it leads to
 abbrev pub turn_acts : Said → List Parcel → List Act
 turn_acts said parcels = pulls_at said parcels ++ Happen said ∷ []
 

@@ -15,7 +15,7 @@ Leads (Begin seed) old new = Begins seed old new
 Leads (Push parcel) old new = PushesParcel parcel old new
 Leads (Pull gift) old new = PullsParcel gift old new
 
--- so these uses do, one after the other
+-- so these uses do, one after the other. Of what the channel doesn't tell, this says nothing
 abbrev pub Trace : List Use → Told → Told → Type 0
 Trace [] old new = old ≡ new
 Trace (one ∷ uses) old new = (next : Told) × Leads one old next × Trace uses next new

@@ -10,8 +10,8 @@ pub enum JournalStep {
     Script(PlantEvent),
     /// Another application runs from now on.
     App,
-    /// A cycle of the application gave the master of the connection an offer that it hadn't before. The offers of one
-    /// cycle are in the order of the connections: after the tick or the change of the application that ran it, before
+    /// A cycle of the application gave the master of the connection another offer than it had. The offers of one cycle
+    /// are in the order of the connections: after the tick or the change of the application that ran it, before
     /// the parcel that did. Those of the cycle at the plant's start come first.
     Offer { link: u16, load: Image },
     /// The channel gave this parcel.

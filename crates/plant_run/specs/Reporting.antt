@@ -35,7 +35,8 @@ journal_after b (Some h) turns = journal b (acts turns)
 abbrev pub run_stop : ℕ → Script → Stop
 run_stop happened script = if happened == length script.events then script.stop else Refused (script.lines + happened + 1) NoApp
 
--- a whole report of a plant over a script, whatever its channel may have given, and how a run that writes it ends
+-- a whole report of a plant over a script, whatever its channel may have given, and how a run that writes it ends; what
+-- a run promises of its report is `IsReportOf`
 abbrev pub PlantReports : Terms → Script → Ended → List ℕ → Type 0
 PlantReports t script ended text =
     (turns : List Turn) × AreTurns (said t.spare script.events) turns

@@ -3,6 +3,7 @@ ghost use Rattle.std.specs.Prelude.{◌≡◌, []};
 ghost use Rattle.multi_master.specs.Standing.{app_view};
 ghost use Rattle.plant_run.specs.Given.{terms_of};
 ghost use Rattle.plant_run.specs.Ran.{RanPlant};
+ghost use Rattle.file_run.specs.Outside.{told};
 
 use crate::machine::{PlantRun, Telling};
 use black_channel::Channel;
@@ -24,8 +25,8 @@ fn run_given<'a, 'o, H: Application, C: Channel, S: Source, K: Sink>(
     ensures channel_stays { given.new.channel.ghost_name ≡ given.old.channel.ghost_name }
     ensures plant_stays { given.new.plant.ghost_name ≡ given.old.plant.ghost_name }
     ensures ran { let A = ⟦<KindOf<H> as Application>⟧ in RanPlant (terms_of (app_view A.rule A.holds A.guards) given.old.conf.now given.old.plant.now.master.app given.old.spare.now.items) result (record {
-      source = record { before = S.left source.old; after = S.left source.new; faults_before = S.faults source.old; faults_after = S.faults source.new };
-      sink = record { before = K.written sink.old; after = K.written sink.new; faults_before = K.faults sink.old; faults_after = K.faults sink.new };
+      source = told S.left S.faults source.old source.new;
+      sink = told K.written K.faults sink.old sink.new;
     }) (C.told given.old.channel.now) (C.told given.new.channel.now) given.new.plant.now.journal }
 {
     run_over::<Telling<'a, 'o, H, C>, S, K>(given, source, sink)
@@ -60,8 +61,8 @@ pub fn run_plant<H: Application, C: Channel, S: Source, K: Sink>(
 ) -> Ended
     requires empty { journal.old ≡ [] }
     ensures { let A = ⟦<KindOf<H> as Application>⟧ in RanPlant (terms_of (app_view A.rule A.holds A.guards) conf.now app spare.items) result (record {
-      source = record { before = S.left source.old; after = S.left source.new; faults_before = S.faults source.old; faults_after = S.faults source.new };
-      sink = record { before = K.written sink.old; after = K.written sink.new; faults_before = K.faults sink.old; faults_after = K.faults sink.new };
+      source = told S.left S.faults source.old source.new;
+      sink = told K.written K.faults sink.old sink.new;
     }) (C.told channel.old) (C.told channel.new) journal.new }
 {
     let mut spare = spare;

@@ -1,7 +1,7 @@
 use Rattle.std.proofs.Common.{◌≡◌, ◌≤◌, ◌+◌, ◌-◌, ◌*◌, ℕ, List, Some, length, vec_len, slice_get, slice_index_or, slice_index, ◌∙◌, arith}
 use Rattle.std.proofs.lemmas.Option.{slice_get-get_or}
 use Rattle.plant_core.specs.Link.{LinkView}
-use Rattle.multi_master.specs.Standing.{IsNumber}
+use Rattle.multi_master.specs.Standing.{IsNumber, links}
 use Rattle.multi_master.proofs.Places.{all_at}
 use Rattle.plant_core.proofs.Acting.{noted_set, noted_less, fixed_set}
 use Rattle.plant_core.proofs.Offering.{offers_all, offers_next}
@@ -14,7 +14,7 @@ loop-i-preserved g c =
     let n : ℕ = slice_index listed i in
     let place : ℕ = c.from.result - 1 in
     let found : slice_get listed i ≡ Some n = slice_get-get_or listed i 0 (omega arith) in
-    let number = all_at (IsNumber (length c.args.master.now.masters)) listed i n c.changed-changed.ensures.numbers.each found in
+    let number = all_at (IsNumber (links c.args.master.now)) listed i n c.changed-changed.ensures.numbers.each found in
     let first = number.first in
     let last = number.last in
     let v : LinkView = slice_index_or c.loop-i.links place c.index-links-from.result in

@@ -13,4 +13,4 @@ returns-clause-ready g c =
     let dids : vec_len c.in_ok-dids.dids ≡ length c.args.confs.now = c.in_ok-dids.ensures in
     let outs : vec_len c.in_ok-outs.outs ≡ length c.args.confs.now = c.in_ok-outs.ensures in
     made_ready c.connect.new.self links.items c.in_ok-dids.dids.items c.in_ok-outs.outs.items c.args.bounds.now c.args.confs.now links_are c.requires
-    (c.in-Ok.ensures.links ∙ settings.ok.0 ∙ ap length set ∙ length-map c.args.confs.now master_in) (sym c.in_ok-dids.dids.ok.0 ∙ dids) (sym c.in_ok-outs.outs.ok.0 ∙ outs)
+    (ap length c.in-Ok.ensures.settings ∙ ap length set ∙ length-map c.args.confs.now master_in) (sym c.in_ok-dids.dids.ok.0 ∙ dids) (sym c.in_ok-outs.outs.ok.0 ∙ outs)

@@ -1,19 +1,19 @@
 use Rattle.std.proofs.Common.{◌-◌, refl, ap}
 use Rattle.plant_core.specs.Link.{fixed_of}
-use Rattle.plant_core.proofs.Acting.{placed, fixed_set}
+use Rattle.multi_master.proofs.Places.{placed}
+use Rattle.plant_core.proofs.Acting.{fixed_set}
 use Rattle.plant_core.proofs.OneDeed.{cut_event}
 use Rattle.plant_core.proofs.ends.Ends.cut.Goals as goal
 
 pub returns-clause-goes : goal.returns-clause-goes
 returns-clause-goes g c =
     let links = c.args.self.now.links in
-    let p = placed links.items links.len c.args.link c.from.result c.index_mut.result.now links.ok.0 c.from.ensures c.requires.first c.requires.last c.index_mut.ensures.value in
+    let p = placed links.items _ _ _ _ c.requires.link links.ok.0 c.from.ensures c.index_mut.ensures.value in
     λ told. cut_event _ _ c.args.link c.args.cut told (record {
       place = c.from.result - 1;
-      number = p.number;
       was = c.index_mut.result.now;
       is = c.set_cut.new.self;
-      at = p.at;
+      placed = p;
       cut_is = c.set_cut.ensures;
       master = refl;
       links = refl;
@@ -23,5 +23,5 @@ returns-clause-goes g c =
 pub returns-clause-fixed : goal.returns-clause-fixed
 returns-clause-fixed g c =
     let links = c.args.self.now.links in
-    let p = placed links.items links.len c.args.link c.from.result c.index_mut.result.now links.ok.0 c.from.ensures c.requires.first c.requires.last c.index_mut.ensures.value in
+    let p = placed links.items _ _ _ _ c.requires.link links.ok.0 c.from.ensures c.index_mut.ensures.value in
     fixed_set links.items (c.from.result - 1) c.index_mut.result.now c.set_cut.new.self p.at (ap fixed_of c.set_cut.ensures)

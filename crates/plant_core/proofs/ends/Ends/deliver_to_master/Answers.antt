@@ -2,8 +2,8 @@ use Rattle.std.proofs.Common.{◌≡◌, ◌≤◌, ◌-◌, ◌*◌, ℕ, List,
 use Rattle.plant_core.specs.Link.{LinkView}
 use Rattle.plant_core.specs.Standing.{fixed_in}
 use Rattle.multi_master.proofs.Keeping.{written_back}
-use Rattle.multi_master.proofs.Places.{all_at}
-use Rattle.plant_core.proofs.Acting.{placed, same_count, still_plant, noted_set, noted_less, fixed_set}
+use Rattle.multi_master.proofs.Places.{all_at, placed}
+use Rattle.plant_core.proofs.Acting.{same_count, still_plant, noted_set, noted_less, fixed_set}
 use Rattle.plant_core.proofs.Cycling.{frame_goes}
 use Rattle.plant_core.proofs.ends.Ends.deliver_to_master.Goals as goal
 
@@ -17,7 +17,7 @@ returns-clause-delivers g c =
     let lengths = c.note_offers.ensures.fixed ∙ ap fixed_in c.as_mut_slice.ensures.value in
     let count : length some ≡ length links.items = same_count some links.items lengths in
     let back = written_back some links.items links.len links.ok.0 count in
-    let p = placed some links.len c.args.link c.from.result was (links.ok.0 ∙ sym count) c.from.ensures c.requires.first c.requires.last (rw back at c.index_mut-kept.ensures.value) in
+    let p = placed some _ _ _ _ c.requires.link (links.ok.0 ∙ sym count) c.from.ensures (rw back at c.index_mut-kept.ensures.value) in
     let follows = rw c.bytes.ensures.value at c.deliver_into.ensures.follows in
     let answers = rw c.bytes.ensures.value at c.deliver_into.ensures.answers in
     let offers = rw c.as_mut_slice.ensures.value at c.note_offers.ensures.offers in
@@ -28,13 +28,12 @@ returns-clause-delivers g c =
       did = c.deliver_into.new.did;
       sent = c.deliver_into.new.out;
       place = place;
-      number = p.number;
       was = was;
       is = is;
       follows = follows;
       answers = answers;
       offers = offers;
-      at = p.at;
+      placed = p;
       acts = acts;
       cut = c.master_acted.ensures.notes.cut;
       links = refl;
@@ -51,7 +50,7 @@ returns-clause-ready g c =
     let lengths = c.note_offers.ensures.fixed ∙ ap fixed_in c.as_mut_slice.ensures.value in
     let count : length some ≡ length links.items = same_count some links.items lengths in
     let back = written_back some links.items links.len links.ok.0 count in
-    let p = placed some links.len c.args.link c.from.result was (links.ok.0 ∙ sym count) c.from.ensures c.requires.first c.requires.last (rw back at c.index_mut-kept.ensures.value) in
+    let p = placed some _ _ _ _ c.requires.link (links.ok.0 ∙ sym count) c.from.ensures (rw back at c.index_mut-kept.ensures.value) in
     let before : ℕ = vec_len c.note_offers.new.steps in
     let after : ℕ = vec_len c.note_pulled.new.steps in
     let counted = c.note_pulled.ensures.count in
@@ -59,7 +58,7 @@ returns-clause-ready g c =
     let one = c.master_acted.ensures.notes.noted in
     let same = same_count (slice_set some place is) links.items (fixed_set some place was is p.at c.master_acted.ensures.notes.fixed ∙ lengths) in
     rw back (still_plant c.args.self.now.master c.deliver_into.new.self links.items (slice_set some place is) c.args.self.now.dids.items c.args.self.now.dids.items c.args.self.now.outs.items c.args.self.now.outs.items
-    (vec_len c.args.steps.now) after c.requires.ready c.deliver_into.ensures.links same refl refl
+    (vec_len c.args.steps.now) after c.requires.ready (ap length c.deliver_into.ensures.settings) same refl refl
     (noted_set (2 * after) place some is (noted_less (2 * before) (2 * after) some (omega arith) c.note_offers.ensures.noted) (omega arith)))
 
 pub returns-clause-fixed : goal.returns-clause-fixed
@@ -72,5 +71,5 @@ returns-clause-fixed g c =
     let lengths = c.note_offers.ensures.fixed ∙ ap fixed_in c.as_mut_slice.ensures.value in
     let count : length some ≡ length links.items = same_count some links.items lengths in
     let back = written_back some links.items links.len links.ok.0 count in
-    let p = placed some links.len c.args.link c.from.result was (links.ok.0 ∙ sym count) c.from.ensures c.requires.first c.requires.last (rw back at c.index_mut-kept.ensures.value) in
+    let p = placed some _ _ _ _ c.requires.link (links.ok.0 ∙ sym count) c.from.ensures (rw back at c.index_mut-kept.ensures.value) in
     rw back (fixed_set some place was is p.at c.master_acted.ensures.notes.fixed ∙ lengths)

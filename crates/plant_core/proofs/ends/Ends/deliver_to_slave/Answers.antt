@@ -1,19 +1,19 @@
 use Rattle.std.proofs.Common.{◌-◌, refl}
-use Rattle.plant_core.proofs.Acting.{placed, fixed_set}
+use Rattle.multi_master.proofs.Places.{placed}
+use Rattle.plant_core.proofs.Acting.{fixed_set}
 use Rattle.plant_core.proofs.OneDeed.{slave_delivered}
 use Rattle.plant_core.proofs.ends.Ends.deliver_to_slave.Goals as goal
 
 pub returns-clause-delivers : goal.returns-clause-delivers
 returns-clause-delivers g c =
     let links = c.args.self.now.links in
-    let p = placed links.items links.len c.args.link c.from.result c.index_mut-kept.result.now links.ok.0 c.from.ensures c.requires.first c.requires.last c.index_mut-kept.ensures.value in
+    let p = placed links.items _ _ _ _ c.requires.link links.ok.0 c.from.ensures c.index_mut-kept.ensures.value in
     let acts = rw c.bytes.ensures.value at c.deliver_to_slave.ensures.acts in
     slave_delivered _ _ c.args.link c.args.frame.now _ _ (record {
       place = c.from.result - 1;
-      number = p.number;
       was = c.index_mut-kept.result.now;
       is = c.deliver_to_slave.new.link;
-      at = p.at;
+      placed = p;
       acts = acts;
       cut = c.deliver_to_slave.ensures.notes.cut;
       master = refl;
@@ -24,5 +24,5 @@ returns-clause-delivers g c =
 pub returns-clause-fixed : goal.returns-clause-fixed
 returns-clause-fixed g c =
     let links = c.args.self.now.links in
-    let p = placed links.items links.len c.args.link c.from.result c.index_mut-kept.result.now links.ok.0 c.from.ensures c.requires.first c.requires.last c.index_mut-kept.ensures.value in
+    let p = placed links.items _ _ _ _ c.requires.link links.ok.0 c.from.ensures c.index_mut-kept.ensures.value in
     fixed_set links.items (c.from.result - 1) c.index_mut-kept.result.now c.deliver_to_slave.new.link p.at c.deliver_to_slave.ensures.notes.fixed

@@ -1,18 +1,18 @@
 use Rattle.std.proofs.Common.{◌-◌, refl}
-use Rattle.plant_core.proofs.Acting.{placed, fixed_set}
+use Rattle.multi_master.proofs.Places.{placed}
+use Rattle.plant_core.proofs.Acting.{fixed_set}
 use Rattle.plant_core.proofs.OneDeed.{slave_event, proper_move}
 use Rattle.plant_core.proofs.ends.Ends.happen_at_slave.Goals as goal
 
 pub returns-clause-goes : goal.returns-clause-goes
 returns-clause-goes g c =
     let links = c.args.self.now.links in
-    let p = placed links.items links.len c.args.link c.from.result c.index_mut-kept.result.now links.ok.0 c.from.ensures c.requires.first c.requires.last c.index_mut-kept.ensures.value in
+    let p = placed links.items _ _ _ _ c.requires.link links.ok.0 c.from.ensures c.index_mut-kept.ensures.value in
     slave_event _ _ c.args.event.now c.args.link c.args.what.now _ _ c.requires.is (record {
       place = c.from.result - 1;
-      number = p.number;
       was = c.index_mut-kept.result.now;
       is = c.happen_at_slave.new.link;
-      at = p.at;
+      placed = p;
       acts = c.happen_at_slave.ensures.acts;
       cut = c.happen_at_slave.ensures.notes.cut;
       master = refl;
@@ -23,11 +23,11 @@ returns-clause-goes g c =
 pub returns-clause-fixed : goal.returns-clause-fixed
 returns-clause-fixed g c =
     let links = c.args.self.now.links in
-    let p = placed links.items links.len c.args.link c.from.result c.index_mut-kept.result.now links.ok.0 c.from.ensures c.requires.first c.requires.last c.index_mut-kept.ensures.value in
+    let p = placed links.items _ _ _ _ c.requires.link links.ok.0 c.from.ensures c.index_mut-kept.ensures.value in
     fixed_set links.items (c.from.result - 1) c.index_mut-kept.result.now c.happen_at_slave.new.link p.at c.happen_at_slave.ensures.notes.fixed
 
 pub happen_at_slave-requires-clause-proper : goal.happen_at_slave-requires-clause-proper
 happen_at_slave-requires-clause-proper g c =
     let links = c.args.self.now.links in
-    let p = placed links.items links.len c.args.link c.from.result c.index_mut-kept.result.now links.ok.0 c.from.ensures c.requires.first c.requires.last c.index_mut-kept.ensures.value in
+    let p = placed links.items _ _ _ _ c.requires.link links.ok.0 c.from.ensures c.index_mut-kept.ensures.value in
     proper_move links.items (c.from.result - 1) c.index_mut-kept.result.now c.args.event.now c.args.link c.args.what.now c.requires.is c.requires.fits p

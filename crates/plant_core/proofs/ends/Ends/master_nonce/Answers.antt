@@ -1,19 +1,19 @@
 use Rattle.std.proofs.Common.{◌-◌, refl}
-use Rattle.plant_core.proofs.Acting.{placed, fixed_set}
+use Rattle.multi_master.proofs.Places.{placed}
+use Rattle.plant_core.proofs.Acting.{fixed_set}
 use Rattle.plant_core.proofs.OneDeed.{master_nonce}
 use Rattle.plant_core.proofs.ends.Ends.master_nonce.Goals as goal
 
 pub returns-clause-goes : goal.returns-clause-goes
 returns-clause-goes g c =
     let links = c.args.self.now.links in
-    let p = placed links.items links.len c.args.link c.from.result c.index_mut.result.now links.ok.0 c.from.ensures c.requires.first c.requires.last c.index_mut.ensures.value in
+    let p = placed links.items _ _ _ _ c.requires.link links.ok.0 c.from.ensures c.index_mut.ensures.value in
     let stands = rw (c.nothing.ensures, c.new.ensures) at c.note_master.ensures.stands in
     λ told. master_nonce _ _ c.args.link c.args.id told (record {
       place = c.from.result - 1;
-      number = p.number;
       was = c.index_mut.result.now;
       is = c.note_master.new.self;
-      at = p.at;
+      placed = p;
       noted = stands;
       cut = c.note_master.ensures.notes.cut;
       follows = c.nonce.ensures.follows;
@@ -24,5 +24,5 @@ returns-clause-goes g c =
 pub returns-clause-fixed : goal.returns-clause-fixed
 returns-clause-fixed g c =
     let links = c.args.self.now.links in
-    let p = placed links.items links.len c.args.link c.from.result c.index_mut.result.now links.ok.0 c.from.ensures c.requires.first c.requires.last c.index_mut.ensures.value in
+    let p = placed links.items _ _ _ _ c.requires.link links.ok.0 c.from.ensures c.index_mut.ensures.value in
     fixed_set links.items (c.from.result - 1) c.index_mut.result.now c.note_master.new.self p.at c.note_master.ensures.notes.fixed

@@ -90,5 +90,5 @@ returns-clause-ready g c =
     let dids_back = written_back c.tick.new.dids dids.items dids.len dids.ok.0 dids_same in
     let outs_back = written_back c.tick.new.outs outs.items outs.len outs.ok.0 outs_same in
     rw (first, back, written, dids_back, outs_back)
-    (still_plant c.args.self.now.master c.tick.new.self links.items last dids.items c.tick.new.dids outs.items c.tick.new.outs (vec_len c.args.steps.now) (vec_len c.note_offers.new.steps) c.requires.ready c.tick.ensures.links
+    (still_plant c.args.self.now.master c.tick.new.self links.items last dids.items c.tick.new.dids outs.items c.tick.new.outs (vec_len c.args.steps.now) (vec_len c.note_offers.new.steps) c.requires.ready (ap length c.tick.ensures.settings)
     (latest ∙ later ∙ count) dids_same outs_same c.note_offers.ensures.noted)
