@@ -1,4 +1,2 @@
 pub mod Command
-pub mod Handed
-pub mod Plant
 pub mod Running

@@ -11,8 +11,9 @@ use Rattle.node_runner.specs.Ran.{RanNode}
 use Rattle.process_image.specs.Ran.{RanImage}
 use Rattle.trace_diag.specs.Ran.{RanDiagnose}
 use Rattle.fsoe_tool.specs.Command.{usage_line}
-use Rattle.fsoe_tool.specs.Handed.{DeskTold, Handed}
-use Rattle.fsoe_tool.specs.Plant.{RanFile}
+use Rattle.plant_file.specs.Handed.{DeskTold, Handed}
+use Rattle.plant_file.specs.Plant.{RanFile}
+use Rattle.plant_run.specs.Ran.{RanPlant}
 use Rattle.fsoe_tool.specs.declared.command.Command.{Command}
 use Rattle.fsoe_tool.specs.declared.command.Command.TheVariants as command
 
@@ -46,4 +47,4 @@ Runs (Some (command.Bulk number events)) ended o desk h = RanBulk number events 
 Runs (Some command.Image) ended o desk h = RanImage ended o
 Runs (Some command.Diagnose) ended o desk h = RanDiagnose ended o
 Runs (Some command.Convert) ended o desk h = RanConvert ended o
-Runs (Some command.Plant) ended o desk h = RanFile ended o desk h
+Runs (Some command.Plant) ended o desk h = RanFile RanPlant ended o desk h

@@ -3,7 +3,6 @@
 #![tactic(auto)]
 
 mod command;
-mod plant;
 mod run;
 
 use black_channel::{Channel, HostileChannel, PerfectChannel};

@@ -1,17 +1,18 @@
 //! The run of a command.
 ghost use Rattle.std.specs.Prelude.{◌≡◌, ◌≢◌, ℕ, List, [], false, map, string_bytes};
+ghost use Rattle.file_run.specs.Outside as outside;
+ghost use Rattle.plant_file.specs.Handed.{entry_seen};
 ghost use Rattle.fsoe_tool.specs.Command.{command_said, file_named};
-ghost use Rattle.fsoe_tool.specs.Handed.{entry_seen};
 ghost use Rattle.fsoe_tool.specs.Running.{Runs, reads_input, runs_plant};
 
 use crate::command::{Command, command_said, file_named};
-use crate::plant::run_file;
 use black_channel::Channel;
 use duo_run::{run_bulk, run_convert, run_replay};
 use fb_net::AppEntry;
 use file_run::write_report;
 use fsoe_io::{Desk, Ended, Sink, Source, Status};
 use node_runner::run_node;
+use plant_file::{Wanted, run_file};
 use plant_run::Journal;
 use process_image::run_image;
 use std::alloc::Global;
@@ -71,10 +72,7 @@ pub fn run<D: Desk, S: Source, K: Sink>(
 ) -> Outcome
     // The arguments name a command, of which all holds that its own call promises, or none.
     ensures runs { Runs (command_said (map string_bytes words.now)) (record { status = result.status; place = result.place })
-        (record {
-          source = record { before = S.left source.old; after = S.left source.new; faults_before = S.faults source.old; faults_after = S.faults source.new };
-          sink = record { before = K.written sink.old; after = K.written sink.new; faults_before = K.faults sink.old; faults_after = K.faults sink.new };
-        })
+        (record { source = outside.told S.left S.faults source.old source.new; sink = outside.told K.written K.faults sink.old sink.new })
         (let file = file_named (map string_bytes words.now) in record { text = D.holds desk.old file; faults_before = D.faults desk.old file; faults_after = D.faults desk.new file })
         (record {
           apps = map (entry_seen (λ app. record { rule = (Application-box app).rule app.value; holds = (Application-box app).holds app.value; guards = (Application-box app).guards app.value })) apps.items;
@@ -110,6 +108,7 @@ pub fn run<D: Desk, S: Source, K: Sink>(
                 apps,
                 channels,
                 &mut journal,
+                Wanted::Report,
             );
             Outcome {
                 status: ended.status,

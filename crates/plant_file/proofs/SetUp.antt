@@ -15,35 +15,34 @@ use Rattle.plant_setup.specs.ConfigLine.{config_line}
 use Rattle.plant_setup.specs.Names.{place_of}
 use Rattle.plant_setup.specs.Setup.{IsChosen, net_of, setup_fault}
 use Rattle.plant_setup.specs.declared.fault.SetupFault.{SetupFault}
-use Rattle.plant_run.specs.Ran.{RanPlant}
 use Rattle.multi_master.specs.Calls.{AppView}
 use Rattle.plant_model.specs.NetCycles.{net_app}
 use Rattle.plant_model.specs.Turns.{Named}
 use Rattle.plant_model.proofs.ByNet.{answers_by_net}
 use Rattle.plant_model.specs.declared.journal.JournalStep.{JournalStep}
-use Rattle.fsoe_tool.specs.Handed.{Handed, entry_seen}
-use Rattle.fsoe_tool.specs.Plant.{RanSaid, RanUnless, WroteLine, begins_with}
-use Rattle.fsoe_tool.proofs.Picked.{chosen_seen, map_twice, within}
+use Rattle.plant_file.specs.Handed.{Handed, entry_seen}
+use Rattle.plant_file.specs.Plant.{PlantRun, RanSaid, RanUnless, WroteLine, begins_with}
+use Rattle.plant_file.proofs.Picked.{chosen_seen, map_twice, within}
 
 -- the net was taken out of the configuration, at which a plant doesn't look
-ran_whole : (conf taken : ConfView) (app : AppView) (spare : List Named) (ended : Ended) (o : Outside) (before after : Told) (steps : List JournalStep)
+ran_whole : (Ran : PlantRun) (conf taken : ConfView) (app : AppView) (spare : List Named) (ended : Ended) (o : Outside) (before after : Told) (steps : List JournalStep)
     → taken ≡ record conf { blocks = []; drives = [] }
-    → RanPlant (record { begins = begins_with taken app; spare = spare; bounds = taken.bounds }) ended o before after steps
-    → RanPlant (record { begins = begins_with conf app; spare = spare; bounds = conf.bounds }) ended o before after steps
-ran_whole conf taken app spare ended o before after steps rest ran =
-    subst (λ (c : ConfView). RanPlant (record { begins = begins_with c app; spare = spare; bounds = c.bounds }) ended o before after steps) rest ran
+    → Ran (record { begins = begins_with taken app; spare = spare; bounds = taken.bounds }) ended o before after steps
+    → Ran (record { begins = begins_with conf app; spare = spare; bounds = conf.bounds }) ended o before after steps
+ran_whole Ran conf taken app spare ended o before after steps rest ran =
+    subst (λ (c : ConfView). Ran (record { begins = begins_with c app; spare = spare; bounds = c.bounds }) ended o before after steps) rest ran
 
 -- a fault of the names that were handed in is that of those that are seen
-ran_unless : {X C : Type 0} (f : X → Named) (apps : List X) (conf : ConfView) (names : List (List ℕ)) (found : Option SetupFault) (ended : Ended) (o : Outside) (h : Handed C)
+ran_unless : {X C : Type 0} (Ran : PlantRun) (f : X → Named) (apps : List X) (conf : ConfView) (names : List (List ℕ)) (found : Option SetupFault) (ended : Ended) (o : Outside) (h : Handed C)
     → found ≡ setup_fault conf (map (λ x. (f x).name) apps) names
-    → RanUnless found conf ended o h → RanUnless (setup_fault conf (map (λ named. named.name) (map f apps)) names) conf ended o h
-ran_unless f apps conf names found ended o h same ran =
+    → RanUnless Ran found conf ended o h → RanUnless Ran (setup_fault conf (map (λ named. named.name) (map f apps)) names) conf ended o h
+ran_unless Ran f apps conf names found ended o h same ran =
     let fault : found ≡ setup_fault conf (map (λ (named : Named). named.name) (map f apps)) names =
     same ∙ ap (λ (apps : List (List ℕ)). setup_fault conf apps names) (sym (map_twice f (λ (named : Named). named.name) apps)) in
-    subst (λ (fault : Option SetupFault). RanUnless fault conf ended o h) fault ran
+    subst (λ (fault : Option SetupFault). RanUnless Ran fault conf ended o h) fault ran
 
 -- the line of a fault is what its configuration comes to
-pub set_up_refused : {H C : Type 0} (app_of : H → AppView) (name_of : C → List ℕ) (tells : C → Told) (conf : ConfView) (apps : List (EntryOf H)) (channels : List C) (why : SetupFault) (ended : Ended) (o : Outside)
+pub set_up_refused : {H C : Type 0} (Ran : PlantRun) (app_of : H → AppView) (name_of : C → List ℕ) (tells : C → Told) (conf : ConfView) (apps : List (EntryOf H)) (channels : List C) (why : SetupFault) (ended : Ended) (o : Outside)
     (steps : List JournalStep)
     → Some why ≡ setup_fault conf (map (λ entry. string_bytes entry.name) apps) (map name_of channels)
     → WroteLine (config_line why) status.Config ended o (record {
@@ -54,7 +53,7 @@ pub set_up_refused : {H C : Type 0} (app_of : H → AppView) (name_of : C → Li
       channels_after = channels;
       journal = steps;
     })
-    → RanSaid (Ok conf) ended o (record {
+    → RanSaid Ran (Ok conf) ended o (record {
       apps = map (entry_seen app_of) apps;
       name_of = name_of;
       tells = tells;
@@ -62,8 +61,8 @@ pub set_up_refused : {H C : Type 0} (app_of : H → AppView) (name_of : C → Li
       channels_after = channels;
       journal = steps;
     })
-set_up_refused app_of name_of tells conf apps channels why ended o steps fault wrote =
-    ran_unless (entry_seen app_of) apps conf (map name_of channels) (Some why) ended o (record {
+set_up_refused Ran app_of name_of tells conf apps channels why ended o steps fault wrote =
+    ran_unless Ran (entry_seen app_of) apps conf (map name_of channels) (Some why) ended o (record {
       apps = map (entry_seen app_of) apps;
       name_of = name_of;
       tells = tells;
@@ -73,15 +72,15 @@ set_up_refused app_of name_of tells conf apps channels why ended o steps fault w
     }) fault wrote
 
 -- a plant that was set up and ran is what its configuration comes to
-pub set_up_ran : {H C : Type 0} (app_of : H → AppView) (name_of : C → List ℕ) (tells : C → Told) (conf taken : ConfView) (apps spare : List (EntryOf H)) (app : KindOf H) (seen : AppView) (channels : List C)
+pub set_up_ran : {H C : Type 0} (Ran : PlantRun) (app_of : H → AppView) (name_of : C → List ℕ) (tells : C → Told) (conf taken : ConfView) (apps spare : List (EntryOf H)) (app : KindOf H) (seen : AppView) (channels : List C)
     (place : ℕ) (before after : C) (ended : Ended) (o : Outside) (steps : List JournalStep)
-    → RanPlant (record { begins = begins_with taken seen; spare = map (entry_seen app_of) spare; bounds = taken.bounds }) ended o (tells before) (tells after) steps
+    → Ran (record { begins = begins_with taken seen; spare = map (entry_seen app_of) spare; bounds = taken.bounds }) ended o (tells before) (tells after) steps
     → taken ≡ record conf { blocks = []; drives = [] } → IsNewNet (net_of conf)
     → (app ≡ kind.Net (net_of conf) → seen ≡ net_app (net_of conf)) → ((x : H) → app ≡ kind.Handed x → seen ≡ app_of x)
     → None ≡ setup_fault conf (map (λ entry. string_bytes entry.name) apps) (map name_of channels)
     → IsChosen (λ entry. string_bytes entry.name) conf.app apps spare (app ≡ kind.Net (net_of conf)) (λ entry. app ≡ kind.Handed entry.app)
     → place_of conf.channel (map name_of channels) ≡ Some place → before ≡ slice_index_or channels place before
-    → RanSaid (Ok conf) ended o (record {
+    → RanSaid Ran (Ok conf) ended o (record {
       apps = map (entry_seen app_of) apps;
       name_of = name_of;
       tells = tells;
@@ -89,8 +88,8 @@ pub set_up_ran : {H C : Type 0} (app_of : H → AppView) (name_of : C → List �
       channels_after = slice_set channels place after;
       journal = steps;
     })
-set_up_ran app_of name_of tells conf taken apps spare app seen channels place before after ended o steps ran rest new net own fault chosen at is =
-    ran_unless (entry_seen app_of) apps conf (map name_of channels) None ended o (record {
+set_up_ran Ran app_of name_of tells conf taken apps spare app seen channels place before after ended o steps ran rest new net own fault chosen at is =
+    ran_unless Ran (entry_seen app_of) apps conf (map name_of channels) None ended o (record {
       apps = map (entry_seen app_of) apps;
       name_of = name_of;
       tells = tells;
@@ -108,6 +107,6 @@ set_up_ran app_of name_of tells conf taken apps spare app seen channels place be
       before_is = slice_get_read channels (length channels) place before refl (within name_of conf.channel channels place at) is;
       after = after;
       channels = refl;
-      ran = ran_whole conf taken seen (map (entry_seen app_of) spare) ended o (tells before) (tells after) steps rest ran;
+      ran = ran_whole Ran conf taken seen (map (entry_seen app_of) spare) ended o (tells before) (tells after) steps rest ran;
       by_net = answers_by_net (net_of conf) new (begins_with conf seen);
     })

@@ -1,3 +1,4 @@
+pub mod Noting
 pub mod Picked
 pub mod Refused
 pub mod SetUp

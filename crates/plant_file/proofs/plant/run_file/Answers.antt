@@ -1,7 +1,7 @@
 use Rattle.std.proofs.Common.{refl}
 use Rattle.std.specs.Prelude.{Ok, Err}
 use Rattle.fsoe_io.specs.declared.desk.LoadFault.TheVariants as load
-use Rattle.fsoe_tool.proofs.plant.run_file.Goals as goal
+use Rattle.plant_file.proofs.plant.run_file.Goals as goal
 
 pub returns-in-Ok : goal.returns-in-Ok
 returns-in-Ok g c = record {

@@ -1,5 +1,5 @@
 -- What running a plant comes to by the text of its configuration: where no plant can be run with it, one line is
--- written and the script isn't read; else the plant runs over its script.
+-- written and the script isn't read; else the plant runs over its script, and what `Ran` says holds of the run.
 use Rattle.std.specs.Prelude.{◌≡◌, ◌≢◌, ℕ, ◌≤◌, ◌<◌, List, [], codes, length, map, slice_get, slice_set, Option, Some, None, IfSome, Result, Ok, Err}
 use Rattle.fsoe_io.specs.Faults.{Rose}
 use Rattle.fsoe_io.specs.declared.desk.LoadFault.{LoadFault}
@@ -18,12 +18,19 @@ use Rattle.plant_setup.specs.Names.{place_of}
 use Rattle.plant_setup.specs.Setup.{IsChosen, net_of, setup_fault}
 use Rattle.plant_setup.specs.declared.fault.SetupFault.{SetupFault}
 use Rattle.plant_setup.specs.declared.fault.SetupFault.TheVariants as setup
-use Rattle.plant_run.specs.Ran.{RanPlant}
 use Rattle.multi_master.specs.Calls.{AppView}
+use Rattle.black_channel.specs.Told.{Told}
+use Rattle.plant_model.specs.declared.journal.JournalStep.{JournalStep}
 use Rattle.plant_model.specs.Acts.{Act, Beginning}
 use Rattle.plant_model.specs.NetCycles.{AnswersByNet, net_app}
 use Rattle.plant_model.specs.Turns.{Named}
-use Rattle.fsoe_tool.specs.Handed.{DeskTold, Handed}
+use Rattle.plant_run.specs.Reporting.{Terms}
+use Rattle.plant_file.specs.Handed.{DeskTold, Handed}
+
+-- what a run of a plant promises, by its terms, how it ended, what was read and written, what its channel told before and
+-- after it, and its journal
+abbrev pub PlantRun : Type 1
+PlantRun = Terms → Ended → Outside → Told → Told → List JournalStep → Type 0
 
 -- the script wasn't read, no channel was used, and the journal is empty
 pub record BeganNothing {C : Type 0} (o : Outside) (h : Handed C) : Type 0 where
@@ -52,7 +59,7 @@ begins_with conf app = record { links = conf.links; app = app; seed = conf.seed 
 -- a plant with this configuration ran over its script: first with the net, or the first application of the name that
 -- the configuration has, and over the first channel of the name that it has. The other applications were left to the
 -- script, and the other channels alone. While the net runs, it answers by looking back over its cycles
-pub record RanSetUp {C : Type 0} (conf : ConfView) (ended : Ended) (o : Outside) (h : Handed C) : Type 0 where
+pub record RanSetUp {C : Type 0} (Ran : PlantRun) (conf : ConfView) (ended : Ended) (o : Outside) (h : Handed C) : Type 0 where
   pub app : AppView
   pub spare : List Named
   pub chosen : IsChosen (λ named. named.name) conf.app h.apps spare (app ≡ net_app (net_of conf)) (λ named. app ≡ named.app)
@@ -62,13 +69,13 @@ pub record RanSetUp {C : Type 0} (conf : ConfView) (ended : Ended) (o : Outside)
   pub before_is : slice_get h.channels_before place ≡ Some before
   pub after : C
   pub channels : h.channels_after ≡ slice_set h.channels_before place after
-  pub ran : RanPlant (record { begins = begins_with conf app; spare = spare; bounds = conf.bounds }) ended o (h.tells before) (h.tells after) h.journal
+  pub ran : Ran (record { begins = begins_with conf app; spare = spare; bounds = conf.bounds }) ended o (h.tells before) (h.tells after) h.journal
   pub by_net : (act : Act) (acts : List Act) → AnswersByNet (net_of conf) (begins_with conf app) act acts
 
 -- what comes of a configuration that has this first fault, or none
-abbrev pub RanUnless : {C : Type 0} → Option SetupFault → ConfView → Ended → Outside → Handed C → Type 0
-RanUnless (Some why) conf ended o h = WroteLine (config_line why) status.Config ended o h
-RanUnless None conf ended o h = RanSetUp conf ended o h
+abbrev pub RanUnless : {C : Type 0} → PlantRun → Option SetupFault → ConfView → Ended → Outside → Handed C → Type 0
+RanUnless Ran (Some why) conf ended o h = WroteLine (config_line why) status.Config ended o h
+RanUnless Ran None conf ended o h = RanSetUp Ran conf ended o h
 
 -- a text says this configuration, or has this first fault; of want of memory nothing is said
 abbrev pub Says : List ℕ → Result ConfView ConfFault → Type 0
@@ -76,14 +83,14 @@ Says text (Ok conf) = Means text (Ok (conf_values conf))
 Says text (Err why) = why ≢ conf_fault.Memory → Means text (Err why)
 
 -- what comes of that
-abbrev pub RanSaid : {C : Type 0} → Result ConfView ConfFault → Ended → Outside → Handed C → Type 0
-RanSaid (Ok conf) ended o h = RanUnless (setup_fault conf (map (λ named. named.name) h.apps) (map h.name_of h.channels_before)) conf ended o h
-RanSaid (Err conf_fault.Memory) ended o h = HadNoMemory ended o h
-RanSaid (Err why) ended o h = WroteLine (config_line (setup.Conf why)) status.Config ended o h
+abbrev pub RanSaid : {C : Type 0} → PlantRun → Result ConfView ConfFault → Ended → Outside → Handed C → Type 0
+RanSaid Ran (Ok conf) ended o h = RanUnless Ran (setup_fault conf (map (λ named. named.name) h.apps) (map h.name_of h.channels_before)) conf ended o h
+RanSaid Ran (Err conf_fault.Memory) ended o h = HadNoMemory ended o h
+RanSaid Ran (Err why) ended o h = WroteLine (config_line (setup.Conf why)) status.Config ended o h
 
 -- what comes of a text
-abbrev pub RanText : {C : Type 0} → List ℕ → Ended → Outside → Handed C → Type 0
-RanText text ended o h = (said : Result ConfView ConfFault) × Says text said × RanSaid said ended o h
+abbrev pub RanText : {C : Type 0} → PlantRun → List ℕ → Ended → Outside → Handed C → Type 0
+RanText Ran text ended o h = (said : Result ConfView ConfFault) × Says text said × RanSaid Ran said ended o h
 
 -- the most bytes of a configuration
 abbrev pub max_config : ℕ
@@ -102,15 +109,15 @@ MayAnswer desk (Err load.TooLong) = IfSome desk.text (λ held. max_config < leng
 MayAnswer desk (Err load.Memory) = NoneFailed desk
 
 -- what comes of an answer
-abbrev pub RanAnswer : {C : Type 0} → Result (List ℕ) LoadFault → Ended → Outside → Handed C → Type 0
-RanAnswer (Ok text) ended o h = RanText text ended o h
-RanAnswer (Err load.Failed) ended o h = WroteLine (codes "desk failed\n") status.Desk ended o h
-RanAnswer (Err load.TooLong) ended o h = WroteLine (config_line setup.TooLong) status.Config ended o h
-RanAnswer (Err load.Memory) ended o h = HadNoMemory ended o h
+abbrev pub RanAnswer : {C : Type 0} → PlantRun → Result (List ℕ) LoadFault → Ended → Outside → Handed C → Type 0
+RanAnswer Ran (Ok text) ended o h = RanText Ran text ended o h
+RanAnswer Ran (Err load.Failed) ended o h = WroteLine (codes "desk failed\n") status.Desk ended o h
+RanAnswer Ran (Err load.TooLong) ended o h = WroteLine (config_line setup.TooLong) status.Config ended o h
+RanAnswer Ran (Err load.Memory) ended o h = HadNoMemory ended o h
 
 -- a plant was to be run by the configuration that a desk has, and this came of it
-pub record RanFile {C : Type 0} (ended : Ended) (o : Outside) (desk : DeskTold) (h : Handed C) : Type 0 where
+pub record RanFile {C : Type 0} (Ran : PlantRun) (ended : Ended) (o : Outside) (desk : DeskTold) (h : Handed C) : Type 0 where
   pub answer : Result (List ℕ) LoadFault
   pub may : MayAnswer desk answer
-  pub ran : RanAnswer answer ended o h
+  pub ran : RanAnswer Ran answer ended o h
   pub later : desk.faults_before ≤ desk.faults_after

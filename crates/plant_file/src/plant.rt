@@ -2,18 +2,21 @@
 ghost use Rattle.std.specs.Prelude.{◌≡◌, ◌≢◌, ◌≤◌, ℕ, List, [], Ok, map};
 ghost use Rattle.fsoe_io.specs.declared.status.Status.TheVariants as status;
 ghost use Rattle.file_run.specs.Ending.{Writes};
+ghost use Rattle.file_run.specs.Outside as outside;
 ghost use Rattle.plant_conf.specs.declared.fault.ConfFault.TheVariants as fault;
 ghost use Rattle.plant_setup.specs.ConfigLine.{config_line};
 ghost use Rattle.plant_setup.specs.declared.fault.SetupFault.TheVariants as setup;
-ghost use Rattle.fsoe_tool.specs.Handed.{entry_seen};
-ghost use Rattle.fsoe_tool.specs.Plant.{RanFile, RanSaid, RanText};
+ghost use Rattle.plant_file.specs.Handed.{entry_seen};
+ghost use Rattle.plant_file.specs.Noted.{RanWanted};
+ghost use Rattle.plant_file.specs.Plant.{RanFile, RanSaid, RanText};
 
+use crate::noted::{Wanted, run_wanted};
 use black_channel::Channel;
 use fb_net::AppEntry;
 use file_run::write_report;
 use fsoe_io::{Desk, Ended, LineText, LoadFault, Sink, Source, Status};
 use plant_conf::{ConfFault, PlantConf, read_conf};
-use plant_run::{Journal, run_plant};
+use plant_run::Journal;
 use plant_setup::{SetupFault, set_up, write_config_line};
 use std::alloc::Global;
 
@@ -28,12 +31,7 @@ const NO_MEMORY: Ended = Ended {
 
 /// Writes the line that reports why a configuration can't be run. The run ends so, unless the write fails.
 fn refuse<K: Sink>(why: SetupFault, sink: &mut K) -> Ended
-    ensures writes { Writes 0 (config_line why) (record { status = status.Config; place = 0 }) result (record {
-      before = K.written sink.old;
-      after = K.written sink.new;
-      faults_before = K.faults sink.old;
-      faults_after = K.faults sink.new;
-    }) }
+    ensures writes { Writes 0 (config_line why) (record { status = status.Config; place = 0 }) result (outside.told K.written K.faults sink.old sink.new) }
     ensures later { K.faults sink.old ≤ K.faults sink.new }
 {
     let mut line = LineText::new();
@@ -48,12 +46,7 @@ fn refuse<K: Sink>(why: SetupFault, sink: &mut K) -> Ended
 /// Writes the line that reports why a text is no configuration; nothing if there was no memory to read it.
 fn refuse_text<K: Sink>(why: ConfFault, sink: &mut K) -> Ended
     ensures memory { why ≡ fault.Memory → (result ≡ record { status = status.Memory; place = 0 }) × (sink.new ≡ sink.old) }
-    ensures writes { why ≢ fault.Memory → Writes 0 (config_line (setup.Conf why)) (record { status = status.Config; place = 0 }) result (record {
-      before = K.written sink.old;
-      after = K.written sink.new;
-      faults_before = K.faults sink.old;
-      faults_after = K.faults sink.new;
-    }) }
+    ensures writes { why ≢ fault.Memory → Writes 0 (config_line (setup.Conf why)) (record { status = status.Config; place = 0 }) result (outside.told K.written K.faults sink.old sink.new) }
     ensures later { K.faults sink.old ≤ K.faults sink.new }
 {
     match why {
@@ -72,13 +65,11 @@ fn run_conf<S: Source, K: Sink>(
     apps: Vec<AppEntry>,
     channels: &mut Vec<Box<dyn Channel>>,
     journal: &mut Journal,
+    wanted: Wanted,
 ) -> Ended
     requires empty { journal.old ≡ [] }
-    ensures ran { RanSaid (Ok conf) result
-        (record {
-          source = record { before = S.left source.old; after = S.left source.new; faults_before = S.faults source.old; faults_after = S.faults source.new };
-          sink = record { before = K.written sink.old; after = K.written sink.new; faults_before = K.faults sink.old; faults_after = K.faults sink.new };
-        })
+    ensures ran { RanSaid (RanWanted wanted) (Ok conf) result
+        (record { source = outside.told S.left S.faults source.old source.new; sink = outside.told K.written K.faults sink.old sink.new })
         (record {
           apps = map (entry_seen (λ app. record { rule = (Application-box app).rule app.value; holds = (Application-box app).holds app.value; guards = (Application-box app).guards app.value })) apps.items;
           name_of = λ channel. name channel;
@@ -91,7 +82,7 @@ fn run_conf<S: Source, K: Sink>(
     match set_up(&mut conf, apps, channels.as_slice()) {
         Ok(setup) => {
             let channel = &mut channels[setup.channel];
-            run_plant(
+            run_wanted(
                 alloc,
                 &conf,
                 setup.app,
@@ -100,6 +91,7 @@ fn run_conf<S: Source, K: Sink>(
                 source,
                 sink,
                 journal,
+                wanted,
             )
         }
         Err(why) => refuse(why, sink),
@@ -115,13 +107,11 @@ fn run_text<S: Source, K: Sink>(
     apps: Vec<AppEntry>,
     channels: &mut Vec<Box<dyn Channel>>,
     journal: &mut Journal,
+    wanted: Wanted,
 ) -> Ended
     requires empty { journal.old ≡ [] }
-    ensures ran { RanText text.now result
-        (record {
-          source = record { before = S.left source.old; after = S.left source.new; faults_before = S.faults source.old; faults_after = S.faults source.new };
-          sink = record { before = K.written sink.old; after = K.written sink.new; faults_before = K.faults sink.old; faults_after = K.faults sink.new };
-        })
+    ensures ran { RanText (RanWanted wanted) text.now result
+        (record { source = outside.told S.left S.faults source.old source.new; sink = outside.told K.written K.faults sink.old sink.new })
         (record {
           apps = map (entry_seen (λ app. record { rule = (Application-box app).rule app.value; holds = (Application-box app).holds app.value; guards = (Application-box app).guards app.value })) apps.items;
           name_of = λ channel. name channel;
@@ -132,7 +122,7 @@ fn run_text<S: Source, K: Sink>(
         }) }
 {
     match read_conf(alloc, text) {
-        Ok(conf) => run_conf(alloc, conf, source, sink, apps, channels, journal),
+        Ok(conf) => run_conf(alloc, conf, source, sink, apps, channels, journal, wanted),
         Err(why) => refuse_text(why, sink),
     }
 }
@@ -147,13 +137,11 @@ pub fn run_file<D: Desk, S: Source, K: Sink>(
     apps: Vec<AppEntry>,
     channels: &mut Vec<Box<dyn Channel>>,
     journal: &mut Journal,
+    wanted: Wanted,
 ) -> Ended
     requires empty { journal.old ≡ [] }
-    ensures ran { RanFile result
-        (record {
-          source = record { before = S.left source.old; after = S.left source.new; faults_before = S.faults source.old; faults_after = S.faults source.new };
-          sink = record { before = K.written sink.old; after = K.written sink.new; faults_before = K.faults sink.old; faults_after = K.faults sink.new };
-        })
+    ensures ran { RanFile (RanWanted wanted) result
+        (record { source = outside.told S.left S.faults source.old source.new; sink = outside.told K.written K.faults sink.old sink.new })
         (record { text = D.holds desk.old file.now; faults_before = D.faults desk.old file.now; faults_after = D.faults desk.new file.now })
         (record {
           apps = map (entry_seen (λ app. record { rule = (Application-box app).rule app.value; holds = (Application-box app).holds app.value; guards = (Application-box app).guards app.value })) apps.items;
@@ -174,6 +162,7 @@ pub fn run_file<D: Desk, S: Source, K: Sink>(
             apps,
             channels,
             journal,
+            wanted,
         ),
         Err(LoadFault::Failed) => {
             let ended = Ended {

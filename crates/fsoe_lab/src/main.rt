@@ -1,0 +1,75 @@
+//! A second program for trials: `journal` runs a plant over standard input and writes the plant's journal to standard
+//! output.
+#![tactic(auto)]
+
+mod run;
+
+use black_channel::{Channel, HostileChannel, PerfectChannel};
+use fb_net::{AppEntry, Mirror, Zeros};
+use fsoe_base::Memory;
+use fsoe_io::{FileDesk, Status, StdSink, StdSource};
+use plant_run::Journal;
+use run::run;
+use std::process::ExitCode;
+use std::{env, io};
+
+/// The arguments after the program's name. An argument that isn't UTF-8 belongs to no command, so there are none then,
+/// and the usage line is written.
+fn words_of(rt: &HostRuntime) -> io::Result<Vec<String>> {
+    let mut words = Vec::new(rt.alloc());
+    match env::args(rt) {
+        Ok(args) => {
+            for word in args.skip(1) {
+                words.push(word)?;
+            }
+        }
+        Err(e) if e.kind() == io::ErrorKind::InvalidData => {}
+        Err(e) => return Err(e),
+    }
+    Ok(words)
+}
+
+/// Runs the command of the program's arguments, with the applications and the channels that the program has for plants.
+/// None if there is no memory for these.
+fn run_program(rt: HostRuntime) -> Option<Status> {
+    let alloc = rt.alloc();
+    let words = words_of(&rt).ok()?;
+    let mut apps = Vec::new(alloc);
+    apps.push(AppEntry {
+        name: "zeros".to_string(alloc).ok()?,
+        app: Box::new(alloc, Zeros).ok()?,
+    })
+    .ok()?;
+    apps.push(AppEntry {
+        name: "mirror".to_string(alloc).ok()?,
+        app: Box::new(alloc, Mirror).ok()?,
+    })
+    .ok()?;
+    let mut channels: Vec<Box<dyn Channel>> = Vec::new(alloc);
+    channels
+        .push(Box::new(alloc, PerfectChannel::new(alloc).ok()?).ok()?)
+        .ok()?;
+    channels
+        .push(Box::new(alloc, HostileChannel::new(alloc).ok()?).ok()?)
+        .ok()?;
+    let mut desk = FileDesk::new(rt);
+    let mut source = StdSource::new(rt.stdin());
+    let mut sink = StdSink::new(rt.stdout());
+    let mut journal = Journal::new(alloc);
+    let ended = run(
+        alloc,
+        words.as_slice(),
+        &mut desk,
+        &mut source,
+        &mut sink,
+        apps,
+        &mut channels,
+        &mut journal,
+    );
+    Some(ended.status)
+}
+
+fn main(rt: HostRuntime) -> ExitCode {
+    let status = run_program(rt).unwrap_or(Status::Memory);
+    ExitCode::from(status.number())
+}

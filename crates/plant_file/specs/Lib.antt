@@ -1,0 +1,5 @@
+pub mod Handed
+pub mod JournalText
+pub mod Noted
+pub mod Plant
+pub mod WorkedLines
