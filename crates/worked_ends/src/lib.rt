@@ -1,10 +1,7 @@
-//! Tests of `slave_core` and `master_core`, and of crates that run or judge ends. There is one module for each crate,
-//! and one of commands whose input comes line by line. The expected values are from outside. What the program does is
-//! tested in `runs/`. What a contract states needs no test. Tests of the crates below are in `worked_cases`.
+//! Tests of `slave_core` and `master_core`, and of crates that run or judge ends, with one module for each crate. The
+//! expected values were found without this code. Tests of crates that use neither core are in `worked_cases`.
 #![tactic(auto)]
 
-#[cfg(test)]
-mod line_by_line;
 #[cfg(test)]
 mod of_master_core;
 #[cfg(test)]

@@ -1,7 +1,7 @@
 use reaction_bound::Reaction;
 
 /// When a reaction with a limit of 2 ticks is broken, after each of two ticks with the drive on although its stop is
-/// quiet. If it is let go, the stop isn't quiet between them.
+/// pressed. If it is let go, this is between them.
 fn broken_in_turn(is_let_go: bool) -> [Option<u64>; 2] {
     let mut reaction = Reaction::new(2);
     reaction.quiet(true);

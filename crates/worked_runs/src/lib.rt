@@ -1,6 +1,6 @@
-//! Tests of complete runs: of a replay, also with input or output that fails, of a pair over a schedule, and of a plant
-//! with its script. The values that they expect are from outside. A plain program judges whether the entries of a run
-//! are fair. Tests of `plant_conf` and `schedule_file` are here too, since the runs need these crates anyway.
+//! Tests of complete runs: a replay, also one whose input or output fails; a pair over a schedule; a plant with its
+//! script. The expected values were found without this code. A plain program judges whether the entries of a run are
+//! fair. Tests of `plant_conf` and `schedule_file` are here too, since the runs need these crates anyway.
 #![tactic(auto)]
 
 #[cfg(test)]

@@ -2,10 +2,13 @@
 //! after the last line, or a write that fails, nothing is.
 ghost use Rattle.std.specs.Prelude.{None};
 
+use black_channel::{Channel, PerfectChannel};
 use duo_run::{run_convert, run_replay};
 use fsoe_base::End;
-use fsoe_io::{Ended, Failed, Sink, Source, Status};
+use fsoe_io::{Ended, Failed, Sink, Source, Status, SureDesk};
 use node_runner::run_node;
+use plant_file::{Wanted, run_file};
+use plant_run::Journal;
 use process_image::run_image;
 use std::alloc::Global;
 use std::cell::Cell;
@@ -89,7 +92,7 @@ impl Source for Asked<'_> {
 const PART: &str =
     "00000000000000000000000000000000000000000000000000000000000000000000000000000000";
 
-const ROWS: [(&str, &[Line<'static>]); 11] = [
+const ROWS: [(&str, &[Line<'static>]); 12] = [
     (
         "node slave",
         &[
@@ -226,10 +229,26 @@ const ROWS: [(&str, &[Line<'static>]); 11] = [
             ("0", "refused 4 Long\n"),
         ],
     ),
+    (
+        "plant",
+        &[
+            ("fsoe 1 plant\n", ""),
+            (
+                "t\n",
+                "tick 1\n1 Data 0000 Data 0000\n2 Data 0000 Data 0000\n",
+            ),
+            ("p 1 0300\n", ""),
+            (
+                "t\n",
+                "tick 2\n1 Data 0300 Data 0000\n2 Data 0000 Data 0100\n",
+            ),
+            ("end\n", "ticks 2\nother none\n"),
+        ],
+    ),
 ];
 
 /// Headers, and an event that comes so often that its text fills more than a buffer while all lines are held.
-const HELD: [(&str, &str, &str); 6] = [
+const HELD: [(&str, &str, &str); 7] = [
     (
         "node slave",
         "fsoe 1 node slave\nlengths 2 2\nslave 2 200 1000 2\nrule any 0\ngo\n",
@@ -260,6 +279,7 @@ const HELD: [(&str, &str, &str); 6] = [
         "fsoe 1 image\nsize 7 7\nslot 1 0 0\nlengths 2 2\nslave 2 200 1000 2\nrule any 0\ngo\n",
         "t\n",
     ),
+    ("plant", "fsoe 1 plant\n", "t\n"),
 ];
 
 fn node(end: End, source: &mut Asked<'_>, sink: &mut Counting<'_>) -> Ended {
@@ -282,6 +302,39 @@ fn diagnose(source: &mut Asked<'_>, sink: &mut Counting<'_>) -> Ended {
     run_diagnose(source, sink)
 }
 
+/// A plant in which an emergency stop at the first connection drives a bit of the second.
+const PLANT: &[u8] = b"plant = { app = 'net', channel = 'perfect' }
+connection = [
+  { id = 1, address = 11, watchdog = 5, master_length = 2, slave_length = 2 },
+  { id = 2, address = 12, watchdog = 5, master_length = 2, slave_length = 2 },
+]
+block = [{ kind = 'estop', ins = ['i1.0', 'i1.1'] }]
+drive = [{ out = 'o2.0', from = 'b1' }]
+";
+
+/// None where there is no memory for what it is handed.
+fn plant(alloc: Global, source: &mut Asked<'_>, sink: &mut Counting<'_>) -> Option<Ended> {
+    let mut desk = SureDesk::new(PLANT.to_vec(alloc).ok()?);
+    let apps = Vec::new(alloc);
+    let mut channels: Vec<Box<dyn Channel>> = Vec::new(alloc);
+    let channel = PerfectChannel::new(alloc).ok()?;
+    channels.push(Box::new(alloc, channel).ok()?).ok()?;
+    let mut journal = Journal::new(alloc);
+    let wanted = Wanted::Report;
+    let ended = run_file(
+        alloc,
+        "plant",
+        &mut desk,
+        source,
+        sink,
+        apps,
+        &mut channels,
+        &mut journal,
+        wanted,
+    );
+    Some(ended)
+}
+
 fn run_of(
     alloc: Global,
     words: &str,
@@ -295,6 +348,7 @@ fn run_of(
         "convert" => Some(convert(source, sink)),
         "image" => Some(image(alloc, source, sink)),
         "diagnose" => Some(diagnose(source, sink)),
+        "plant" => plant(alloc, source, sink),
         _ => None,
     }
 }
