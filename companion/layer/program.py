@@ -1,4 +1,4 @@
-"""The proved program: where it is, and how it is asked."""
+"""The proved programs: where they are, and how they are asked."""
 from __future__ import annotations
 
 import os
@@ -7,7 +7,6 @@ import subprocess
 from dataclasses import dataclass
 
 TOP = pathlib.Path(__file__).resolve().parents[2]
-BUILT = TOP / "crates" / "fsoe_tool" / "out" / "fsoe_tool"
 
 
 class Complaint(Exception):
@@ -16,21 +15,31 @@ class Complaint(Exception):
 
 @dataclass(frozen=True)
 class Tool:
-    """The proved program: the one that is named, or that GATEPAST_TOOL names, or that this checkout has built."""
+    """A proved program: the one that is named, or that a variable names, or that this checkout has built."""
 
     given: str | None = None
+    name: str = "fsoe_tool"
+    variable: str = "GATEPAST_TOOL"
+    option: str = "--program"
 
     def command(self, *words: str) -> list[str]:
         """The program with these words."""
-        path = pathlib.Path(self.given or os.environ.get("GATEPAST_TOOL") or BUILT)
+        built = TOP / "crates" / self.name / "out" / self.name
+        path = pathlib.Path(self.given or os.environ.get(self.variable) or built)
         if path.is_dir() or not os.access(path, os.X_OK):
-            raise Complaint(f"no program at {path}: build it (rt run in crates/fsoe_tool), or name it by --program")
+            how = f"build it (rt run in crates/{self.name}), or name it by {self.option}"
+            raise Complaint(f"no program at {path}: {how}")
         return [str(path.absolute()), *words]
 
     def ask(self, *words: str, text: str = "") -> tuple[int, str]:
         """The status and the report for these words and this input."""
         ran = subprocess.run(self.command(*words), input=text.encode(), stdout=subprocess.PIPE)
         return ran.returncode, ran.stdout.decode()
+
+
+def lab_of(given: str | None) -> Tool:
+    """The program that writes journals."""
+    return Tool(given, "fsoe_lab", "GATEPAST_LAB", "--lab")
 
 
 def text_of(path: str, errors: str = "strict") -> str:

@@ -21,10 +21,10 @@ ENDS = {"m": "master", "s": "slave"}
 MOST = 2000  # events of a run
 
 
-def runs_check() -> ModuleType:
-    """The check of the repository that reads runs/."""
-    loader = importlib.machinery.SourceFileLoader("runs_check", str(TOP / "checks" / "runs"))
-    module = importlib.util.module_from_spec(importlib.util.spec_from_loader("runs_check", loader))
+def check_named(name: str) -> ModuleType:
+    """A check of the repository; `runs` reads runs/."""
+    loader = importlib.machinery.SourceFileLoader(f"{name}_check", str(TOP / "checks" / name))
+    module = importlib.util.module_from_spec(importlib.util.spec_from_loader(loader.name, loader))
     loader.exec_module(module)
     return module
 
@@ -64,7 +64,7 @@ def events_of(lines: list[str], report: list[str], end: str | None) -> Iterator[
 
 def runs_of(tool: Tool) -> Iterator[dict]:
     """Each run of a node or of both ends that comes to its line `end`."""
-    check = runs_check()
+    check = check_named("runs")
     blocks, runs = check.all_runs()
     for name, marked, cells in check.all_rows(runs):
         parts = check.parts_of(name, marked, blocks, {"file": "", **cells})

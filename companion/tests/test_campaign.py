@@ -28,5 +28,5 @@ def test_numbers_have_their_range():
         status, said, why = gatepast("campaign", *words)
         assert (status, said) == (2, "") and why.startswith("gatepast: numbers go from 0")
     assert gatepast("campaign", 1, 2, "--events", 4)[0] == 0
-    status, said, _ = gatepast("campaign", 57, 57, "--events", 80, "--each")
-    assert status == 1 and said.endswith("  number 57: other 69\n")
+    status, said, _ = gatepast("campaign", 57, 57, "--events", 80, "--each", "--fresh")
+    assert status == 1 and "\n  number 57: other 69\nfresh " in said

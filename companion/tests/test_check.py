@@ -2,6 +2,8 @@
 import itertools
 import json
 import re
+import subprocess
+import sys
 
 import pytest
 from conftest import TOOL, TOP, gatepast
@@ -10,14 +12,15 @@ from layer.check import warnings
 from layer.explain import expected, explained
 from layer.forms import KEYS, KINDS
 from layer.net import Net
-from layer.vectors import runs_check
+from layer.vectors import check_named
+from layer.words import code_words
 
 EXAMPLE = (TOP / "examples" / "emergency_stop.toml").read_text()
 
 
 def refused_runs():
     """Words, file, input and report of each worked run that ends with a refused line or a fault of a configuration."""
-    check = runs_check()
+    check = check_named("runs")
     blocks, runs = check.all_runs()
     for name, marked, cells in check.all_rows(runs):
         parts = check.parts_of(name, marked, blocks, {"file": "", **cells})
@@ -62,15 +65,20 @@ def test_what_cannot_be_seen_is_shown():
     )
 
 
+RANGE = r"\d+ to \d[\d,]*\d"
+
+
 def test_keys_are_those_of_the_page():
     page = (
         (TOP / "docs" / "formats.md").read_text().partition("## The configuration of a plant")[2].partition("\n## ")[0]
     )
-    rows = re.findall(r"^\| (?:`\[+(\w+)\]+`[^|]*)?\| `(\w+)` \|", page, re.M)
+    rows = re.findall(r"^\| (?:`\[+(\w+)\]+`[^|]*)?\| `(\w+)` \| ([^|]*)", page, re.M)
     found, table = {}, ""
-    for name, key in rows:
+    for name, key, value in rows:
         table = name or table
         found.setdefault(table, []).append(key)
+        if ranges := re.findall(RANGE, value):
+            assert re.findall(RANGE, KEYS[table][key]) == ranges, key
     assert found == {name: list(keys) for name, keys in KEYS.items()}
 
 
@@ -86,6 +94,13 @@ def test_lines_of_a_configuration_are_found():
         ("", "NoChannel", 'line 3 is: channel = "perfect"'),
     ):
         assert explained(f"config {fault}", EXAMPLE.replace(line, "", 1))[1] == wanted
+    assert "zeros" in explained("config NoApp", EXAMPLE)[-1] and "hostile" in explained("config NoChannel", EXAMPLE)[-1]
+
+
+def test_what_few_reports_have_is_explained():
+    assert explained("refused 2 Position", "fsoe 1 image\nw 1 00")[2] == "the bytes leave the image"
+    assert all(len(explained(last, None)) == 2 for last in ("desk failed", "usage: fsoe_tool"))
+    assert [code_words(code) for code in ("7f", "80")] == ["no code of this protocol", "device specific"]
 
 
 BOUND = '\n[[bound]]\nestop = "i1.{}"\ndrive = "o2.{}"\n'
@@ -95,11 +110,12 @@ BOUND = '\n[[bound]]\nestop = "i1.{}"\ndrive = "o2.{}"\n'
     "old, new, bound, wanted",
     (
         ("seed = 1", "sed = 1", "", "line 4: nobody reads sed of plant: perhaps seed is meant"),
+        ("seed = 1", '"sed" = 1', "", "nobody reads sed of plant: perhaps seed is meant"),
         ("seed = 1", "seed = 1\n[[bond]]", "", "line 5: nobody reads tables bond: perhaps bound is meant"),
         ("[plant]", "seed = 1\n[plant]", "", "line 1: nobody reads seed, which is in no table"),
         (
             "address = 12",
-            "address = 12\nslave_address = 13",
+            "address = 11\nslave_address = 12",
             "",
             "line 16: connection 2: the slave refuses the master with code 06",
         ),
@@ -111,6 +127,7 @@ BOUND = '\n[[bound]]\nestop = "i1.{}"\ndrive = "o2.{}"\n'
             "line 10: connection 1: the slave refuses the master with code 09",
         ),
         ('"b5"]', '"i1.1"]', "", "line 51: block 6: a stuck acknowledgement restarts by itself"),
+        ('"b5"]', '"b2"]', "", "line 51: block 6: a stuck acknowledgement restarts by itself"),
         ('from = "b6"', 'from = "b1"', "", "line 56: o2.0 comes on by itself with its inputs"),
         ("", "", BOUND.format(1, 0), "line 58: bound 1: o2.0 isn't guarded by i1.1"),
         ("", "", BOUND.format(0, 1), "line 60: bound 1: nothing drives o2.1, so it is always off"),
@@ -186,7 +203,22 @@ def test_what_is_not_guarded_can_be_on(tmp_path):
 
 
 def test_what_is_meant_gives_no_warning():
-    assert list(warnings(EXAMPLE + BOUND.format(0, 0), True)) == []
+    net = EXAMPLE.replace("watchdog = 5", "watchdog = 5\nmost = 5") + BOUND.format(0, 0)
+    mirror = EXAMPLE.replace('app = "net"', 'app = "mirror"') + BOUND.format(0, 0).replace("i1", "i2")
+    assert [*warnings(net, True), *warnings(mirror, True)] == []
+
+
+def test_reaction_times_are_those_of_the_duties(tmp_path):
+    (tmp_path / "plant.toml").write_text(EXAMPLE + BOUND.format(0, 0))
+    words = [tmp_path / "plant.toml", "2", "--input", "10", "--late", "0.5", "--clocks", "0.01"]
+    ran = subprocess.run([sys.executable, TOP / "companion" / "dimension", *words], capture_output=True, text=True)
+    others = "input 10 ms, late 1 ms, application 0 ms, output 0 ms, stopping 0 ms"
+    assert ran.stdout.splitlines() == [
+        "connection 1 watchdog 5 hand 5 least 2",
+        "connection 2 watchdog 5 hand 5 least 2",
+        "bound i1.0 o2.0 limit 20 ticks, 40 ms",
+        f"  reaction time 47.36 ms: 18 ticks 36.36 ms, {others}",
+    ]
 
 
 def test_what_is_refused_comes_with_the_programs_status(tmp_path):
@@ -205,3 +237,4 @@ def test_what_is_refused_comes_with_the_programs_status(tmp_path):
     file.write_text("[plant\n")
     status, said, _ = gatepast("check", file)
     assert status == 3 and "config Syntax\nline 1 is: [plant\n" in said
+    assert "no program at" in gatepast("--program", tmp_path, "check", file)[2]

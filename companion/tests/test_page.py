@@ -1,4 +1,4 @@
-"""The outputs on the companion's page are those of its commands."""
+"""The outputs on the companion's page are those of its commands, and the chart in docs/ is that of its plant."""
 import re
 import shutil
 import subprocess
@@ -19,6 +19,10 @@ def folder(tmp_path_factory):
 def test_output_is_as_shown(folder, command, wanted):
     if re.search("tshark|gatepast trace", command) and not shutil.which("tshark"):
         pytest.skip("there is no tshark")
+    if "gatepast plant" in command and "GATEPAST_LAB" not in ENVIRONMENT:
+        pytest.skip("there is no fsoe_lab")
     environment = ENVIRONMENT | {"TMP": str(folder)}
     ran = subprocess.run(["bash", "-c", command], cwd=TOP, capture_output=True, text=True, env=environment)
     assert (ran.stdout, ran.stderr) == (wanted, "")
+    if "--chart" in command:
+        assert (folder / "stop.html").read_text() == (TOP / "docs" / "plant.html").read_text()

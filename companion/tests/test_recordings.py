@@ -6,6 +6,7 @@ import subprocess
 
 import pytest
 from conftest import COMPANION, TOOL, gatepast
+from example_node import COMMANDS
 from hypothesis import given, strategies
 from layer.capture import PCAP, checksum, packets
 from layer.recording import Frame, verdicts
@@ -35,7 +36,8 @@ def said_of(report, lengths="2 2", change=lambda frames: frames):
 @given(strategies.lists(strategies.tuples(strategies.sampled_from("ms"), strategies.binary(min_size=1, max_size=255))))
 def test_captures_have_the_frames_of_a_report(frames):
     report = "".join(
-        f"{number} {end} took Reset Reset 00 > {frame.hex()}\n" for number, (end, frame) in enumerate(frames, 1)
+        f"{number} {number % 16} {end} took Reset Reset 00 > {frame.hex()}\n"
+        for number, (end, frame) in enumerate(frames, 1)
     )
     records = list(packets(report, 51000))
     assert len(records) == len(frames)
@@ -44,7 +46,9 @@ def test_captures_have_the_frames_of_a_report(frames):
         header, udp = record[16:36], record[36:]
         assert (seconds * 1000 + microseconds // 1000, length, whole) == (number, len(record) - 16, len(record) - 16)
         assert checksum(header) == 0 and struct.unpack(">H", header[2:4]) == (length,)
-        ports = (51000, 51001) if end == "m" else (51001, 51000)
+        hosts = (1, 2) if end == "m" else (2, 1)
+        assert header[12:20] == bytes(part for host in hosts for part in (10, 0, number % 16, host))
+        ports = [50999 + host for host in hosts]
         assert struct.unpack(">HHHH", udp[:8]) == (*ports, len(udp), 0) and udp[8:] == frame
 
 
@@ -59,15 +63,17 @@ def test_the_dissector_has_the_words_of_the_page():
     text = (COMPANION / "gatepast.lua").read_text()
     codes = dict(re.findall(r'^  \[0x0([0-9a-f])\] = "(.*)",$', text.partition("CODES = {")[2], re.M))
     assert {f"0{code}": words for code, words in codes.items()} == WORDS["codes"]
+    commands = re.findall(r'^  \[0x(..)\] = "(\w+)",$', text.partition("CODES")[0], re.M)
+    assert {int(byte, 16): name for byte, name in commands} == COMMANDS
 
 
 @WITH_TSHARK
 @pytest.mark.parametrize("lengths", ("1 1", "4 6"))
 def test_the_dissector_reads_each_frame(tmp_path, lengths):
     report = report_of(["ds -1", "dm -1"] * 20, lengths)
-    (tmp_path / "a.pcap").write_bytes(PCAP + b"".join(packets(report, 51000)))
-    names = ("sender", "command", "data", "crc", "connection")
-    words = [word for name in names for word in ("-e", f"gatepast.{name}")]
+    (tmp_path / "a.pcap").write_bytes(PCAP + b"".join(packets(report, 52000)))
+    names = ("sender", "command", "code", "data", "crc", "connection")
+    words = ["-o", "gatepast.port:52000", *(word for name in names for word in ("-e", f"gatepast.{name}"))]
     for number, name in enumerate(("master", "slave")):
         words += ["-o", f"gatepast.{name}_length:{lengths.split(' ')[number]}"]
     words = [
@@ -82,7 +88,8 @@ def test_the_dissector_reads_each_frame(tmp_path, lengths):
     ]
     said = subprocess.run(words, capture_output=True, text=True).stdout.splitlines()
     for line, (end, frame) in zip(said, frames_in(report), strict=True):
-        sender, command, data, crcs, connection = line.split("\t")
+        sender, command, code, data, crcs, connection = line.split("\t")
+        assert code == (f"0x{frame[2:4]}" if command == "0x2a" else "")
         groups = re.findall("..?.?.?" if data[2:] else "..", data)
         again = f"{int(command, 16):02x}" + "".join(
             group + struct.pack("<H", int(crc, 16)).hex() for group, crc in zip(groups, crcs.split(","), strict=True)
@@ -110,14 +117,17 @@ def test_recordings_are_judged_session_by_session():
 
 @WITH_TSHARK
 def test_what_differs_is_told_by_the_number_in_the_recording(tmp_path):
-    report = report_of(["ds -1", "dm -1"] * 9)
+    report = report_of([*["ds -1", "dm -1"] * 9, "zs"])
     (tmp_path / "a.report").write_text(report)
-    assert gatepast("pcap", tmp_path / "a.report", "--into", tmp_path / "a.pcap") == (0, "19 frames\n", "")
-    capture, last = (tmp_path / "a.pcap").read_bytes(), bytes.fromhex(frames_in(report)[-1][1])
+    assert gatepast("pcap", tmp_path / "a.report", "--into", tmp_path / "a.pcap") == (0, "20 frames\n", "")
+    capture, last = (tmp_path / "a.pcap").read_bytes(), bytes.fromhex(frames_in(report)[-2][1])
     (tmp_path / "a.pcap").write_bytes(capture.replace(last, last[:3] + bytes([last[3] ^ 1]) + last[4:]))
     subprocess.run(["tshark", "-r", tmp_path / "a.pcap", "-F", "pcapng", "-w", tmp_path / "a.pcapng"], check=True)
     status, said, _ = gatepast("trace", tmp_path / "a.pcapng", "--lengths", 2, 2, "--into", tmp_path)
-    assert (status, said) == (1, "conversation 0 part 1, frames 1 to 19: differs in frame 19, Crc 0\n")
+    assert status == 1 and said.splitlines() == [
+        "conversation 0 part 1, frames 1 to 19: differs in frame 19, Crc 0",
+        "conversation 0 part 2, frames 20 to 20: not judged: the slave ended a session",
+    ]
     assert (tmp_path / "0-1.trace").read_text().startswith("fsoe 1 trace\nlengths 2 2\ngo\nm 2a0000")
     assert gatepast("trace", tmp_path / "a.pcap", "--lengths", 2, 3)[:2] == (2, "")
     status, said, why = gatepast("trace", COMPANION / "gatepast.lua", "--lengths", 2, 2)

@@ -1,0 +1,161 @@
+"""How long a drive stayed on after its stop was pressed, by the script and the report of a plant."""
+from __future__ import annotations
+
+import re
+import tomllib
+from collections import Counter
+from concurrent.futures import ProcessPoolExecutor
+from dataclasses import dataclass
+from functools import partial
+from tempfile import NamedTemporaryFile
+from typing import Any, Iterator
+
+from layer.causes import place_of
+from layer.journal import bit_of
+from layer.net import Net
+from layer.program import Complaint, Tool
+from layer.script import Line, text_of
+from layer.toml_lines import lines_of, tables_of
+
+Tables = dict[str, list[dict[str, Any]]]
+MOST_SEEDS = 10_000
+WIDTH = 40  # of the longest bar
+
+
+@dataclass(frozen=True)
+class Press:
+    """A stop was pressed after a tick with the drive on, which was off after a later one; None if it wasn't, or if the
+    stop was released before."""
+
+    tick: int
+    off: int | None
+
+
+def outputs_of(report: str) -> list[dict[int, str]]:
+    """The outputs of each slave after each tick."""
+    ticks: list[dict[int, str]] = []
+    for line in report.splitlines():
+        words = line.split(" ")
+        if words[0] == "tick":
+            ticks.append({})
+        elif words[0].isdigit():
+            ticks[-1][int(words[0])] = words[4]
+    return ticks
+
+
+def presses(bound: dict[str, str], script: list[Line], ticks: list[dict[int, str]]) -> list[Press]:
+    """Each time at which the stop of a bound was pressed with its drive on."""
+    stop, drive = place_of(bound["estop"]), place_of(bound["drive"])
+    found: list[Press] = []
+    offered, held, on, tick, open_at = "", False, False, 0, None
+    for word, *fields in (line.text.split(" ") for line in script[1:]):
+        if word == "t":
+            if tick == len(ticks):
+                break
+            tick += 1
+            on = bit_of(ticks[tick - 1].get(drive[0], ""), drive[1])
+            if open_at is not None and not on:
+                found.append(Press(open_at, tick))
+                open_at = None
+        elif word in ("p", "h") and fields[0] == str(stop[0]):
+            was = not held and bit_of(offered, stop[1])
+            offered, held = (fields[1], held) if word == "p" else (offered, fields[1] == "1")
+            released = not held and bit_of(offered, stop[1])
+            if was and not released and on:
+                open_at = tick
+            elif released and open_at is not None:
+                found.append(Press(open_at, None))
+                open_at = None
+    return found + ([Press(open_at, None)] if open_at is not None else [])
+
+
+def is_guarded(bound: dict[str, str], tables: Tables) -> bool:
+    """Whether the application of a configuration keeps a drive off while its stop is off."""
+    app, drive = tables["plant"][0]["app"], bound["drive"]
+    wires = {drive["out"]: drive["from"] for drive in tables.get("drive", [])}
+    if app == "mirror":
+        return bound["estop"][1:] == drive[1:]
+    return app == "zeros" or drive not in wires or Net(tables.get("block", [])).guards(bound["estop"], wires[drive])
+
+
+def said_of(bound: dict[str, str], tables: Tables, ended: str, script: list[Line], ticks: list[dict[int, str]]) -> str:
+    """What a bound's line of the report says, in words."""
+    stop, drive, limit = bound["estop"], bound["drive"], ended.split(" ")[3]
+    link, number = place_of(drive)
+    if not ended.endswith("kept"):
+        return f"drive {drive} was still on after {limit} ticks of stop {stop}, in tick {ended.split(' ')[-1]}"
+    if not is_guarded(bound, tables):
+        return f"this shows nothing: the application doesn't guard {drive} by {stop}, so the bound was never active"
+    if not any(bit_of(tick.get(link, ""), number) for tick in ticks):
+        return f"this shows nothing: drive {drive} was never on"
+    found = presses(bound, script, ticks)
+    if not found:
+        return f"this shows nothing: stop {stop} was never pressed with drive {drive} on"
+    took = sorted({press.off - press.tick for press in found if press.off})
+    times = "once" if len(found) == 1 else f"{len(found)} times"
+    off = f"; it was off after {spoken(took)}" if took else ""
+    left = sum(press.off is None for press in found)
+    never = f"; {left} of these ended before it was off" if left else ""
+    return f"stop {stop} was pressed {times} with drive {drive} on{off}{never}; the limit is {limit}"
+
+
+def spoken(ticks: list[int]) -> str:
+    """The least and the greatest number of ticks."""
+    least = f"{ticks[0]} to " if ticks[0] < ticks[-1] else ""
+    return f"{least}{ticks[-1]} tick{'s' if ticks[-1] > 1 else ''}"
+
+
+def with_seed(text: str, seed: int) -> str:
+    """A configuration with another seed; one that the program refuses stays as it is."""
+    try:
+        wanted = tomllib.loads(text)
+    except tomllib.TOMLDecodeError:
+        return text
+    place, lines = lines_of(text).get(("plant", 1, "seed")), text.split("\n")
+    if place:
+        lines[place - 1] = re.sub(r"=\s*[\w+-]+", f"= {seed}", lines[place - 1], count=1)
+    elif head := lines_of(text).get(("plant", 1, "")):
+        lines.insert(head, f"seed = {seed}")
+    changed = "\n".join(lines)
+    if "plant" in wanted and tomllib.loads(changed) != wanted | {"plant": wanted["plant"] | {"seed": seed}}:
+        raise Complaint("the seed of the configuration can't be replaced: write it in a line of its own under [plant]")
+    return changed
+
+
+def with_file(tool: Tool, configuration: str, script: str, *words: str) -> tuple[int, str]:
+    """Status and report for a configuration and a script."""
+    with NamedTemporaryFile("w", suffix=".toml", encoding="utf-8") as file:
+        file.write(configuration)
+        file.flush()
+        return tool.ask(*words, file.name, text=script)
+
+
+def reactions_with(tool: Tool, text: str, script: list[Line], seed: int) -> tuple[int, list[Counter]]:
+    """The program's status with a seed, and for each bound how often a reaction took so many ticks (None: no end)."""
+    status, report = with_file(tool, with_seed(text, seed), text_of(script), "plant")
+    if status > 1:
+        raise Complaint(f"with seed {seed} the program ends with status {status}: {report.splitlines()[-1]}")
+    ticks = outputs_of(report)
+    bounds = tables_of(tomllib.loads(text)).get("bound", [])
+    found = [presses(bound, script, ticks) for bound in bounds]
+    return status, [Counter(press.off and press.off - press.tick for press in each) for each in found]
+
+
+def over_seeds(tool: Tool, text: str, script: list[Line], seeds: range) -> tuple[list[int], list[Counter]]:
+    """The seeds with an `other` entry, and the reactions of each bound over all seeds."""
+    with ProcessPoolExecutor() as pool:
+        runs = list(pool.map(partial(reactions_with, tool, text, script), seeds, chunksize=4))
+    counts = [sum(counters, Counter()) for counters in zip(*(found for _, found in runs))]
+    return [seed for seed, (status, _) in zip(seeds, runs) if status], counts
+
+
+def rows(line: str, counts: Counter) -> Iterator[str]:
+    """How often a reaction of a bound took so many ticks, as bars, and its limit."""
+    _, stop, drive, limit, *_ = line.split(" ")
+    most = max(counts.values(), default=1)
+    yield f"ticks from stop {stop} pressed to drive {drive} off, and how often:"
+    for ticks in sorted(ticks for ticks in counts if ticks is not None):
+        yield f"{ticks:>6} {counts[ticks]:>6}  {'#' * max(1, counts[ticks] * WIDTH // most)}"
+    if counts[None]:
+        yield f"     - {counts[None]:>6}  the stop was released, or the run ended, before it was off"
+    yield f"{limit:>6}         the limit"

@@ -1,0 +1,58 @@
+"""Scripts for people: comments, blank lines, `t 100` and `repeat` become the lines that the program reads."""
+from __future__ import annotations
+
+import re
+from dataclasses import dataclass
+from itertools import cycle, islice
+
+from layer.program import Complaint
+
+MOST = 2002  # lines: the program refuses what has more, and says so
+COMMENT = re.compile(r"(^|\s)#.*")
+COUNTED = re.compile(r"(t|repeat) ([1-9]\d{0,8})")
+
+
+@dataclass(frozen=True)
+class Line:
+    """A line for the program, and the number of the line that it comes from."""
+
+    text: str
+    source: int
+
+    @property
+    def where(self) -> str:
+        """The line, and where it stands."""
+        return f"line {self.source}: {self.text}"
+
+
+def expanded(text: str) -> list[Line]:
+    """The lines that the program reads. Blocks of `repeat` that are open wait with their counts."""
+    blocks: list[list[Line]] = [[]]
+    counts: list[tuple[int, int]] = []
+    for number, whole in enumerate(text.split("\n"), 1):
+        line = COMMENT.sub("", whole).strip()
+        word = line.partition(" ")[0]
+        counted = COUNTED.fullmatch(line)
+        if word == "repeat" or word == "t" and line != "t":
+            if not counted:
+                raise Complaint(f"line {number} of the script, {line}: after {word} comes a number from 1")
+        if word == "repeat":
+            counts.append((int(counted[2]), number))
+            blocks.append([])
+        elif line == "done":
+            if not counts:
+                raise Complaint(f"line {number} of the script: no repeat is open before this done")
+            count, block = counts.pop()[0], blocks.pop()
+            blocks[-1] += islice(cycle(block), min(count * len(block), MOST))
+        elif counted:
+            blocks[-1] += [Line("t", number)] * min(int(counted[2]), MOST)
+        elif line:
+            blocks[-1].append(Line(line, number))
+    if counts:
+        raise Complaint(f"line {counts[-1][1]} of the script: this repeat has no done")
+    return blocks[0][:MOST]
+
+
+def text_of(lines: list[Line]) -> str:
+    """The text that the program reads."""
+    return "".join(line.text + "\n" for line in lines)

@@ -1,0 +1,243 @@
+"""Scripts for people, the causes of changes in a plant, its bounds, and its chart."""
+import shutil
+import tomllib
+
+import pytest
+from conftest import ENVIRONMENT, TOOL, TOP, WITH_LAB, gatepast
+from hypothesis import given, settings, strategies
+from layer.journal import Direction, Entry
+from layer.plant import ran
+from layer.program import Tool
+from layer.reactions import over_seeds, presses, with_seed
+from layer.script import MOST, Line, expanded
+from layer.vectors import check_named
+
+EXAMPLE = TOP / "examples" / "emergency_stop.toml"
+SCRIPT = (TOP / "examples" / "emergency_stop.script").read_text()
+BOUND = '\n[[bound]]\nestop = "i1.0"\ndrive = "o2.0"\n'
+HOSTILE = EXAMPLE.read_text().replace('"perfect"', '"hostile"') + BOUND
+ON = "fsoe 1 plant\np 1 0500\np 2 0100\nt 2\np 1 0300\nt 2\np 1 0500\nt 2\n"
+LAB = Tool(ENVIRONMENT.get("GATEPAST_LAB"))
+
+BLOCKS = strategies.recursive(
+    strategies.sampled_from(["t", "p 1 01", "h 1 0"]) | strategies.integers(1, 4),
+    lambda inner: strategies.tuples(strategies.integers(1, 3), strategies.lists(inner, max_size=4)),
+    max_leaves=12,
+)
+
+
+def written(block):
+    """A block as people write it: a line, a number of ticks, or a repetition."""
+    if isinstance(block, tuple):
+        return [f"repeat {block[0]}  # again", "", *(f" {line}" for part in block[1] for line in written(part)), "done"]
+    return [block if isinstance(block, str) else f"t {block}"]
+
+
+def meant(block):
+    if isinstance(block, tuple):
+        return [line for part in block[1] for line in meant(part)] * block[0]
+    return [block] if isinstance(block, str) else ["t"] * block
+
+
+@given(strategies.lists(BLOCKS, max_size=4))
+def test_scripts_are_expanded(blocks):
+    lines = [line for block in blocks for line in written(block)]
+    found = expanded("\n".join(lines))
+    assert [line.text for line in found] == [line for block in blocks for line in meant(block)][:MOST]
+    for line in found:
+        source = lines[line.source - 1].strip()
+        assert source == line.text or line.text == "t" and source.startswith("t ")
+
+
+@pytest.mark.parametrize(
+    "script, why",
+    (
+        ("t 0", "line 1 of the script, t 0: after t comes a number from 1"),
+        ("# a\nrepeat x\ndone", "line 2 of the script, repeat x: after repeat comes a number from 1"),
+        ("repeat", "line 1 of the script, repeat: after repeat comes a number from 1"),
+        ("repeat 2\nt\ndone\ndone", "line 4 of the script: no repeat is open before this done"),
+        ("repeat 2\nrepeat 3\nt\ndone", "line 1 of the script: this repeat has no done"),
+    ),
+)
+def test_what_cannot_be_expanded_is_told(tmp_path, script, why):
+    page = tmp_path / "a.html"
+    assert gatepast("plant", EXAMPLE, "-", "--chart", page, text=script) == (2, "", f"gatepast: {why}\n")
+    assert not list(tmp_path.iterdir())
+
+
+def test_a_plain_script_is_what_the_program_reads():
+    assert gatepast("plant", "--plain", EXAMPLE, "-", text=SCRIPT) == (0, SCRIPT, "")
+    assert len(expanded("repeat 999999999\nrepeat 999999999\ndone\nt 999999999\ndone")) == MOST
+
+
+def test_frames_are_found_again():
+    def sent(frame):
+        return Entry("m", "again", "Reset", "00", frame, 0, "tm", None)
+
+    direction = Direction()
+    direction.sent = [sent(frame) for frame in ("0102", "0304", "0506", "0708")]
+    frames = ("0102", "0102", "0306", "0708", "0506", "ff00", "06")
+    wanted = ["", "again", "altered", "", "late", "never sent", "never sent"]
+    assert [direction.found(frame).what for frame in frames] == wanted
+
+
+PUTS = [f"p {link} 0{bits}00" for link in (1, 2) for bits in range(8)]
+OTHERS = ["h {} 0", "h {} 1", "z {}", "cut {} 1", "cut {} 0", "n {} m 9", "n {} s 300"]
+LINES = strategies.sampled_from(PUTS + [line.format(link) for line in OTHERS for link in (1, 2)])
+
+
+@WITH_LAB
+@settings(max_examples=12)
+@given(strategies.lists(strategies.integers(1, 9).map("t {}".format) | LINES, max_size=25), strategies.integers(0, 99))
+def test_replay_of_a_journal_says_what_the_report_says(lines, seed):
+    last = ["app mirror", "t 3", "app zeros", "t", "end"]
+    script = expanded("\n".join(["fsoe 1 plant", "p 1 0500", "p 2 0100", *lines, *last]))
+    for text in (EXAMPLE.read_text(), with_seed(HOSTILE, seed)):
+        status, report, done = ran(TOOL, LAB, text, script)
+        others = [number for number, pair in done.pairs.items() if pair.other]
+        assert f"\nother {others[0] if others else 'none'}\n" in report and status == bool(others)
+        assert [step.line for step in done.steps if step.line] == script[1:-1]
+        shown = [line for line in report.splitlines() if line[0] in "12"]
+        for at, line in enumerate(shown):
+            number, *wanted = line.split(" ")
+            entries = [entry for entry in done.pairs[int(number)].entries if done.steps[entry.step].x < at // 2 + 1]
+            ends = {entry.end: [entry.state, entry.outputs] for entry in entries}
+            assert ends["m"] + ends["s"] == wanted
+        for pair in done.pairs.values():
+            pulls = [entry for entry in pair.entries if entry.event.startswith("r")]
+            sent = [entry for entry in pair.entries if entry.sent]
+            assert [way.got for way in pair.ways if way.got] == sorted(pulls, key=lambda entry: entry.end == "m")
+            assert {id(way.sent) for way in pair.ways if way.sent} == set(map(id, sent))
+            if "perfect" in text:
+                assert {way.what for way in pair.ways} <= {"", "cut", "under way"}
+
+
+def said(tmp_path, script, text=EXAMPLE.read_text() + BOUND, *words):
+    """The lines that are said of a plant."""
+    (tmp_path / "plant.toml").write_text(text)
+    status, told, why = gatepast("plant", tmp_path / "plant.toml", "-", *words, text=script)
+    assert (status, why) == (0, "")
+    return told.splitlines()
+
+
+@WITH_LAB
+@pytest.mark.parametrize(
+    "lines, wanted",
+    (
+        ("p 1 0400\nt", "tick 7: drive o2.0 off: stop i1.0 was pressed (line 9: p 1 0400)"),
+        ("h 1 1\nt", "tick 7: drive o2.0 off: the slave of connection 1 sends fail-safe data (line 9: h 1 1)"),
+        ("p 2 0000\nt", "tick 7: drive o2.0 off: i2.0 fell (line 9: p 2 0000)"),
+        ("z 2\nt", "after tick 6: drive o2.0 off: its slave was reset, line 9: z 2"),
+        ("z 1\nt", "tick 7: drive o2.0 off: connection 1 is down: its slave was reset, line 9: z 1"),
+        ("app zeros\nt", "tick 7: drive o2.0 off: another application runs (line 9: app zeros)"),
+        ("cut 2 1\nt 9", "tick 12: drive o2.0 off: its slave was reset, watchdog expired (line 9: cut 2 1)"),
+        (
+            "cut 1 1\nt 9",
+            "tick 11: drive o2.0 off: connection 1 is down: its master was reset, watchdog expired (line 9: cut 1 1)",
+        ),
+    ),
+)
+def test_a_drive_goes_off_for_a_cause(tmp_path, lines, wanted):
+    found = said(tmp_path, f"{ON}{lines}\nend\n")
+    assert [line for line in found if " off: " in line] == [wanted]
+    assert "tick 5: drive o2.0 on: i1.2 rose (line 7: p 1 0500)" in found
+
+
+@WITH_LAB
+@pytest.mark.parametrize(
+    "script, old, wanted",
+    (
+        ("fsoe 1 plant\nt 3\nend", "", "this shows nothing: drive o2.0 was never on"),
+        (f"{ON}end", "", "this shows nothing: stop i1.0 was never pressed with drive o2.0 on"),
+        (
+            f"{ON}end",
+            'estop = "i1.0"',
+            "this shows nothing: the application doesn't guard o2.0 by i1.1, so the bound was never active",
+        ),
+        (
+            f"{ON}p 1 0400\nt 2\nend",
+            "",
+            "stop i1.0 was pressed once with drive o2.0 on; it was off after 1 tick; the limit is 20",
+        ),
+        (
+            f"{ON}cut 1 1\np 1 0400\nt 2\np 1 0500\nt\np 1 0400\nt 9\nend",
+            "",
+            "stop i1.0 was pressed 2 times with drive o2.0 on; it was off after 2 ticks; "
+            "1 of these ended before it was off; the limit is 20",
+        ),
+    ),
+)
+def test_bounds_are_said_in_words(tmp_path, script, old, wanted):
+    text = EXAMPLE.read_text() + BOUND.replace(old, 'estop = "i1.1"') if old else EXAMPLE.read_text() + BOUND
+    *_, line, words = said(tmp_path, script, text)
+    assert line.startswith("bound ") and line.endswith(" kept") and words.strip() == wanted
+
+
+@WITH_LAB
+def test_what_is_refused_is_explained(tmp_path):
+    page = tmp_path / "a.html"
+    status, told, _ = gatepast("plant", EXAMPLE, "-", text="fsoe 1 plant\n# all\n\nt 2\nx 1\nend\n")
+    assert status == 4 and "refused 4 Word\nline 4 is: x 1\n" in told
+    assert told.endswith("it comes from line 5 of the script\n")
+    (tmp_path / "plant.toml").write_text(EXAMPLE.read_text().replace("watchdog = 5", "watchdog = 0"))
+    status, told, _ = gatepast("plant", tmp_path / "plant.toml", "-", "--chart", page, text=SCRIPT)
+    assert status == 3 and told.startswith("config Range connection 1 watchdog\nline 9 is: watchdog = 0\n")
+    nowhere = tmp_path / "no" / "a.html"
+    for words in (["--seeds", 4, 3], ["--seeds", 0, 10**5], ["--chart", nowhere], ["--lab", tmp_path]):
+        status, told, why = gatepast("plant", EXAMPLE, "-", *words, text=SCRIPT)
+        assert (status, told) == (2, "") and why.startswith("gatepast: ")
+    assert not page.exists()
+    (tmp_path / "lab").write_text("#!/bin/sh\n")
+    (tmp_path / "lab").chmod(0o700)
+    status, told, why = gatepast("plant", EXAMPLE, "-", "--lab", tmp_path / "lab", text=SCRIPT)
+    assert (status, told) == (2, "") and "another number of ticks" in why
+
+
+@WITH_LAB
+def test_seeds_are_counted():
+    script = expanded("fsoe 1 plant\np 1 0500\np 2 0100\nt 3\np 1 0300\nt\np 1 0500\nt\np 1 0400\nt 30\nend")
+    assert over_seeds(TOOL, EXAMPLE.read_text() + BOUND, script, range(7)) == ([], [{1: 7}])
+    for text in (HOSTILE, HOSTILE.replace("seed = 1\n", "")):
+        wanted = tomllib.loads(text)
+        wanted["plant"]["seed"] = 9
+        assert tomllib.loads(with_seed(text, 9)) == wanted
+
+
+def test_presses_are_seen():
+    bound, on, off = {"estop": "i1.0", "drive": "o2.0"}, {2: "0100"}, {2: "0000"}
+    lines = ("fsoe 1 plant", "p 1 01", "t", "h 1 1", "t", "t", "h 1 0", "p 1 00", "t", "end")
+    script = [Line(text, 0) for text in lines]
+    assert [(press.tick, press.off) for press in presses(bound, script, [on, on, off, on])] == [(1, 3)]
+    assert [(press.tick, press.off) for press in presses(bound, script, [on, on, on, on])] == [(1, None), (3, None)]
+
+
+BROWSER = next(filter(None, map(shutil.which, check_named("page").BROWSERS)), None)
+
+
+@WITH_LAB
+@pytest.mark.skipif(not BROWSER, reason="there is no Chromium")
+def test_the_chart_shows_what_happened(tmp_path):
+    script = SCRIPT.replace("end", "p 1 0500\ncut 1 0\nt 20\nend")
+    said(tmp_path, script, HOSTILE.replace("hostile", "perfect"), "--chart", tmp_path / "a.html", "--seeds", "1", "3")
+    page = check_named("page").Browser(BROWSER, tmp_path / "profile")
+    page.opened((tmp_path / "a.html").as_uri())
+    page.look(1200, 900, "dark")
+    why = "connection 1 is down: its master was reset, watchdog expired (line 10: cut 1 1)"
+    assert page.value("document.querySelector('h1').textContent") == f"Drive o2.0 went off in tick 8: {why}"
+    lanes = page.value("[...document.querySelectorAll('.lane')].map((lane) => lane.dataset.name)")
+    assert lanes == ["1 master", "1 slave", "2 master", "2 slave"]
+    page.value(
+        "(() => { const lane = document.querySelector('.lane .state').getBoundingClientRect();"
+        "const at = { clientX: lane.right + 2, clientY: lane.top + 4, bubbles: true };"
+        "document.getElementById('chart').dispatchEvent(new PointerEvent('pointermove', at)); })()"
+    )
+    told = page.value("[...document.querySelectorAll('#told p')].map((line) => line.textContent)")
+    assert told[0] == "Tick 1" and told[-1].startswith("1 master: sent a frame, took Reset, took Session")
+    page.value("dispatchEvent(new KeyboardEvent('keydown', { key: 'n' }))")
+    assert page.value("document.querySelector('#told p').textContent") == "Tick 3"
+    for width in (360, 1600):
+        page.look(width, 900, "light")
+        assert page.value("document.scrollingElement.scrollWidth") <= width
+    complaints = page.complaints
+    page.end()
+    assert complaints == []
