@@ -294,8 +294,8 @@ GP_CHECKED uint8_t gp_slave_put(gp_slave *slave, const uint8_t *load, size_t loa
    of what was put. It outlasts resets. */
 GP_CHECKED uint8_t gp_slave_hold(gp_slave *slave, bool failsafe);
 
-/* Sets the session id of all sessions that begin after this call. It outlasts resets: give a fresh one after each
-   did.reset, else the next session has the same one again. */
+/* Sets the id of all sessions whose first Session frame is sent after this call. It outlasts resets: give a fresh one
+   after each did.reset, else the next session has the same one again. */
 GP_CHECKED uint8_t gp_slave_nonce(gp_slave *slave, uint32_t id);
 
 /* Readers: they change nothing at the slave. */

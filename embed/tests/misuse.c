@@ -301,7 +301,7 @@ static void terms_of_a_session(void) {
 
 int main(void) {
     MUST(gp_version() == GP_VERSION && gp_slave_size() == GP_SLAVE_SIZE && gp_master_size() == GP_MASTER_SIZE);
-    MUST(gp_slave_align() == 8 && gp_master_align() == 8);
+    MUST(gp_slave_align() == _Alignof(gp_slave_memory) && gp_master_align() == _Alignof(gp_master_memory));
     no_slave();
     no_master();
     bad_settings();

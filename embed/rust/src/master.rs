@@ -158,8 +158,8 @@ impl<'m, P: Profile, const M: usize, const S: usize> Master<'m, P, M, S> {
         done(unsafe { ffi::gp_master_hold(&mut self.handle, failsafe) });
     }
 
-    /// Sets the session id of all sessions that begin after this call. It outlasts resets: give a fresh one after each
-    /// reset, else the next session has the same one again.
+    /// Sets the id of all sessions whose first Session frame is sent after this call. It outlasts resets: give a fresh
+    /// one after each reset, else the next session has the same one again.
     pub fn nonce(&mut self, id: P::Nonce) {
         // SAFETY: as in `deliver`.
         done(unsafe { ffi::gp_master_nonce(&mut self.handle, id.into()) });
