@@ -158,7 +158,8 @@ impl Core {
         }
     }
 
-    /// Sets the session id of all sessions that begin from now on, at most 65,535 in profile One. It outlasts resets.
+    /// Sets the id of all sessions whose first Session frame is sent after this call, at most 65,535 in profile One. It
+    /// outlasts resets.
     #[tactic(auto, using(crate::proofs::Either::master_follows, crate::proofs::Either::slave_follows))]
     pub fn nonce(&mut self, id: u32)
         requires allowed { IsTrue (allows_id (profile_of (setup_of self.old)) id) }

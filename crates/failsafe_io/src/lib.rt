@@ -1,6 +1,6 @@
-//! The fail-safe part of an end. Its watchdog leads to state Reset. Its outputs are zeros unless process data came
-//! last. While fail-safe data are on, it sends zeros. An `Application` computes the data that all masters send, from
-//! what they received.
+//! The fail-safe part of an end. When its watchdog expires, it goes to state Reset. Its outputs are zeros unless the
+//! last frame that it took in the session was ProcessData. While it is held, its data frames are FailSafeData with
+//! zeros. An `Application` computes the data that all masters send, from what they received.
 //!
 //! ```rust
 //! use failsafe_io::{Outputs, Watchdog};

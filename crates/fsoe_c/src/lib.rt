@@ -1,7 +1,7 @@
 //! FSoE master and slave as a library for C, in memory of the caller; nothing here allocates. A handle says where the
-//! memory of an end is and whether the end is there. A function takes a handle and returns a number (`enum gp_answer`):
-//! `OK`, or why it refused. Only those that tell the version, or the size and the alignment of that memory, take none. A
-//! refused call changes nothing. `embed/gatepast.h` declares the functions, and says what C code owes.
+//! memory of an end is, and whether an end is in it. A function takes a handle and returns a number (`enum gp_answer`):
+//! `OK`, or why it refused. Only the functions for the version, and for size and alignment of that memory, take no
+//! handle. A refused call changes nothing. `embed/gatepast.h` declares the functions, and says what C code owes.
 #![tactic(auto)]
 
 pub mod laws;

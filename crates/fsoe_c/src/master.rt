@@ -294,8 +294,8 @@ pub extern "C" fn gp_master_hold(master: &mut GpMaster, failsafe: bool) -> u8
     OK
 }
 
-/// Sets the session id of all sessions that begin after this call, at most 65,535 in profile One. It outlasts resets:
-/// give a fresh one before each session.
+/// Sets the id of all sessions whose first Session frame is sent after this call, at most 65,535 in profile One. It
+/// outlasts resets: give a fresh one before each session.
 #[unsafe(no_mangle)]
 #[tactic(auto, using(crate::proofs::Places::vacuous))]
 pub extern "C" fn gp_master_nonce(master: &mut GpMaster, id: u32) -> u8

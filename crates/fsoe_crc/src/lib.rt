@@ -1,5 +1,5 @@
-//! The 16-bit CRC of the frames. It is the remainder by the polynomial 139B7h of the bytes and then sixteen zero bits.
-//! The highest bit comes first, and the start value is 0.
+//! The 16-bit CRC of frames. The bytes, followed by sixteen zero bits, are divided by the polynomial 139B7h: the CRC is
+//! the remainder. The highest bit of a byte comes first, and the start value is 0.
 //!
 //! ```rust
 //! use fsoe_crc::crc;

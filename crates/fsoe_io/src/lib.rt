@@ -1,5 +1,5 @@
-//! Input and output of all commands: byte sources and sinks, texts by name, lines read from a source, and text written
-//! to a sink. There are implementations in memory and on `std`. Nothing here knows frames or ends.
+//! Input and output of all commands, in memory and on `std`: sources and sinks of bytes, texts that are loaded by name,
+//! lines, and buffered text. Nothing here knows frames or ends.
 //!
 //! ```rust
 //! use fsoe_io::{LineReader, SureSource};

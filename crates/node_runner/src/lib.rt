@@ -1,5 +1,5 @@
-//! Runs one FSoE master or slave over a node file, for the command `node`. The file has a header, and then an event a
-//! line. The report has a line for each event. It needs no bus and no clock: ticks are lines too.
+//! Runs one FSoE master or slave over a node file, for the command `node`. After the header, each line up to `end` is
+//! an event, and gives a line of the report. It needs no bus and no clock: ticks are lines too.
 //!
 //! ```rust
 //! use fsoe_base::End;

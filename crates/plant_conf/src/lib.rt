@@ -1,6 +1,6 @@
 //! Reads the configuration of a plant from TOML text. A plant is many connections with both ends, an application and a
 //! channel. The result is the connections, the net of function blocks and the bounds that are watched, or the first
-//! fault with its table, number and key.
+//! fault with its table, the table's number and the key.
 //!
 //! ```rust
 //! use plant_conf::read_conf;

@@ -1,13 +1,13 @@
 //! Masters and slaves whose frames are at fixed places (slots) of a cyclic process image, which a fieldbus copies in
 //! and out at each of its cycles. A new frame is recognized only by a change of its bytes: `sample` delivers a slot's
-//! contents if and only if they differ from the sample before. The program writes what came, samples, and passes on the
-//! output image:
+//! contents if and only if they differ from the sample before (zeros before the first). The program writes what came,
+//! samples, and passes on the output image:
 //!
 //! ```text
 //! let mut images = Images::new(size_in, size_out, slots)?;
 //! loop {
 //!     images.write(0, &cycle.input());          // or only the part that came
-//!     images.sample(&mut dids);                 // what each end did to whose slot something new came
+//!     images.sample(&mut dids);                 // for each end whose slot has changed, what it did
 //!     if clock.ticked() {
 //!         images.tick(&mut told);
 //!     }
@@ -15,15 +15,18 @@
 //! }
 //! ```
 //!
-//! These follow, and no call refuses them:
+//! The program has to know these consequences; no call refuses them:
 //!
-//! - Two equal frames one after the other are seen as one. A slave that reset itself answers the master's Reset(0) with
-//!   the same bytes as before, so the master gets nothing and waits. To solve this, write different bytes into the
+//! - Two equal frames one after the other are seen as one. After a local reset a slave answers the master's Reset(0)
+//!   with the bytes that it sent before, so the master gets nothing and waits. Write other bytes into the master's
 //!   slot, sample, and write the frame again.
-//! - After the first sample zeros are a frame too. A bus that blanks its image ends each session.
-//! - What is overwritten in the input image before a sample is lost. A frame in the output image is lost, too, if its
-//!   end sends the next one before the image was passed on. Pass it on after each sample and each tick.
-//! - Half of a frame, if sampled, is a different frame. It ends the session, except in state Reset.
+//! - Zeros are a frame, too, if the slot had other bytes at the sample before. A bus that fills its image with zeros
+//!   ends each session.
+//! - Bytes of the input image that are overwritten before they were sampled are lost. A frame in the output image is
+//!   lost, too, if its end sends the next one before the image was passed on. Pass it on after each sample and each
+//!   tick.
+//! - A frame that is sampled half written is another frame. It ends the session, except in state Reset, or
+//!   if it happens to pass all tests.
 //!
 //! ```rust
 //! use fsoe_base::Lengths;

@@ -1,5 +1,5 @@
--- When a reaction is broken: a drive is on though its stop was quiet for so many ticks. Lists of what was said are
--- newest first.
+-- When a reaction is broken: a drive is on though its stop was quiet (pressed) for so many ticks. Lists of what was
+-- said are newest first.
 use Rattle.std.specs.Prelude.{ℕ, suc, ◌-◌, nat_le, List, [], ◌∷◌, Bool, true, false, ◌||◌, Option, None}
 use Rattle.exchange_model.specs.Other.{first_of_both}
 

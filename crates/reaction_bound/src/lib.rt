@@ -1,10 +1,10 @@
 //! How old the outputs of both ends of a connection are, and whether an emergency stop switches a drive off in time.
-//! The laws give the greatest age of outputs. A plant uses both. Times are ticks of an end; no clock is read.
+//! The laws say how old outputs can be. A plant counts and watches both. Time is counted in ticks; no clock is read.
 //!
 //! ```rust
 //! use reaction_bound::Reaction;
 //! let mut reaction = Reaction::new(2);
-//! reaction.quiet(true); // the stop is off
+//! reaction.quiet(true); // the stop is pressed: its bit is 0
 //! reaction.tick(true);
 //! assert_eq!(rt; reaction.broken(), None);
 //! reaction.tick(true);

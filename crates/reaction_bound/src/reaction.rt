@@ -1,7 +1,8 @@
 //! Whether a drive was switched off in time.
 use std::marker::Model;
 
-/// Finds the first tick at which a drive is on although its stop was quiet (off) for `limit` ticks. Doesn't allocate.
+/// Finds the first tick at which a drive is on although its stop was pressed (its bit is 0) for `limit` ticks. Doesn't
+/// allocate.
 #[derive(Debug, Drop)]
 pub struct Reaction {
     limit: u32,
@@ -24,8 +25,8 @@ impl Reaction {
     ghost use Rattle.reaction_bound.specs.Reaction.{Said, Quiet, Tick, broken_of};
     ghost use Rattle.reaction_bound.specs.Kept.{Hears, is_long, view_of};
 
-    /// Creates a reaction that observed nothing. The drive must be off at the tick of number `limit`, counted from the
-    /// first one with which the stop is quiet.
+    /// Creates a reaction that observed nothing. The drive must be off at the `limit`-th tick after the stop was
+    /// pressed.
     pub fn new(limit: u32) -> Reaction
         ensures { result ≡ view_of limit [] }
     {
@@ -37,7 +38,7 @@ impl Reaction {
         }
     }
 
-    /// Sets whether the stop is quiet from now on. To set it again changes nothing.
+    /// Sets whether the stop is pressed from now on. To set the same again changes nothing.
     #[tactic(auto, using(crate::proofs::Kept::broken_quiet))]
     pub fn quiet(&mut self, is: bool)
         ensures hears { Hears self.old (Quiet is) self.new }
@@ -71,19 +72,19 @@ impl Reaction {
         }
     }
 
-    /// Whether the stop was quiet for the limit, with the newest tick.
+    /// Whether the stop was pressed for `limit` ticks, the newest one counted.
     fn is_long(&self) -> bool
         ensures { result ≡ is_long self.now.limit self.now.ticks self.now.quiet_from }
     {
         match self.quiet_from {
-            // The stop was quiet from no later tick on than the newest, so this is the count of the ticks since.
+            // `from` is at most `ticks`: this is the number of ticks since the stop was pressed.
             Some(from) => self.ticks.saturating_sub(from) >= u64::from(self.limit),
             None => false,
         }
     }
 
     /// Returns the number, from 1, of the first late tick, or None if there is none. A tick is late if the drive is on,
-    /// and at least `limit` ticks, itself counted, came since the stop was quiet without a break.
+    /// and at least `limit` ticks, itself counted, came since the stop was pressed, without a break.
     pub fn broken(&self) -> Option<u64>
         ensures { (limit : ℕ) (said : List Said) → self.now ≡ view_of limit said → result ≡ broken_of limit said }
     {

@@ -1,5 +1,6 @@
-//! The command `replay` for a pair file as a function for C: a text in memory gives a report in memory of the caller.
-//! It allocates and keeps nothing. `embed/replay.h` declares it, and says what C code owes.
+//! The command `replay` for a pair file as a function for C. It reads a text in memory and writes the report into
+//! memory of the caller. It allocates nothing and keeps nothing. `embed/replay.h` declares it, and says what C code
+//! owes.
 #![tactic(auto)]
 
 pub mod replay;

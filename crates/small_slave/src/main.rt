@@ -1,6 +1,6 @@
-//! The smallest program around a slave: it passes in frames and ticks, sends what the slave writes, and drives by the
-//! slave's outputs. Here the events are a fixed list; in a device they come from the bus and from a timer. Here the
-//! session id is always 2; a device must give a fresh one before each session.
+//! The smallest program around a slave: it passes in frames and ticks, sends what the slave writes, and gives the
+//! slave's outputs to the drive. Here the events are a fixed list; in a device they come from the bus and from a timer.
+//! Here the session id is always 2; a device must give a fresh one before each session.
 #![tactic(auto)]
 
 use fsoe_base::{FrameBuf, Lengths};
