@@ -28,11 +28,11 @@
 //! ```
 //!
 //! A program whose next data depend on the received frame calls `accept` in place of `deliver`, reads `outputs`, and
-//! calls `put`. If `due()` is then true, it calls `reply`: a ProcessData frame that this sends carries what was put.
-//! `hold(true)` makes the master send fail-safe data (zeros) in place of what was put, until `hold(false)`. `nonce`
-//! sets the id of all sessions whose first Session frame the master sends after the call. The master never makes an id
-//! itself: call `nonce` with a fresh one before each session. A reset changes neither what was put, nor the hold, nor
-//! the id.
+//! calls `put`. If `due()` is then true, it calls `reply`: if that sends a ProcessData frame, the frame carries what
+//! was put. `hold(true)` makes the master send fail-safe data (zeros) in place of what was put, until `hold(false)`.
+//! `nonce` sets the id of all sessions whose first Session frame the master sends after the call. The master never
+//! makes an id itself: call `nonce` with a fresh one before each session. A reset changes neither what was put, nor the
+//! hold, nor the id.
 //!
 //! ```rust
 //! use fsoe_base::{FrameBuf, Lengths};

@@ -25,8 +25,8 @@
 //! - Bytes of the input image that are overwritten before they were sampled are lost. A frame in the output image is
 //!   lost, too, if its end sends the next one before the image was passed on. Pass it on after each sample and each
 //!   tick.
-//! - A frame that is sampled half written is another frame. It ends the session, except in state Reset, or
-//!   if it happens to pass all tests.
+//! - A frame that is sampled half written is another frame. It ends the session, unless the end is in state Reset or
+//!   the frame happens to pass all tests.
 //!
 //! ```rust
 //! use fsoe_base::Lengths;

@@ -1,6 +1,6 @@
-//! Tests of crates that use neither `slave_core` nor `master_core`, one module for each of these crates. They call
-//! public functions, also with files and sinks in memory that fail, and compare with values that were found without
-//! this code. What the program does is tested in `runs/`. What a contract states needs no test.
+//! Tests of low crates, with one module for each crate that is tested here. They call public functions, also with files
+//! and sinks in memory that fail, and compare with values that were found without this code. What the program does is
+//! tested in `runs/`. What a contract states needs no test.
 //!
 //! Tests have crates of their own, since a crate would be proved twice if it had tests. Those of the ends and of what
 //! runs them are in `worked_ends`.

@@ -1,5 +1,5 @@
 //! Tests of `slave_core` and `master_core`, and of crates that run or judge ends, with one module for each crate. The
-//! expected values were found without this code. Tests of crates that use neither core are in `worked_cases`.
+//! expected values were found without this code. Tests of lower crates are in `worked_cases`.
 #![tactic(auto)]
 
 #[cfg(test)]
