@@ -2,10 +2,12 @@
 ghost use Rattle.std.specs.Prelude.{◌≡◌, ◌≢◌, ℕ, List, [], Some, map, option_copied, string_bytes};
 ghost use Rattle.std.specs.Option.{unwrap_or};
 ghost use Rattle.file_run.specs.Outside as outside;
-ghost use Rattle.plant_file.specs.Handed.{entry_seen};
+ghost use Rattle.multi_master.specs.Standing.{app_view};
+ghost use Rattle.plant_file.specs.Handed.{handed};
 ghost use Rattle.fsoe_lab.specs.Command.{Runs, file_named};
 
 use black_channel::Channel;
+use failsafe_io::Application;
 use fb_net::AppEntry;
 use file_run::write_report;
 use fsoe_io::{Desk, Ended, Sink, Source, Status};
@@ -46,17 +48,11 @@ pub fn run<D: Desk, S: Source, K: Sink>(
     journal: &mut Journal,
 ) -> Ended
     requires empty { journal.old ≡ [] }
-    ensures runs { Runs (file_named (map string_bytes words.now)) result
+    ensures runs { let A = ⟦<Box<dyn Application> as Application>⟧ in let C = ⟦<Box<dyn Channel> as Channel>⟧ in
+        Runs (file_named (map string_bytes words.now)) result
         (record { source = outside.told S.left S.faults source.old source.new; sink = outside.told K.written K.faults sink.old sink.new })
         (let file = unwrap_or (file_named (map string_bytes words.now)) [] in record { text = D.holds desk.old file; faults_before = D.faults desk.old file; faults_after = D.faults desk.new file })
-        (record {
-          apps = map (entry_seen (λ app. record { rule = (Application-box app).rule app.value; holds = (Application-box app).holds app.value; guards = (Application-box app).guards app.value })) apps.items;
-          name_of = λ channel. name channel;
-          tells = λ channel. told channel;
-          channels_before = channels.old.items;
-          channels_after = channels.new.items;
-          journal = journal.new;
-        }) }
+        (handed (app_view A.rule A.holds A.guards) C.name C.told apps.items channels.old.items channels.new.items journal.new) }
     ensures others { (other : List ℕ) → file_named (map string_bytes words.now) ≢ Some other → D.faults desk.new other ≡ D.faults desk.old other }
 {
     match file_named(words) {

@@ -1,13 +1,15 @@
 //! The run of a command.
 ghost use Rattle.std.specs.Prelude.{◌≡◌, ◌≢◌, ℕ, List, [], false, map, string_bytes};
 ghost use Rattle.file_run.specs.Outside as outside;
-ghost use Rattle.plant_file.specs.Handed.{entry_seen};
+ghost use Rattle.multi_master.specs.Standing.{app_view};
+ghost use Rattle.plant_file.specs.Handed.{handed};
 ghost use Rattle.fsoe_tool.specs.Command.{command_said, file_named};
 ghost use Rattle.fsoe_tool.specs.Running.{Runs, reads_input, runs_plant};
 
 use crate::command::{Command, command_said, file_named};
 use black_channel::Channel;
 use duo_run::{run_bulk, run_convert, run_replay};
+use failsafe_io::Application;
 use fb_net::AppEntry;
 use file_run::write_report;
 use fsoe_io::{Desk, Ended, Sink, Source, Status};
@@ -71,17 +73,11 @@ pub fn run<D: Desk, S: Source, K: Sink>(
     channels: &mut Vec<Box<dyn Channel>>,
 ) -> Outcome
     // The arguments name a command, of which all holds that its own call promises, or none.
-    ensures runs { Runs (command_said (map string_bytes words.now)) (record { status = result.status; place = result.place })
+    ensures runs { let A = ⟦<Box<dyn Application> as Application>⟧ in let C = ⟦<Box<dyn Channel> as Channel>⟧ in
+        Runs (command_said (map string_bytes words.now)) (record { status = result.status; place = result.place })
         (record { source = outside.told S.left S.faults source.old source.new; sink = outside.told K.written K.faults sink.old sink.new })
         (let file = file_named (map string_bytes words.now) in record { text = D.holds desk.old file; faults_before = D.faults desk.old file; faults_after = D.faults desk.new file })
-        (record {
-          apps = map (entry_seen (λ app. record { rule = (Application-box app).rule app.value; holds = (Application-box app).holds app.value; guards = (Application-box app).guards app.value })) apps.items;
-          name_of = λ channel. name channel;
-          tells = λ channel. told channel;
-          channels_before = channels.old.items;
-          channels_after = channels.new.items;
-          journal = result.journal;
-        }) }
+        (handed (app_view A.rule A.holds A.guards) C.name C.told apps.items channels.old.items channels.new.items result.journal) }
     ensures unread { reads_input (command_said (map string_bytes words.now)) ≡ false → source.new ≡ source.old }
     ensures others { (other : List ℕ) → other ≢ file_named (map string_bytes words.now) → D.faults desk.new other ≡ D.faults desk.old other }
     ensures unasked { runs_plant (command_said (map string_bytes words.now)) ≡ false → desk.new ≡ desk.old }

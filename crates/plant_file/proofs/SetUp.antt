@@ -20,7 +20,7 @@ use Rattle.plant_model.specs.NetCycles.{net_app}
 use Rattle.plant_model.specs.Turns.{Named}
 use Rattle.plant_model.proofs.ByNet.{answers_by_net}
 use Rattle.plant_model.specs.declared.journal.JournalStep.{JournalStep}
-use Rattle.plant_file.specs.Handed.{Handed, entry_seen}
+use Rattle.plant_file.specs.Handed.{Handed, entry_seen, handed}
 use Rattle.plant_file.specs.Plant.{PlantRun, RanSaid, RanUnless, WroteLine, begins_with}
 use Rattle.plant_file.proofs.Picked.{chosen_seen, map_twice, within}
 
@@ -45,31 +45,10 @@ ran_unless Ran f apps conf names found ended o h same ran =
 pub set_up_refused : {H C : Type 0} (Ran : PlantRun) (app_of : H → AppView) (name_of : C → List ℕ) (tells : C → Told) (conf : ConfView) (apps : List (EntryOf H)) (channels : List C) (why : SetupFault) (ended : Ended) (o : Outside)
     (steps : List JournalStep)
     → Some why ≡ setup_fault conf (map (λ entry. string_bytes entry.name) apps) (map name_of channels)
-    → WroteLine (config_line why) status.Config ended o (record {
-      apps = map (entry_seen app_of) apps;
-      name_of = name_of;
-      tells = tells;
-      channels_before = channels;
-      channels_after = channels;
-      journal = steps;
-    })
-    → RanSaid Ran (Ok conf) ended o (record {
-      apps = map (entry_seen app_of) apps;
-      name_of = name_of;
-      tells = tells;
-      channels_before = channels;
-      channels_after = channels;
-      journal = steps;
-    })
+    → WroteLine (config_line why) status.Config ended o (handed app_of name_of tells apps channels channels steps)
+    → RanSaid Ran (Ok conf) ended o (handed app_of name_of tells apps channels channels steps)
 set_up_refused Ran app_of name_of tells conf apps channels why ended o steps fault wrote =
-    ran_unless Ran (entry_seen app_of) apps conf (map name_of channels) (Some why) ended o (record {
-      apps = map (entry_seen app_of) apps;
-      name_of = name_of;
-      tells = tells;
-      channels_before = channels;
-      channels_after = channels;
-      journal = steps;
-    }) fault wrote
+    ran_unless Ran (entry_seen app_of) apps conf (map name_of channels) (Some why) ended o (handed app_of name_of tells apps channels channels steps) fault wrote
 
 -- a plant that was set up and ran is what its configuration comes to
 pub set_up_ran : {H C : Type 0} (Ran : PlantRun) (app_of : H → AppView) (name_of : C → List ℕ) (tells : C → Told) (conf taken : ConfView) (apps spare : List (EntryOf H)) (app : KindOf H) (seen : AppView) (channels : List C)
@@ -80,23 +59,9 @@ pub set_up_ran : {H C : Type 0} (Ran : PlantRun) (app_of : H → AppView) (name_
     → None ≡ setup_fault conf (map (λ entry. string_bytes entry.name) apps) (map name_of channels)
     → IsChosen (λ entry. string_bytes entry.name) conf.app apps spare (app ≡ kind.Net (net_of conf)) (λ entry. app ≡ kind.Handed entry.app)
     → place_of conf.channel (map name_of channels) ≡ Some place → before ≡ slice_index_or channels place before
-    → RanSaid Ran (Ok conf) ended o (record {
-      apps = map (entry_seen app_of) apps;
-      name_of = name_of;
-      tells = tells;
-      channels_before = channels;
-      channels_after = slice_set channels place after;
-      journal = steps;
-    })
+    → RanSaid Ran (Ok conf) ended o (handed app_of name_of tells apps channels (slice_set channels place after) steps)
 set_up_ran Ran app_of name_of tells conf taken apps spare app seen channels place before after ended o steps ran rest new net own fault chosen at is =
-    ran_unless Ran (entry_seen app_of) apps conf (map name_of channels) None ended o (record {
-      apps = map (entry_seen app_of) apps;
-      name_of = name_of;
-      tells = tells;
-      channels_before = channels;
-      channels_after = slice_set channels place after;
-      journal = steps;
-    }) fault (record {
+    ran_unless Ran (entry_seen app_of) apps conf (map name_of channels) None ended o (handed app_of name_of tells apps channels (slice_set channels place after) steps) fault (record {
       app = seen;
       spare = map (entry_seen app_of) spare;
       chosen = chosen_seen (entry_seen app_of) (λ (named : Named). named.name) conf.app apps spare (app ≡ kind.Net (net_of conf)) (seen ≡ net_app (net_of conf)) (λ entry. app ≡ kind.Handed entry.app)

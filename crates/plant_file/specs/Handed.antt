@@ -1,5 +1,5 @@
 -- What a plant is run with and what is left of it, as contracts see it.
-use Rattle.std.specs.Prelude.{ℕ, List, string_bytes}
+use Rattle.std.specs.Prelude.{ℕ, List, map, string_bytes}
 use Rattle.std.specs.declared.option.Option.{Option}
 use Rattle.black_channel.specs.Told.{Told}
 use Rattle.fb_net.specs.declared.kind_of.EntryOf.{EntryOf}
@@ -27,3 +27,8 @@ pub record Handed (C : Type 0) : Type 0 where
   pub channels_before : List C
   pub channels_after : List C
   pub journal : List JournalStep
+
+-- it, by what is known of each application and each channel
+abbrev pub handed : {H C : Type 0} → (H → AppView) → (C → List ℕ) → (C → Told) → List (EntryOf H) → List C → List C → List JournalStep → Handed C
+handed app_of name_of tells apps before after steps =
+    record { apps = map (entry_seen app_of) apps; name_of = name_of; tells = tells; channels_before = before; channels_after = after; journal = steps }

@@ -1,5 +1,5 @@
 -- Worked lines of a journal.
-use Rattle.std.specs.Prelude.{◌≡◌, ℕ, true, false, List, [], ◌∷◌, codes, map, Ok}
+use Rattle.std.specs.Prelude.{◌≡◌, true, false, [], ◌∷◌, codes, map, Ok}
 use Rattle.fsoe_base.specs.declared.command.End.TheVariants as side
 use Rattle.plant_model.specs.FairPairs.{lengths_in}
 use Rattle.plant_model.specs.WorkedPlant.{both_links}

@@ -1,17 +1,19 @@
 //! The run of a plant by the configuration that a desk has.
-ghost use Rattle.std.specs.Prelude.{◌≡◌, ◌≢◌, ◌≤◌, ℕ, List, [], Ok, map};
+ghost use Rattle.std.specs.Prelude.{◌≡◌, ◌≢◌, ◌≤◌, ℕ, List, [], Ok};
 ghost use Rattle.fsoe_io.specs.declared.status.Status.TheVariants as status;
 ghost use Rattle.file_run.specs.Ending.{Writes};
 ghost use Rattle.file_run.specs.Outside as outside;
 ghost use Rattle.plant_conf.specs.declared.fault.ConfFault.TheVariants as fault;
 ghost use Rattle.plant_setup.specs.ConfigLine.{config_line};
 ghost use Rattle.plant_setup.specs.declared.fault.SetupFault.TheVariants as setup;
-ghost use Rattle.plant_file.specs.Handed.{entry_seen};
+ghost use Rattle.multi_master.specs.Standing.{app_view};
+ghost use Rattle.plant_file.specs.Handed.{handed};
 ghost use Rattle.plant_file.specs.Noted.{RanWanted};
 ghost use Rattle.plant_file.specs.Plant.{RanFile, RanSaid, RanText};
 
 use crate::noted::{Wanted, run_wanted};
 use black_channel::Channel;
+use failsafe_io::Application;
 use fb_net::AppEntry;
 use file_run::write_report;
 use fsoe_io::{Desk, Ended, LineText, LoadFault, Sink, Source, Status};
@@ -68,16 +70,10 @@ fn run_conf<S: Source, K: Sink>(
     wanted: Wanted,
 ) -> Ended
     requires empty { journal.old ≡ [] }
-    ensures ran { RanSaid (RanWanted wanted) (Ok conf) result
+    ensures ran { let A = ⟦<Box<dyn Application> as Application>⟧ in let C = ⟦<Box<dyn Channel> as Channel>⟧ in
+        RanSaid (RanWanted wanted) (Ok conf) result
         (record { source = outside.told S.left S.faults source.old source.new; sink = outside.told K.written K.faults sink.old sink.new })
-        (record {
-          apps = map (entry_seen (λ app. record { rule = (Application-box app).rule app.value; holds = (Application-box app).holds app.value; guards = (Application-box app).guards app.value })) apps.items;
-          name_of = λ channel. name channel;
-          tells = λ channel. told channel;
-          channels_before = channels.old.items;
-          channels_after = channels.new.items;
-          journal = journal.new;
-        }) }
+        (handed (app_view A.rule A.holds A.guards) C.name C.told apps.items channels.old.items channels.new.items journal.new) }
 {
     match set_up(&mut conf, apps, channels.as_slice()) {
         Ok(setup) => {
@@ -110,16 +106,10 @@ fn run_text<S: Source, K: Sink>(
     wanted: Wanted,
 ) -> Ended
     requires empty { journal.old ≡ [] }
-    ensures ran { RanText (RanWanted wanted) text.now result
+    ensures ran { let A = ⟦<Box<dyn Application> as Application>⟧ in let C = ⟦<Box<dyn Channel> as Channel>⟧ in
+        RanText (RanWanted wanted) text.now result
         (record { source = outside.told S.left S.faults source.old source.new; sink = outside.told K.written K.faults sink.old sink.new })
-        (record {
-          apps = map (entry_seen (λ app. record { rule = (Application-box app).rule app.value; holds = (Application-box app).holds app.value; guards = (Application-box app).guards app.value })) apps.items;
-          name_of = λ channel. name channel;
-          tells = λ channel. told channel;
-          channels_before = channels.old.items;
-          channels_after = channels.new.items;
-          journal = journal.new;
-        }) }
+        (handed (app_view A.rule A.holds A.guards) C.name C.told apps.items channels.old.items channels.new.items journal.new) }
 {
     match read_conf(alloc, text) {
         Ok(conf) => run_conf(alloc, conf, source, sink, apps, channels, journal, wanted),
@@ -140,17 +130,11 @@ pub fn run_file<D: Desk, S: Source, K: Sink>(
     wanted: Wanted,
 ) -> Ended
     requires empty { journal.old ≡ [] }
-    ensures ran { RanFile (RanWanted wanted) result
+    ensures ran { let A = ⟦<Box<dyn Application> as Application>⟧ in let C = ⟦<Box<dyn Channel> as Channel>⟧ in
+        RanFile (RanWanted wanted) result
         (record { source = outside.told S.left S.faults source.old source.new; sink = outside.told K.written K.faults sink.old sink.new })
         (record { text = D.holds desk.old file.now; faults_before = D.faults desk.old file.now; faults_after = D.faults desk.new file.now })
-        (record {
-          apps = map (entry_seen (λ app. record { rule = (Application-box app).rule app.value; holds = (Application-box app).holds app.value; guards = (Application-box app).guards app.value })) apps.items;
-          name_of = λ channel. name channel;
-          tells = λ channel. told channel;
-          channels_before = channels.old.items;
-          channels_after = channels.new.items;
-          journal = journal.new;
-        }) }
+        (handed (app_view A.rule A.holds A.guards) C.name C.told apps.items channels.old.items channels.new.items journal.new) }
     ensures others { (other : List ℕ) → other ≢ file.now → D.faults desk.new other ≡ D.faults desk.old other }
 {
     match desk.load(file, MAX_CONFIG) {

@@ -1,4 +1,4 @@
-use Rattle.std.proofs.Common.{◌≡◌, ℕ, ◌^◌, List, take, ap, ◌∙◌, subst}
+use Rattle.std.proofs.Common.{ℕ, ◌^◌, List, take, ap, ◌∙◌, subst}
 use Rattle.std.proofs.lemmas.List.{take_min}
 use Rattle.file_run.specs.Ending.{Writes}
 use Rattle.file_run.specs.Outside.{told}
