@@ -1,9 +1,9 @@
 -- What the slave or the master of a connection does and what is pushed, and what those of all connections do in a tick.
-use Rattle.std.proofs.Common.{◌≡◌, ◌≢◌, ◌≤◌, ℕ, zero, suc, ◌+◌, ◌*◌, ◌==◌, nat_lt, Bool, true, false, List, [], ◌∷◌, ◌++◌, take, drop, length, slice_get, slice_set, slice_index_or, ◌-◌, Option, Some, option_map, if◌then◌else◌, refl, sym, ap, ap₂, subst, ◌∙◌, append_assoc, arith}
+use Rattle.std.proofs.Common.{◌≡◌, ◌≢◌, ◌≤◌, ℕ, zero, suc, ◌+◌, ◌*◌, ◌==◌, nat_lt, Bool, true, false, List, [], ◌∷◌, ◌++◌, take, drop, length, slice_get, slice_set, Option, Some, None, option_map, if◌then◌else◌, refl, sym, ap, ap₂, subst, ◌∙◌, append_assoc, arith}
 use Rattle.std.proofs.lemmas.Bool.{eqb-true, lt-ltb, le-ltb}
 use Rattle.std.proofs.lemmas.Bool.Decides.{nat_tests}
 use Rattle.std.specs.Prelude.{IsSomeAnd}
-use Rattle.std.proofs.lemmas.Option.{get_or_from_slice_get, slice_get_within, slice_get_read, slice_get-map}
+use Rattle.std.proofs.lemmas.Option.{get_or_from_slice_get, slice_get_within, slice_get-map}
 use Rattle.std.proofs.lemmas.List.{append-nil, drop-set-lt, drop_more, take_all, take_more_set}
 use Rattle.std.proofs.lemmas.List.Elements.{All-head, All-tail, All-push, All-set, All-weaker}
 use Rattle.fsoe_base.specs.declared.command.End.{End}
@@ -22,7 +22,8 @@ use Rattle.plant_model.specs.Uses.{Use, Trace}
 use Rattle.plant_model.specs.Gifts.{place_of, sent_uses, each_uses}
 use Rattle.plant_core.specs.Doing.{SlaveActs, MasterActs, one_each, one_each_to, frames_pushed, AllActed, ActedTo, HaveParts}
 use Rattle.plant_core.specs.Standing.{AreNoted, fixed_in, lengths_kept, LinkIs, LinksAre, IsPlant}
-use Rattle.plant_core.specs.Link.{IsMasters, LinkView, LinkStands, SlaveGoesOn, MasterNoted, NotesOne, fixed_of}
+use Rattle.reaction_bound.specs.Ages.{HasAgeParts}
+use Rattle.plant_core.specs.Link.{LinkView, LinkStands, SlaveGoesOn, MasterNoted, NotesOne, fixed_of}
 use Rattle.plant_model.specs.FairPairs.{lengths_at}
 use Rattle.plant_core.proofs.Linking.{each_at, each_from, each_set, each_count}
 
@@ -56,9 +57,9 @@ slave_acts k what old new did sent before after goes notes t = record {
       };
 }
 
-pub master_acts : (k : ℕ) (tick : Bool) (came : List ℕ) (did : Did) (sent : List ℕ) (old new : LinkView) (before after : Told) → MasterNoted old tick came did sent new → NotesOne old new
-    → Trace (sent_uses (place_of k side.Slave) sent new.cut) before after → MasterActs k tick came did sent old new before after
-master_acts k tick came did sent old new before after noted notes t = record {
+pub master_acts : (k : ℕ) (tick : Bool) (came : List ℕ) (did : Did) (sent : List ℕ) (watchdog : Option ℕ) (old new : LinkView) (before after : Told) → MasterNoted old tick came did sent watchdog new → NotesOne old new
+    → Trace (sent_uses (place_of k side.Slave) sent new.cut) before after → MasterActs k tick came did sent watchdog old new before after
+master_acts k tick came did sent watchdog old new before after noted notes t = record {
   stands = λ link w x h parts. noted.stands link w x h parts;
   channel = subst (λ (c : Bool). Trace (sent_uses (place_of k side.Slave) sent c) before after) notes.cut t;
 }
@@ -183,10 +184,10 @@ same_count xs ys h = same_length fixed_of fixed_of xs ys h
 
 -- the entry of a master that was told with its parts
 pub master_one : (i n : ℕ) (links : List LinkConf) (done : ℕ → LinkConf → List Entry) (next : ℕ → LinkConf → Entry) (dids : List Did) (frames : List (List ℕ)) (link : LinkConf) (did : Did) (sent : List ℕ) (old new : LinkView) (before after : Told)
-    → n ≡ suc i → HaveParts links next dids frames → slice_get links i ≡ Some link → slice_get dids i ≡ Some did → slice_get frames i ≡ Some sent → MasterActs n true [] did sent old new before after
+    → n ≡ suc i → HaveParts links next dids frames → slice_get links i ≡ Some link → slice_get dids i ≡ Some did → slice_get frames i ≡ Some sent → MasterActs n true [] did sent None old new before after
     → LinkStands link old (done n link) → OneActed n side.Slave link done next old new before after
 master_one i n links done next dids frames link did sent old new before after e parts is did_at out_at acts h =
-    let own : IsMasters (next n link) true [] did sent = subst (λ (k : ℕ). IsMasters (next k link) true [] did sent) (sym e) (parts.each i link did sent is did_at out_at) in
+    let own : HasAgeParts (next n link) side.Master true [] did sent None = subst (λ (k : ℕ). HasAgeParts (next k link) side.Master true [] did sent None) (sym e) (parts.each i link did sent is did_at out_at) in
     record {
       stands = acts.stands link (done n link) (next n link) h own;
       channel = subst (λ (f : List ℕ). Trace (sent_uses (place_of n side.Slave) f old.cut) before after) (sym own.parts.sent_is) acts.channel;

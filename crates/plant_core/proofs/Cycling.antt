@@ -1,24 +1,33 @@
 -- Acts that run a cycle: the offers that it changed are noted with them.
-use Rattle.std.proofs.Common.{false, ◌≡◌, ℕ, suc, Bool, List, [], ◌∷◌, ◌++◌, map, slice_get, slice_set, Option, Some, option_map, if◌then◌else◌, refl, sym, ap, ap₂, subst, ◌∙◌, append_assoc}
+use Rattle.std.proofs.Common.{false, true, ◌≡◌, ℕ, suc, Bool, List, [], ◌∷◌, ◌++◌, map, slice_get, slice_set, Option, Some, None, option_map, if◌then◌else◌, refl, sym, ap, ap₂, subst, ◌∙◌, append_assoc}
 use Rattle.std.specs.Option.{option_map_or}
-use Rattle.std.specs.Prelude.{option_to_list}
+use Rattle.std.specs.Prelude.{IfSome, option_to_list}
 use Rattle.std.proofs.lemmas.Option.{slice_get-map}
 use Rattle.fsoe_base.specs.declared.command.End.{End}
 use Rattle.fsoe_base.specs.declared.command.End.TheVariants as side
+use Rattle.fsoe_base.specs.Did.{nothing}
+use Rattle.fsoe_base.specs.declared.command.Command.TheVariants as command
+use Rattle.fsoe_base.specs.declared.command.State.{State}
+use Rattle.fsoe_base.specs.declared.command.State.TheVariants as state
 use Rattle.fsoe_base.specs.declared.did.Did.{Did}
+use Rattle.fsoe_base.specs.declared.did.Took.{Took}
+use Rattle.param_load.specs.declared.terms.Terms.{Terms}
 use Rattle.param_load.specs.declared.entry.Entry.{Entry}
 use Rattle.param_load.specs.declared.entry.Move.TheVariants as move
 use Rattle.black_channel.specs.Told.{Told}
 use Rattle.black_channel.specs.declared.channel.Parcel.{Parcel}
 use Rattle.plant_conf.specs.declared.conf.LinkConf.{LinkConf}
 use Rattle.end_model.specs.Deed.{Deed}
+use Rattle.end_model.specs.Readiness.{reaches_limit, state_of, told_terms}
+use Rattle.end_model.specs.Setup.{Setup, OfMaster, OfSlave}
+use Rattle.end_model.specs.Step.{on_expiry}
 use Rattle.exchange_model.specs.Ends.{peer}
-use Rattle.exchange_model.specs.Monitor.{HasParts}
-use Rattle.exchange_model.specs.World.{deeds, deed_in, frames_of}
+use Rattle.exchange_model.specs.World.{deeds, deed_in, frames_of, next_entry}
+use Rattle.reaction_bound.specs.Ages.{HasAgeParts, HasWatchdog, watchdog_in}
 use Rattle.multi_master.specs.Calls.{AppView, Call, Deliver, Tick, ChangeApp, Meant, connection, meant}
-use Rattle.multi_master.specs.Connection.{Connection, next_deed}
+use Rattle.multi_master.specs.Connection.{Connection, next_deed, setup}
 use Rattle.multi_master.specs.Standing as multi
-use Rattle.multi_master.specs.Standing.{MultiView, StandsFor, AnswersFrame, AnswersTick, changed, newest_at}
+use Rattle.multi_master.specs.Standing.{MultiView, StandsFor, AnswersFrame, AnswersTick, ShowsAt, changed, newest_at}
 use Rattle.multi_master.proofs.Places.{Placed}
 use Rattle.plant_model.specs.declared.event.PlantEvent.TheVariants as event
 use Rattle.plant_model.specs.declared.journal.JournalStep.{JournalStep}
@@ -32,10 +41,12 @@ use Rattle.plant_core.specs.Link.{LinkView, LinkStands}
 use Rattle.plant_core.specs.Standing.{PlantView, LinkIs, LinksAre}
 use Rattle.plant_core.proofs.Acting.{trace_append}
 use Rattle.plant_model.proofs.Growing.{IsOne, pair_more, pair_own, pushes_each, no_entry}
+use Rattle.plant_core.proofs.Linked.{whatever}
 use Rattle.plant_core.proofs.Linking.{from_one, each_at, each_map}
 use Rattle.plant_model.proofs.Masters.{master_with, mastered, offers_by}
 use Rattle.plant_core.proofs.Offering.{offers_send}
 use Rattle.plant_core.proofs.OneDeed.{one_links, one_pushes, quiet_pushes}
+use Rattle.plant_core.proofs.Readers.{told_by}
 
 -- the entries of the slaves, and then of the masters, in a tick
 abbrev slave_next : List JournalStep → ℕ → LinkConf → Entry
@@ -66,6 +77,21 @@ some_same f xs place x y ys e at found =
     let same : Some y ≡ Some (f x) = sym found ∙ mapped in
     cc
 
+-- a tick takes no frame, so no watchdog is asked of its entry
+none_taken : (now : State) (s : Setup) → (on_expiry now s).took ≡ None
+none_taken state.Reset (OfMaster ms) = refl
+none_taken state.Reset (OfSlave ss) = refl
+none_taken _ s = refl
+
+tick_takes : (s : Setup) (e : List Deed) (b : Bool) → (if b then on_expiry (state_of s e) s else nothing).took ≡ None
+tick_takes s e true = none_taken (state_of s e) s
+tick_takes s e false = refl
+
+tick_tells : (s : Setup) (e : List Deed) → HasWatchdog (next_entry s e move.Tick) None
+tick_tells s e =
+    let asked : Option ℕ = None in
+    subst (λ (o : Option Took). IfSome o (λ t. t.command ≡ command.ProcessData → asked ≡ watchdog_in (next_entry s e move.Tick).terms)) (sym (tick_takes s e (reaches_limit s e))) tt
+
 tick_parts : (b : Beginning) (done : List Act) (m : MultiView) (dids : List Did) (frames : List (List ℕ)) → StandsFor (settings b) b.app m (calls b done) → AnswersTick m dids frames
     → HaveParts b.links (master_next (journal b done)) dids frames
 tick_parts b done m dids frames h answers = record {
@@ -74,7 +100,7 @@ tick_parts b done m dids frames h answers = record {
       let at : slice_get (masters b done).connections place ≡ Some c = mastered b done place link is in
       let did_is : did ≡ (next_deed move.Tick c).did = some_same (λ c. (next_deed move.Tick c).did) (masters b done).connections place c did dids (answers.dids (settings b) b.app (calls b done) h) at did_at in
       let sent_is : sent ≡ (next_deed move.Tick c).sent = some_same (λ c. (next_deed move.Tick c).sent) (masters b done).connections place c sent frames (answers.sent (settings b) b.app (calls b done) h) at sent_at in
-      record { parts = record { end_is = refl; came_is = refl; did_is = sym did_is; sent_is = sym sent_is }; tick_is = refl };
+      record { parts = record { end_is = refl; came_is = refl; did_is = sym did_is; sent_is = sym sent_is }; tick_is = refl; watchdog_is = tick_tells (OfMaster link.master) c.deeds };
 }
 
 tick_sends : (link : LinkConf) (k : ℕ) (steps : List JournalStep) (at : End) → frames_of at (pair link k (steps ++ step.Script event.Tick ∷ [])) ≡ frames_of at (master_next steps k link ∷ slave_next steps k link ∷ pair link k steps)
@@ -166,14 +192,16 @@ pub record FrameChange (old new : PlantView) (n : ℕ) (frame : List ℕ) (befor
   pub js : List JournalStep
   pub did : Did
   pub sent : List ℕ
+  pub terms : Option Terms
   pub place : ℕ
   pub was : LinkView
   pub is : LinkView
   pub follows : multi.Follows old.master (Deliver n frame) new.master
   pub answers : AnswersFrame old.master n frame did sent
+  pub told : ShowsAt new.master n terms (λ c. told_terms (setup c) c.deeds)
   pub offers : OffersNoted new.master old.links mid old.journal js
   pub placed : Placed mid n place was
-  pub acts : MasterActs n false frame did sent was is before after
+  pub acts : MasterActs n false frame did sent (watchdog_in terms) was is before after
   pub cut : is.cut ≡ was.cut
   pub links : new.links ≡ slice_set mid place is
   pub journal : new.journal ≡ js ++ step.Pulled (record { to = place_of n side.Master; frame = frame }) ∷ []
@@ -209,12 +237,13 @@ called : (b : Beginning) (act : Act) (done : List Act) (call : Call) (m : MultiV
 called b act done call m e h = subst (λ (o : Option Call). StandsFor (settings b) b.app m (option_to_list o ++ calls b done)) (sym e) h
 
 -- the entry of the master has the parts that its call told
-frame_parts : (b : Beginning) (done : List Act) (old : MultiView) (n place : ℕ) (frame : List ℕ) (did : Did) (sent : List ℕ) (link : LinkConf) (steps : List JournalStep) → n ≡ suc place → slice_get b.links place ≡ Some link
+frame_parts : (b : Beginning) (done : List Act) (old : MultiView) (n place : ℕ) (frame : List ℕ) (did : Did) (sent : List ℕ) (terms : Option Terms) (link : LinkConf) (steps : List JournalStep) → n ≡ suc place → slice_get b.links place ≡ Some link
     → call_of b (PullFrom (Some (record { to = place_of n side.Master; frame = frame }))) ≡ Some (Deliver n frame)
     → StandsFor (settings b) b.app old (calls b done) → AnswersFrame old n frame did sent
+    → option_map (λ (c : Connection). told_terms (setup c) c.deeds) (connection n (meant (settings b) b.app (Deliver n frame ∷ calls b done))) ≡ Some terms
     → journal b (PullFrom (Some (record { to = place_of n side.Master; frame = frame })) ∷ done) ≡ steps ++ step.Pulled (record { to = place_of n side.Master; frame = frame }) ∷ []
-    → HasParts (next_of side.Master (move.Deliver frame) link (pair link n steps)) side.Master frame did sent
-frame_parts b done old n place frame did sent link steps e is call h answers journal_is =
+    → HasAgeParts (next_of side.Master (move.Deliver frame) link (pair link n steps)) side.Master false frame did sent (watchdog_in terms)
+frame_parts b done old n place frame did sent terms link steps e is call h answers told journal_is =
     let parcel : Parcel = record { to = place_of n side.Master; frame = frame } in
     let act : Act = PullFrom (Some parcel) in
     let x : Entry = next_of side.Master (move.Deliver frame) link (pair link n steps) in
@@ -226,7 +255,12 @@ frame_parts b done old n place frame did sent link steps e is call h answers jou
     let meant_is : masters b (act ∷ done) ≡ m = ap (λ (o : Option Call). meant (settings b) b.app (option_to_list o ++ calls b done)) call in
     let there : connection n m ≡ Some c = ap₂ connection e (sym meant_is) ∙ mastered b (act ∷ done) place link is in
     let same = newest_of m n c (deed_in x) (deeds side.Master (pair link n steps)) (record { what = move.Deliver frame; did = did; sent = sent }) there deeds_are (answers.answers (settings b) b.app (calls b done) h) in
-    record { end_is = refl; came_is = refl; did_is = ap (λ (z : Deed). z.did) same; sent_is = ap (λ (z : Deed). z.sent) same }
+    let told_so = told_by terms told_terms (connection n m) c there told ∙ ap (told_terms (OfMaster link.master)) deeds_are in
+    record {
+      parts = record { end_is = refl; came_is = refl; did_is = ap (λ (z : Deed). z.did) same; sent_is = ap (λ (z : Deed). z.sent) same };
+      tick_is = refl;
+      watchdog_is = whatever x.did.took (watchdog_in terms) (watchdog_in x.terms) (ap watchdog_in told_so);
+    }
 
 pub frame_goes : (old new : PlantView) (n : ℕ) (frame : List ℕ) (before after : Told) → FrameChange old new n frame before after → Delivers old (record { to = place_of n side.Master; frame = frame }) new before after
 frame_goes old new n frame before after c = record {
@@ -252,14 +286,15 @@ frame_goes old new n frame before after c = record {
         let journal_is : new.journal ≡ journal b (act ∷ done) =
         new_is ∙ append_assoc steps offers (s ∷ []) ∙ ap₂ (λ (a z : List JournalStep). a ++ (z ++ s ∷ [])) h.journal_is offers_is
         ∙ ap (λ (o : Option Call). journal b done ++ (offers_by b o done ++ s ∷ [])) (sym calls_it) in
-        let parts = frame_parts b done old.master n c.place frame c.did c.sent link (steps ++ offers) c.placed.number beside.is calls_it h.master c.answers (sym journal_is ∙ new_is) in
+        let told = c.told.shows (settings b) b.app (call ∷ calls b done) stands in
+        let parts = frame_parts b done old.master n c.place frame c.did c.sent c.terms link (steps ++ offers) c.placed.number beside.is calls_it h.master c.answers told (sym journal_is ∙ new_is) in
         let uses : all_pushes b.links cut (journal b done) (journal b (act ∷ done)) ≡ next_uses n side.Master (move.Deliver frame) link (pair link n (steps ++ offers)) (cut n) =
         ap₂ (all_pushes b.links cut) (sym h.journal_is) (sym journal_is ∙ new_is)
         ∙ later_pushes b.links cut steps (steps ++ offers) ((steps ++ offers) ++ s ∷ [])
         (λ at k l. ap (λ (os : List JournalStep). frames_of at (pair l k (steps ++ os))) offers_is ∙ offers_send (changed (settings b) b.app (call ∷ calls b done)) at l k steps)
         ∙ one_pushes b.links cut (steps ++ offers) s n side.Master (move.Deliver frame) c.place link one beside.is c.placed.number in
         let sent_is : next_uses n side.Master (move.Deliver frame) link (pair link n (steps ++ offers)) (cut n) ≡ sent_uses (place_of n side.Slave) c.sent c.was.cut =
-        ap₂ (sent_uses (place_of n side.Slave)) parts.sent_is (sym beside.holds.cut) in
+        ap₂ (sent_uses (place_of n side.Slave)) parts.parts.sent_is (sym beside.holds.cut) in
         record {
           has_done = record {
             master = called b act done call new.master calls_it stands;
@@ -268,7 +303,7 @@ frame_goes old new n frame before after c = record {
                 (one_links b.links cut (steps ++ offers) s n side.Master (move.Deliver frame) c.place c.mid c.was c.is offered c.placed.at c.placed.number one
                 (λ l is held.
                 c.acts.stands l (pair l n (steps ++ offers)) (next_of side.Master (move.Deliver frame) l (pair l n (steps ++ offers))) held
-                (record { parts = frame_parts b done old.master n c.place frame c.did c.sent l (steps ++ offers) c.placed.number is calls_it h.master c.answers (sym journal_is ∙ new_is); tick_is = refl })) c.cut));
+                (frame_parts b done old.master n c.place frame c.did c.sent c.terms l (steps ++ offers) c.placed.number is calls_it h.master c.answers told (sym journal_is ∙ new_is))) c.cut));
             journal_is = journal_is;
           };
           channel = (before, pulled, subst (λ (us : List Use). Trace us before after) (sym (uses ∙ sent_is)) c.acts.channel);

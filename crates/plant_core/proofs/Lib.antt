@@ -1,5 +1,6 @@
 pub mod Acting
 mod Cycling
+mod Found
 mod Linked
 pub mod Linking
 pub mod Made
@@ -9,5 +10,4 @@ mod Others
 pub mod Pulling
 mod QuietTold
 mod Readers
-mod Watchdogs
 pub mod Worlds

@@ -19,7 +19,7 @@ use Rattle.exchange_model.specs.Monitor.{MonitorView, NotesParts}
 use Rattle.exchange_model.specs.Monitor as monitor
 use Rattle.exchange_model.specs.World.{deeds, deed_in, next_entry}
 use Rattle.exchange_model.specs.Ends.{same_end}
-use Rattle.reaction_bound.specs.Ages.{AgesView, HasAgeParts, HasWatchdog, watchdog_in}
+use Rattle.reaction_bound.specs.Ages.{AgesView, HasAgeParts, watchdog_in}
 use Rattle.reaction_bound.specs.Ages as ages
 use Rattle.slave_core.specs.SlaveView.{SlaveView}
 use Rattle.slave_core.specs.ViewOf.{view_of}
@@ -27,12 +27,11 @@ use Rattle.slave_core.specs.Standing as slave_core
 use Rattle.slave_core.specs.Standing.{SlaveIsAfter}
 use Rattle.plant_core.specs.Link.{AgesNote, Fixed, LinkView, NotesSlave, new_ages, new_link, LinkStands, SlaveGoesOn, MasterNoted, NotesOne}
 
-pub is_new : (link : LinkConf) (aged : Bool) (new : LinkView) → SlaveIsAfter link.slave new.slave [] → new.monitor ≡ monitor.view_of [] → new.ages ≡ new_ages aged → new.watchdog ≡ link.master.watchdog → new.cut ≡ false → new ≡ new_link aged link
-is_new link aged new slave noted ages_are watchdog cut = ap (λ (z : SlaveView). record new { slave = z }) slave.is
+pub is_new : (link : LinkConf) (aged : Bool) (new : LinkView) → SlaveIsAfter link.slave new.slave [] → new.monitor ≡ monitor.view_of [] → new.ages ≡ new_ages aged → new.cut ≡ false → new ≡ new_link aged link
+is_new link aged new slave noted ages_are cut = ap (λ (z : SlaveView). record new { slave = z }) slave.is
     ∙ ap (λ (z : MonitorView). record new { slave = view_of link.slave []; monitor = z }) noted
     ∙ ap (λ (z : Option AgesView). record new { slave = view_of link.slave []; monitor = monitor.view_of []; ages = z }) ages_are
-    ∙ ap (λ (z : ℕ). record { slave = view_of link.slave []; monitor = monitor.view_of []; ages = new_ages aged; watchdog = z; cut = new.cut }) watchdog
-    ∙ ap (λ (z : Bool). record { slave = view_of link.slave []; monitor = monitor.view_of []; ages = new_ages aged; watchdog = link.master.watchdog; cut = z }) cut
+    ∙ ap (λ (z : Bool). record { slave = view_of link.slave []; monitor = monitor.view_of []; ages = new_ages aged; cut = z }) cut
 
 none_noted : (aged : Bool) → IfSome (new_ages aged) (λ a. a ≡ ages.view_of [])
 none_noted true = refl
@@ -40,7 +39,7 @@ none_noted false = tt
 
 -- what is new stands for no entries
 pub new_stands : (aged : Bool) (link : LinkConf) → LinkStands link (new_link aged link) []
-new_stands aged link = record { slave = record { is = refl; reached = tt }; monitor = refl; watchdog = refl; ages = λ tells. none_noted aged }
+new_stands aged link = record { slave = record { is = refl; reached = tt }; monitor = refl; ages = none_noted aged }
 
 -- ages that had noted some entries have noted one more
 ages_noted : (old new : Option AgesView) (at : End) (tick : Bool) (came : List ℕ) (did : Did) (sent : List ℕ) (watchdog : Option ℕ) (x : Entry) (w : List Entry) → AgesNote old at tick came did sent watchdog new
@@ -50,13 +49,13 @@ ages_noted (Some old) None at tick came did sent watchdog x w noted parts h = ab
 ages_noted (Some old) (Some new) at tick came did sent watchdog x w noted parts h = (noted.notes x parts).notes w h
 
 -- what is told whatever was taken
-whatever : (took : Option Took) (watchdog told : Option ℕ) → watchdog ≡ told → IfSome took (λ t. t.command ≡ command.ProcessData → watchdog ≡ told)
+pub whatever : (took : Option Took) (watchdog told : Option ℕ) → watchdog ≡ told → IfSome took (λ t. t.command ≡ command.ProcessData → watchdog ≡ told)
 whatever None watchdog told e = tt
 whatever (Some t) watchdog told e = λ process. e
 
 pub slave_goes : (old new : LinkView) (what : Move) (did : Did) (sent : List ℕ) → slave_core.Follows old.slave what new.slave → slave_core.Answers old.slave what did sent
-    → NotesParts old.monitor side.Slave (delivered what) did sent new.monitor → NotesSlave new.slave old.ages (is_tick what) (delivered what) did sent new.ages → new.watchdog ≡ old.watchdog → SlaveGoesOn old what did sent new
-slave_goes old new what did sent follows answers noted aged watchdog = record {
+    → NotesParts old.monitor side.Slave (delivered what) did sent new.monitor → NotesSlave new.slave old.ages (is_tick what) (delivered what) did sent new.ages → SlaveGoesOn old what did sent new
+slave_goes old new what did sent follows answers noted aged = record {
   goes = λ link w h.
       let e : List Deed = deeds side.Slave w in
       let x : Entry = next_entry (OfSlave link.slave) e what in
@@ -68,10 +67,8 @@ slave_goes old new what did sent follows answers noted aged watchdog = record {
         stands = record {
           slave = after;
           monitor = (noted.notes x (record { end_is = refl; came_is = refl; did_is = sym d; sent_is = sym s })).notes w h.monitor;
-          watchdog = watchdog ∙ h.watchdog;
-          ages = λ tells.
-              ages_noted old.ages new.ages side.Slave (is_tick what) (delivered what) did sent aged.watchdog x w aged.noted
-              (record { parts = record { end_is = refl; came_is = refl; did_is = sym d; sent_is = sym s }; tick_is = refl; watchdog_is = whatever x.did.took aged.watchdog (watchdog_in x.terms) told }) (h.ages tells.1);
+          ages = ages_noted old.ages new.ages side.Slave (is_tick what) (delivered what) did sent aged.watchdog x w aged.noted
+              (record { parts = record { end_is = refl; came_is = refl; did_is = sym d; sent_is = sym s }; tick_is = refl; watchdog_is = whatever x.did.took aged.watchdog (watchdog_in x.terms) told }) h.ages;
         };
         did_is = d;
         sent_is = s;
@@ -83,22 +80,15 @@ masters_own : (end : End) (x : Entry) (w : List Entry) → end ≡ side.Master �
 masters_own side.Master x w e = refl
 masters_own side.Slave x w e = absurd (cc e)
 
-pub master_noted : (old new : LinkView) (tick : Bool) (came : List ℕ) (did : Did) (sent : List ℕ) → NotesParts old.monitor side.Master came did sent new.monitor → AgesNote old.ages side.Master tick came did sent (Some old.watchdog) new.ages
-    → new.slave ≡ old.slave → new.watchdog ≡ old.watchdog → MasterNoted old tick came did sent new
-master_noted old new tick came did sent noted aged same watchdog = record {
+pub master_noted : (old new : LinkView) (tick : Bool) (came : List ℕ) (did : Did) (sent : List ℕ) (watchdog : Option ℕ) → NotesParts old.monitor side.Master came did sent new.monitor
+    → AgesNote old.ages side.Master tick came did sent watchdog new.ages → new.slave ≡ old.slave → MasterNoted old tick came did sent watchdog new
+master_noted old new tick came did sent watchdog noted aged same = record {
   stands = λ link w x h is.
       let own = sym (masters_own x.end x w is.parts.end_is) in
       record {
         slave = subst (λ (z : SlaveView). SlaveIsAfter link.slave z (deeds side.Slave (x ∷ w))) (sym same) (subst (λ (z : List Deed). SlaveIsAfter link.slave old.slave z) own h.slave);
         monitor = (noted.notes x is.parts).notes w h.monitor;
-        watchdog = watchdog ∙ h.watchdog;
-        ages = λ tells.
-            ages_noted old.ages new.ages side.Master tick came did sent (Some old.watchdog) x w aged
-            (record {
-              parts = is.parts;
-              tick_is = is.tick_is;
-              watchdog_is = subst (λ (n : ℕ). HasWatchdog x (Some n)) (sym h.watchdog) (tells.0 is.parts.end_is);
-            }) (h.ages tells.1);
+        ages = ages_noted old.ages new.ages side.Master tick came did sent watchdog x w aged is h.ages;
       };
 }
 

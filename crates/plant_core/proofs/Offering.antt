@@ -49,7 +49,7 @@ shown_or None shown e = absurd (cc e)
 shown_or (Some c) shown e = cc
 
 pub offers_more : (master : MultiView) (listed : List ℕ) (n place : ℕ) (shown : List ℕ) (old mid : List LinkView) (v is : LinkView) (before js after : List JournalStep) → OffersOf master listed old mid before js
-    → slice_get mid place ≡ Some v → n ≡ suc place → MasterNoted v false [] nothing [] is → is.cut ≡ v.cut → ShowsAt master n shown offer_at → after ≡ js ++ step.Offer n shown ∷ []
+    → slice_get mid place ≡ Some v → n ≡ suc place → MasterNoted v false [] nothing [] None is → is.cut ≡ v.cut → ShowsAt master n shown offer_at → after ≡ js ++ step.Offer n shown ∷ []
     → OffersOf master (listed ++ n ∷ []) old (slice_set mid place is) before after
 offers_more master listed n place shown old mid v is before js after h at e noted c shows a =
     let x : JournalStep = step.Offer n shown in
@@ -66,7 +66,7 @@ offers_more master listed n place shown old mid v is before js after h at e note
           (one_links links cut (steps ++ h.offers) x n side.Master (move.Put shown) place mid v is (h.links links cut steps s) at e one
           (λ link at_link stands.
           noted.stands link (pair link n (steps ++ h.offers)) (next_of side.Master (move.Put shown) link (pair link n (steps ++ h.offers))) stands
-          (record { parts = record { end_is = refl; came_is = refl; did_is = refl; sent_is = refl }; tick_is = refl })) c);
+          (record { parts = record { end_is = refl; came_is = refl; did_is = refl; sent_is = refl }; tick_is = refl; watchdog_is = tt })) c);
     }
 
 -- one more of a list
@@ -76,7 +76,7 @@ take_one (y ∷ xs) zero x e = let same : y ≡ x = cc in ap (λ z. z ∷ []) sa
 take_one (y ∷ xs) (suc i) x e = ap (λ zs. y ∷ zs) (take_one xs i x e)
 
 pub offers_next : (master : MultiView) (listed : List ℕ) (i j n place : ℕ) (shown : List ℕ) (old mid : List LinkView) (v is : LinkView) (before js after : List JournalStep) → OffersOf master (take i listed) old mid before js
-    → slice_get listed i ≡ Some n → j ≡ suc i → slice_get mid place ≡ Some v → n ≡ suc place → MasterNoted v false [] nothing [] is → is.cut ≡ v.cut → ShowsAt master n shown offer_at → after ≡ js ++ step.Offer n shown ∷ []
+    → slice_get listed i ≡ Some n → j ≡ suc i → slice_get mid place ≡ Some v → n ≡ suc place → MasterNoted v false [] nothing [] None is → is.cut ≡ v.cut → ShowsAt master n shown offer_at → after ≡ js ++ step.Offer n shown ∷ []
     → OffersOf master (take j listed) old (slice_set mid place is) before after
 offers_next master listed i j n place shown old mid v is before js after h found k at e noted c shows a =
     subst (λ (z : List ℕ). OffersOf master z old (slice_set mid place is) before after) (sym (ap (λ (m : ℕ). take m listed) k ∙ take_one listed i n found))

@@ -229,7 +229,7 @@ pub record MasterChange (old new : PlantView) (n id : ℕ) : Type 0 where
   pub was : LinkView
   pub is : LinkView
   pub placed : Placed old.links n place was
-  pub noted : MasterNoted was false [] nothing [] is
+  pub noted : MasterNoted was false [] nothing [] None is
   pub cut : is.cut ≡ was.cut
   pub follows : multi.Follows old.master (Nonce n id) new.master
   pub links : new.links ≡ slice_set old.links place is
@@ -254,7 +254,7 @@ master_nonce old new n id t c = record {
           links = subst (λ (vs : List LinkView). LinksAre b.links cut (pairs_by new.journal) vs) (sym c.links)
               (subst (λ (js : List JournalStep). LinksAre b.links cut (pairs_by js) (slice_set old.links c.place c.is)) (sym c.journal)
               (one_links b.links cut steps s n side.Master (move.Nonce id) c.place old.links c.was c.is h.links c.placed.at c.placed.number one
-              (λ link is stands. c.noted.stands link (pair link n steps) (next_of side.Master (move.Nonce id) link (pair link n steps)) stands (record { parts = record { end_is = refl; came_is = refl; did_is = refl; sent_is = refl }; tick_is = refl })) c.cut));
+              (λ link is stands. c.noted.stands link (pair link n steps) (next_of side.Master (move.Nonce id) link (pair link n steps)) stands (record { parts = record { end_is = refl; came_is = refl; did_is = refl; sent_is = refl }; tick_is = refl; watchdog_is = tt })) c.cut));
           journal_is = journal_is;
         };
         channel = subst (λ (us : List Use). Trace us t t) (sym uses) refl;
@@ -274,7 +274,7 @@ pub record CutChange (old new : PlantView) (n : ℕ) (cut : Bool) : Type 0 where
 
 same_stands : (link : LinkConf) (w : List Entry) (was is : LinkView) (cut : Bool) → is ≡ record was { cut = cut } → LinkStands link was w → LinkStands link is w
 same_stands link w was is cut e h =
-    subst (λ (v : LinkView). LinkStands link v w) (sym e) (record { slave = h.slave; monitor = h.monitor; watchdog = h.watchdog; ages = h.ages })
+    subst (λ (v : LinkView). LinkStands link v w) (sym e) (record { slave = h.slave; monitor = h.monitor; ages = h.ages })
 
 pub cut_event : (old new : PlantView) (n : ℕ) (cut : Bool) (t : Told) → CutChange old new n cut → GoesOn old (Happen (Event (event.Cut n cut)) ∷ []) new t t
 cut_event old new n cut t c = record {

@@ -1,5 +1,5 @@
 -- A plant tells whether a bound is still.
-use Rattle.std.proofs.Common.{◌≡◌, ℕ, suc, Bool, false, ◌&&◌, not, List, slice_get, Option, Some, sym, ap, ap₂, subst, ◌∙◌, arith}
+use Rattle.std.proofs.Common.{◌≡◌, ℕ, Bool, false, ◌&&◌, not, List, Option, Some, sym, ap, ap₂, subst, ◌∙◌}
 use Rattle.std.specs.Option.{option_map_or}
 use Rattle.fsoe_base.specs.declared.command.End.TheVariants as side
 use Rattle.fsoe_base.specs.Image.{bit_of}

@@ -37,7 +37,7 @@ slave_shown v k place l shown word p s = record {
 }
 
 -- the same of the master
-told_by : {X : Type 0} (shown : X) (word : Setup → List Deed → X) (o : Option Connection) (c : Connection) → o ≡ Some c → option_map (λ (z : Connection). word (setup z) z.deeds) o ≡ Some shown → shown ≡ word (setup c) c.deeds
+pub told_by : {X : Type 0} (shown : X) (word : Setup → List Deed → X) (o : Option Connection) (c : Connection) → o ≡ Some c → option_map (λ (z : Connection). word (setup z) z.deeds) o ≡ Some shown → shown ≡ word (setup c) c.deeds
 told_by shown word o c is h =
     let told : Some (word (setup c) c.deeds) ≡ Some shown = sym (ap (option_map (λ (z : Connection). word (setup z) z.deeds)) is) ∙ h in
     let same : word (setup c) c.deeds ≡ shown = cc in

@@ -19,7 +19,8 @@ use Rattle.plant_model.specs.declared.event.PlantEvent.{PlantEvent}
 use Rattle.plant_model.specs.declared.event.PlantEvent.TheVariants as event
 use Rattle.plant_model.specs.declared.journal.JournalStep.{JournalStep}
 use Rattle.plant_model.specs.Acts.{Beginning, Said, Act, PullFrom, offer_step, uses_after}
-use Rattle.plant_core.specs.Link.{IsMasters, LinkView, LinkStands}
+use Rattle.reaction_bound.specs.Ages.{HasAgeParts}
+use Rattle.plant_core.specs.Link.{LinkView, LinkStands}
 use Rattle.plant_core.specs.Standing.{PlantView, HasDone, LinksAre}
 use Rattle.plant_model.specs.Pair.{pairs_by, next_of}
 use Rattle.plant_model.specs.Turns.{MayPull, pulls, turn_acts}
@@ -70,7 +71,7 @@ pub record SlavesTick (old new : List LinkView) (before after : Told) : Type 0 w
 -- these entries of masters are of a tick and have these parts, connection by connection
 pub record HaveParts (links : List LinkConf) (next : ℕ → LinkConf → Entry) (dids : List Did) (frames : List (List ℕ)) : Type 0 where
   pub each : (place : ℕ) (link : LinkConf) (did : Did) (sent : List ℕ) → slice_get links place ≡ Some link → slice_get dids place ≡ Some did → slice_get frames place ≡ Some sent
-      → IsMasters (next (suc place) link) true [] did sent
+      → HasAgeParts (next (suc place) link) side.Master true [] did sent None
 
 -- what the masters of all connections did in a tick is noted, and their frames are pushed
 pub record MastersNoted (dids : List Did) (frames : List (List ℕ)) (old new : List LinkView) (before after : Told) : Type 0 where
@@ -78,8 +79,8 @@ pub record MastersNoted (dids : List Did) (frames : List (List ℕ)) (old new : 
       → AllActed side.Slave links cut done next new before after
 
 -- an entry of a master with these parts is noted, and its frame is pushed
-pub record MasterActs (k : ℕ) (tick : Bool) (came : List ℕ) (did : Did) (sent : List ℕ) (old new : LinkView) (before after : Told) : Type 0 where
-  pub stands : (link : LinkConf) (w : List Entry) (x : Entry) → LinkStands link old w → IsMasters x tick came did sent → LinkStands link new (x ∷ w)
+pub record MasterActs (k : ℕ) (tick : Bool) (came : List ℕ) (did : Did) (sent : List ℕ) (watchdog : Option ℕ) (old new : LinkView) (before after : Told) : Type 0 where
+  pub stands : (link : LinkConf) (w : List Entry) (x : Entry) → LinkStands link old w → HasAgeParts x side.Master tick came did sent watchdog → LinkStands link new (x ∷ w)
   pub channel : Trace (sent_uses (place_of k side.Slave) sent old.cut) before after
 
 -- the offers that the last call of the master changed are noted in the journal, and with each connection

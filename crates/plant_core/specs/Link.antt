@@ -11,11 +11,10 @@ use Rattle.plant_conf.specs.declared.conf.LinkConf.{LinkConf}
 use Rattle.end_model.specs.Readiness.{told_terms}
 use Rattle.end_model.specs.Setup.{OfSlave}
 use Rattle.end_model.specs.Step.{step}
-use Rattle.exchange_model.specs.Honest.{is_tick}
-use Rattle.exchange_model.specs.Monitor.{MonitorView, HasParts}
+use Rattle.exchange_model.specs.Monitor.{MonitorView}
 use Rattle.exchange_model.specs.Monitor as monitor
 use Rattle.exchange_model.specs.World.{deeds, next_entry}
-use Rattle.reaction_bound.specs.Ages.{AgesView, HasWatchdog, watchdog_in}
+use Rattle.reaction_bound.specs.Ages.{AgesView, watchdog_in}
 use Rattle.reaction_bound.specs.Ages as ages
 use Rattle.slave_core.specs.SlaveView.{SlaveView}
 use Rattle.slave_core.specs.Standing.{Shows, SlaveIsAfter}
@@ -46,12 +45,11 @@ pub record NotesSlave (slave : SlaveView) (old : Option AgesView) (tick : Bool) 
   pub shown : Shows slave watchdog (λ s e. watchdog_in (told_terms s e))
   pub noted : AgesNote old side.Slave tick came did sent watchdog new
 
--- what is kept beside the master of a connection, with the watchdog that the master is set to
+-- what is kept beside the master of a connection
 pub record LinkView : Type 0 where
   pub slave : SlaveView
   pub monitor : MonitorView
   pub ages : Option AgesView
-  pub watchdog : ℕ
   pub cut : Bool
 
 -- ages that noted nothing yet, where they are to be told
@@ -65,27 +63,15 @@ new_link aged link = record {
   slave = view_of link.slave [];
   monitor = monitor.view_of [];
   ages = new_ages aged;
-  watchdog = link.master.watchdog;
   cut = false;
 }
 
--- where an entry of a master took ProcessData, the watchdog in the terms that are told after it is this
-abbrev pub TellsWatchdog : ℕ → Entry → Type 0
-TellsWatchdog watchdog x =
-    x.end ≡ side.Master → HasWatchdog x (Some watchdog)
-
--- so it is of all these entries
-abbrev pub AllTell : ℕ → List Entry → Type 0
-AllTell watchdog [] = Unit {0}
-AllTell watchdog (x ∷ w) = TellsWatchdog watchdog x × AllTell watchdog w
-
 -- it stands for these entries of the pair of this connection: the slave is where its own deeds among them leave it, and
--- the monitor has noted them all; so have the ages, if they are told, where the master tells its watchdog
+-- the monitor has noted them all; so have the ages, if they are told
 pub record LinkStands (link : LinkConf) (v : LinkView) (w : List Entry) : Type 0 where
   pub slave : SlaveIsAfter link.slave v.slave (deeds side.Slave w)
   pub monitor : v.monitor ≡ monitor.view_of w
-  pub watchdog : v.watchdog ≡ link.master.watchdog
-  pub ages : AllTell link.master.watchdog w → IfSome v.ages (λ a. a ≡ ages.view_of w)
+  pub ages : IfSome v.ages (λ a. a ≡ ages.view_of w)
 
 -- after these entries the slave did its next deed at this event, which is this, and it stands for the entry of that too
 pub record SlaveWent (link : LinkConf) (w : List Entry) (what : Move) (did : Did) (sent : List ℕ) (new : LinkView) : Type 0 where
@@ -97,15 +83,9 @@ pub record SlaveWent (link : LinkConf) (w : List Entry) (what : Move) (did : Did
 pub record SlaveGoesOn (old : LinkView) (what : Move) (did : Did) (sent : List ℕ) (new : LinkView) : Type 0 where
   pub goes : (link : LinkConf) (w : List Entry) → LinkStands link old w → SlaveWent link w what did sent new
 
--- an entry of a master has these parts: whether it is a tick, the bytes that came, what the master did and the frame
--- that it sent
-pub record IsMasters (x : Entry) (tick : Bool) (came : List ℕ) (did : Did) (sent : List ℕ) : Type 0 where
-  pub parts : HasParts x side.Master came did sent
-  pub tick_is : is_tick x.what ≡ tick
-
 -- an entry of its master with these parts was noted
-pub record MasterNoted (old : LinkView) (tick : Bool) (came : List ℕ) (did : Did) (sent : List ℕ) (new : LinkView) : Type 0 where
-  pub stands : (link : LinkConf) (w : List Entry) (x : Entry) → LinkStands link old w → IsMasters x tick came did sent → LinkStands link new (x ∷ w)
+pub record MasterNoted (old : LinkView) (tick : Bool) (came : List ℕ) (did : Did) (sent : List ℕ) (watchdog : Option ℕ) (new : LinkView) : Type 0 where
+  pub stands : (link : LinkConf) (w : List Entry) (x : Entry) → LinkStands link old w → ages.HasAgeParts x side.Master tick came did sent watchdog → LinkStands link new (x ∷ w)
 
 -- what of a connection never changes: the lengths of its slave, and whether the ages of its outputs are told
 pub record Fixed : Type 0 where

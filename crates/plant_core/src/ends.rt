@@ -4,7 +4,7 @@ ghost use Rattle.plant_model.specs.declared.journal.JournalStep.TheVariants as s
 ghost use Rattle.plant_core.specs.Doing.{room_for, slave_move};
 
 use crate::journal::note;
-use crate::link::Link;
+use crate::link::{Link, watchdog_in};
 use crate::offers::note_offers;
 use crate::pushing::{
     deliver_to_slave, happen_at_slave, master_acted, masters_ticked, tick_slaves,
@@ -138,6 +138,7 @@ impl<A: Application> Ends<A> {
             end: End::Master,
         };
         note_pulled(to, frame, steps);
+        let watchdog = watchdog_in(self.master.terms(link));
         let kept = &mut self.links[usize::from(link) - 1];
         master_acted(
             link,
@@ -146,6 +147,7 @@ impl<A: Application> Ends<A> {
             frame.bytes(),
             &self.heard,
             &self.sent,
+            watchdog,
             channel,
         );
     }
@@ -282,6 +284,7 @@ impl<A: Application> Ends<A> {
             &[],
             &Did::nothing(),
             &FrameBuf::new(),
+            None,
         );
     }
 

@@ -1,5 +1,5 @@
 //! What a plant keeps of one connection beside its master.
-ghost use Rattle.std.specs.Prelude.{◌≡◌, ◌+◌, ◌<◌, ◌≤◌, ◌^◌, ◌&&◌, not, List, [], IfSome, IsSome, false, is_some, length};
+ghost use Rattle.std.specs.Prelude.{◌≡◌, ◌+◌, ◌<◌, ◌≤◌, ◌^◌, ◌&&◌, not, List, [], IfSome, IsSome, false, is_some, length, option_copied};
 ghost use Rattle.fsoe_base.specs.Image.{bit_of};
 ghost use Rattle.param_load.specs.declared.entry.Move.TheVariants as event;
 ghost use Rattle.end_model.specs.Readiness as model;
@@ -15,23 +15,23 @@ ghost use Rattle.fsoe_base.specs.declared.lengths.TheConstants.{MOST_DATA};
 ghost use Rattle.plant_core.specs.Link.{NotesSlave, ages_in, monitor_in};
 ghost use Rattle.reaction_bound.specs.Age.{told_age, worst_of};
 ghost use Rattle.reaction_bound.specs.Ages as ages;
+ghost use Rattle.reaction_bound.specs.Ages.{watchdog_in};
 ghost use Rattle.slave_core.specs.Standing.{Answers, Follows, Shows};
 
 use crate::watch::Watch;
 use exchange_model::delivered;
 use fsoe_base::{Did, End, FrameBuf, State};
-use param_load::Move;
+use param_load::{Move, Terms};
 use plant_conf::LinkConf;
 use slave_core::Slave;
 use std::marker::Model;
 
-/// The slave of a connection, what notes the entries of its pair, the watchdog that its master is set to, and whether
-/// the connection is cut. Each call in which the slave acts notes what it did; the acts of the master are passed in.
+/// The slave of a connection, what notes the entries of its pair, and whether the connection is cut. Each call in which
+/// the slave acts notes what it did; the acts of the master are passed in.
 #[derive(Drop)]
 pub(crate) struct Link {
     slave: Slave,
     watch: Watch,
-    watchdog: u16,
     cut: bool,
 }
 
@@ -40,7 +40,17 @@ impl Model for Link {
 
     ghost Value = { LinkView };
 
-    ghost view = { λ l. record { slave = l.slave; monitor = monitor_in l.watch; ages = ages_in l.watch; watchdog = l.watchdog; cut = l.cut } };
+    ghost view = { λ l. record { slave = l.slave; monitor = monitor_in l.watch; ages = ages_in l.watch; cut = l.cut } };
+}
+
+/// The watchdog in these terms, if there are some.
+pub(crate) fn watchdog_in(terms: Option<&Terms>) -> Option<u16>
+    ensures { result ≡ watchdog_in (option_copied terms.entry) }
+{
+    match terms {
+        Some(terms) => Some(terms.watchdog),
+        None => None,
+    }
 }
 
 /// Notes an entry of a slave, by whether it is a tick, the bytes that came, what the slave did and the frame that it
@@ -52,10 +62,7 @@ fn note_slave(slave: &Slave, watch: &mut Watch, tick: bool, came: &[u8], did: &D
     ensures count { (monitor_in watch.new).noted ≡ (monitor_in watch.old).noted + 1 }
     ensures aged { is_some (ages_in watch.new) ≡ is_some (ages_in watch.old) }
 {
-    let watchdog = match slave.terms() {
-        Some(terms) => Some(terms.watchdog),
-        None => None,
-    };
+    let watchdog = watchdog_in(slave.terms());
     watch.note_parts(End::Slave, tick, came, did, sent, watchdog);
 }
 
@@ -98,7 +105,6 @@ impl Link {
         Link {
             slave: Slave::new(conf.slave.copy()),
             watch: Watch::new(aged),
-            watchdog: conf.master.watchdog(),
             cut: false,
         }
     }
@@ -128,15 +134,21 @@ impl Link {
         note_slave(&self.slave, &mut self.watch, false, frame, did, out);
     }
 
-    /// Notes an entry of the master, by whether it is a tick, the bytes that came, what it did and the frame that it
-    /// sent.
+    /// Notes an entry of the master, by whether it is a tick, the bytes that came, what it did, the frame that it sent,
+    /// and the watchdog in the terms after it, which is used only if it took ProcessData.
     #[tactic(auto, using(crate::proofs::Linked::master_noted, crate::proofs::Linked::notes_one))]
-    pub(crate) fn note_master(&mut self, tick: bool, came: &[u8], did: &Did, sent: &FrameBuf)
+    pub(crate) fn note_master(
+        &mut self,
+        tick: bool,
+        came: &[u8],
+        did: &Did,
+        sent: &FrameBuf,
+        watchdog: Option<u16>,
+    )
         requires few { self.old.monitor.noted + 1 < 2 ^ 64 }
-        ensures stands { MasterNoted self.old tick came.now did.now sent.now self.new }
+        ensures stands { MasterNoted self.old tick came.now did.now sent.now watchdog self.new }
         ensures notes { NotesOne self.old self.new }
     {
-        let watchdog = Some(self.watchdog);
         self.watch
             .note_parts(End::Master, tick, came, did, sent, watchdog);
     }

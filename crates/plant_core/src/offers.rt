@@ -1,5 +1,5 @@
 //! The offers that a cycle changed are noted.
-ghost use Rattle.std.specs.Prelude.{false, ◌≡◌, ◌≤◌, ◌<◌, ◌+◌, ◌*◌, ◌^◌, [], ◌∷◌, ◌++◌, length, vec_len, vec_capacity};
+ghost use Rattle.std.specs.Prelude.{false, None, ◌≡◌, ◌≤◌, ◌<◌, ◌+◌, ◌*◌, ◌^◌, [], ◌∷◌, ◌++◌, length, vec_len, vec_capacity};
 ghost use Rattle.fsoe_base.specs.Did.{nothing};
 ghost use Rattle.multi_master.specs.Standing as multi;
 ghost use Rattle.plant_model.specs.declared.journal.JournalStep.TheVariants as step;
@@ -22,7 +22,7 @@ fn note_offer(number: u16, load: &[u8], link: &mut Link, steps: &mut Vec<Journal
     ensures steps { steps.new.items ≡ steps.old.items ++ step.Offer number load.now ∷ [] }
     ensures count { vec_len steps.new ≡ vec_len steps.old + 1 }
     ensures capacity { vec_capacity steps.old ≤ vec_capacity steps.new }
-    ensures noted { MasterNoted link.old false [] nothing [] link.new }
+    ensures noted { MasterNoted link.old false [] nothing [] None link.new }
     ensures notes { NotesOne link.old link.new }
 {
     let mut offer = Image::new();
@@ -34,7 +34,7 @@ fn note_offer(number: u16, load: &[u8], link: &mut Link, steps: &mut Vec<Journal
             load: offer,
         },
     );
-    link.note_master(false, &[], &Did::nothing(), &FrameBuf::new());
+    link.note_master(false, &[], &Did::nothing(), &FrameBuf::new(), None);
 }
 
 /// Notes the offers that the last call of the master changed, in the order of the connections.

@@ -168,7 +168,7 @@ impl<A: Application> Plant<A> {
     /// Returns the greatest age of the outputs of this end, over all its steps: the ticks of this end since its peer
     /// sent the data of the outputs. If the connection exists, a bound of the configuration must name it. Returns None
     /// if there was no age, and 2^32 - 1 for all greater ones.
-    #[tactic(auto, using(crate::proofs::Watchdogs::worst_shown, crate::proofs::Watchdogs::no_worst))]
+    #[tactic(auto, using(crate::proofs::Found::worst_shown, crate::proofs::Found::no_worst))]
     pub fn worst(&self, link: u16, end: End) -> Option<u32>
         requires { IsAged self.now.links link }
         ensures { ShowsWorst (seen A.rule A.holds A.guards self.now) link end result }
@@ -180,7 +180,7 @@ impl<A: Application> Plant<A> {
     }
 
     /// Returns true if the output bit is 1 at the slave of its connection, false if there is no such bit.
-    #[tactic(auto, using(crate::proofs::Watchdogs::on_shown, crate::proofs::Watchdogs::not_on))]
+    #[tactic(auto, using(crate::proofs::Found::on_shown, crate::proofs::Found::not_on))]
     pub fn is_on(&self, out: Bit) -> bool
         ensures { ShowsOn (seen A.rule A.holds A.guards self.now) out result }
     {

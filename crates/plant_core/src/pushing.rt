@@ -70,8 +70,8 @@ pub(crate) fn deliver_to_slave<C: Channel>(
     push_sent(channel, number, End::Master, out, link.is_cut());
 }
 
-/// Notes what the master of this connection did, by whether it was in a tick and by the bytes that came, and pushes its
-/// frame.
+/// Notes what the master of this connection did, by whether it was in a tick, the bytes that came, and the watchdog in
+/// its terms, which is used only if it took ProcessData. Pushes its frame.
 #[tactic(auto, using(crate::proofs::Acting::master_acts))]
 pub(crate) fn master_acted<C: Channel>(
     number: u16,
@@ -80,13 +80,14 @@ pub(crate) fn master_acted<C: Channel>(
     came: &[u8],
     did: &Did,
     sent: &FrameBuf,
+    watchdog: Option<u16>,
     channel: &mut C,
 )
     requires few { link.old.monitor.noted + 1 < 2 ^ 64 }
-    ensures acts { MasterActs number tick came.now did.now sent.now link.old link.new (C.told channel.old) (C.told channel.new) }
+    ensures acts { MasterActs number tick came.now did.now sent.now watchdog link.old link.new (C.told channel.old) (C.told channel.new) }
     ensures notes { NotesOne link.old link.new }
 {
-    link.note_master(tick, came, did, sent);
+    link.note_master(tick, came, did, sent, watchdog);
     push_sent(channel, number, End::Slave, sent, link.is_cut());
 }
 
@@ -135,6 +136,7 @@ pub(crate) fn masters_ticked<C: Channel>(
             &[],
             &dids[i],
             &outs[i],
+            None,
             channel,
         );
     }

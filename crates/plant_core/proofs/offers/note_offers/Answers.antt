@@ -1,4 +1,4 @@
-use Rattle.std.proofs.Common.{◌≡◌, ◌≤◌, ◌+◌, ◌-◌, ◌*◌, ℕ, List, Some, length, vec_len, slice_get, slice_index_or, slice_index, ◌∙◌, arith}
+use Rattle.std.proofs.Common.{◌≡◌, ◌≤◌, ◌+◌, ◌-◌, ◌*◌, ℕ, List, Some, vec_len, slice_get, slice_index_or, slice_index, ◌∙◌, arith}
 use Rattle.std.proofs.lemmas.Option.{slice_get-get_or}
 use Rattle.plant_core.specs.Link.{LinkView}
 use Rattle.multi_master.specs.Standing.{IsNumber, links}

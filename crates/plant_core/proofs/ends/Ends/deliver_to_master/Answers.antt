@@ -1,4 +1,4 @@
-use Rattle.std.proofs.Common.{◌≡◌, ◌≤◌, ◌-◌, ◌*◌, ℕ, List, length, vec_len, slice_set, refl, sym, ap, ◌∙◌, arith}
+use Rattle.std.proofs.Common.{◌≡◌, ◌≤◌, ◌-◌, ◌*◌, ℕ, List, length, option_copied, vec_len, slice_set, refl, sym, ap, ◌∙◌, arith}
 use Rattle.plant_core.specs.Link.{LinkView}
 use Rattle.plant_core.specs.Standing.{fixed_in}
 use Rattle.multi_master.proofs.Keeping.{written_back}
@@ -21,17 +21,19 @@ returns-clause-delivers g c =
     let follows = rw c.bytes.ensures.value at c.deliver_into.ensures.follows in
     let answers = rw c.bytes.ensures.value at c.deliver_into.ensures.answers in
     let offers = rw c.as_mut_slice.ensures.value at c.note_offers.ensures.offers in
-    let acts = rw c.bytes-2.ensures.value at c.master_acted.ensures.acts in
+    let acts = rw (c.bytes-2.ensures.value, c.watchdog_in-watchdog.ensures) at c.master_acted.ensures.acts in
     rw back (frame_goes _ _ c.args.link c.args.frame.now _ _ (record {
       mid = some;
       js = c.note_offers.new.steps.items;
       did = c.deliver_into.new.did;
       sent = c.deliver_into.new.out;
+      terms = option_copied c.terms.result;
       place = place;
       was = was;
       is = is;
       follows = follows;
       answers = answers;
+      told = c.terms.ensures;
       offers = offers;
       placed = p;
       acts = acts;

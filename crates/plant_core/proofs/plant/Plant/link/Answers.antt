@@ -1,7 +1,7 @@
 use Rattle.std.proofs.Common.{List, ◌-◌, slice_get, ap, ◌∙◌, arith}
 use Rattle.plant_core.specs.Link.{LinkView}
 use Rattle.plant_core.specs.Standing.{kept_at}
-use Rattle.plant_core.proofs.Watchdogs.{item_copied, kept_by}
+use Rattle.plant_core.proofs.Found.{item_copied, kept_by}
 use Rattle.plant_core.proofs.plant.Plant.link.Goals as goal
 
 pub returns : goal.returns

@@ -1,4 +1,4 @@
-use Rattle.plant_core.proofs.Watchdogs.{worst_shown}
+use Rattle.plant_core.proofs.Found.{worst_shown}
 use Rattle.plant_core.proofs.plant.Plant.worst.Goals as goal
 
 pub returns-in-Some : goal.returns-in-Some
