@@ -24,7 +24,7 @@ use Rattle.plant_core.specs.Doing.{SlaveActs, MasterActs, one_each, one_each_to,
 use Rattle.plant_core.specs.Standing.{AreNoted, fixed_in, lengths_kept, LinkIs, LinksAre, IsPlant}
 use Rattle.reaction_bound.specs.Ages.{HasAgeParts}
 use Rattle.plant_core.specs.Link.{LinkView, LinkStands, SlaveGoesOn, MasterNoted, NotesOne, fixed_of}
-use Rattle.plant_model.specs.FairPairs.{lengths_at}
+use Rattle.plant_model.specs.Fits.{lengths_at}
 use Rattle.plant_core.proofs.Linking.{each_at, each_from, each_set, each_count}
 
 -- one trace after another

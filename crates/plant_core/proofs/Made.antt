@@ -9,7 +9,7 @@ use Rattle.plant_conf.specs.declared.conf.BoundSpec.{BoundSpec}
 use Rattle.plant_conf.specs.declared.conf.LinkConf.{LinkConf}
 use Rattle.multi_master.specs.Standing as multi
 use Rattle.multi_master.specs.Standing.{MultiValue}
-use Rattle.plant_model.specs.FairPairs.{lengths_in}
+use Rattle.plant_model.specs.Fits.{lengths_in}
 use Rattle.plant_core.specs.Link.{Fixed, LinkView, new_link}
 use Rattle.plant_core.specs.Making.{is_named, links_made}
 use Rattle.plant_core.specs.Standing.{AreNoted, EachLink, IsPlant, LinkIs, fixed_in, lengths_kept}

@@ -29,7 +29,7 @@ use Rattle.plant_model.specs.declared.journal.JournalStep.TheVariants as step
 use Rattle.plant_model.specs.Acts.{Beginning, Event, Act, Happen, PullFrom, settings, event_call, delivery_call, call_of, calls, steps_of, journal, cut_after, is_cut, pushes_of, all_pushes}
 use Rattle.plant_model.specs.Uses.{Use, Trace}
 use Rattle.plant_model.specs.Gifts.{place_of, sent_uses}
-use Rattle.plant_model.specs.FairPairs.{Fits}
+use Rattle.plant_model.specs.Fits.{Fits}
 use Rattle.plant_model.specs.Pair.{next_of, pair, link_at, pairs_by}
 use Rattle.plant_core.specs.Doing.{next_uses, slave_move, SlaveActs, GoesOn, Delivers}
 use Rattle.plant_core.specs.Link.{LinkView, LinkStands, MasterNoted}

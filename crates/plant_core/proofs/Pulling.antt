@@ -28,10 +28,10 @@ use Rattle.plant_model.specs.Acts.{Beginning, Event, App, Act, Start, Happen, Pu
 use Rattle.plant_model.specs.Uses.{Use, Trace}
 use Rattle.plant_model.specs.Gifts.{place_of, sent_uses, each_uses}
 use Rattle.plant_model.specs.Pair.{next_of, pairs_by, pair, link_at}
-use Rattle.plant_core.specs.Doing.{OffersNoted, GoesOn, Delivers, PullsAll, Turns}
+use Rattle.plant_core.specs.Doing.{OffersNoted, GoesOn, Delivers, PullsAll, TakesTurn}
 use Rattle.plant_core.specs.Standing.{lengths_kept, PlantView, EachLink, LinkIs, LinksAre, HasDone, Starts, Follows}
 use Rattle.plant_model.specs.Turns.{IsTurn, Turn, pulls, acts}
-use Rattle.plant_model.specs.FairPairs.{lengths_in, Fits}
+use Rattle.plant_model.specs.Fits.{lengths_in, Fits}
 use Rattle.plant_core.specs.Link.{LinkView, LinkStands}
 use Rattle.plant_conf.specs.declared.conf.BoundSpec.{BoundSpec}
 use Rattle.plant_core.specs.Making.{links_made, master_in}
@@ -170,7 +170,7 @@ pulled_until old new pulled first before last count g p = record {
 }
 
 -- a tick, and then its pulls
-pub tick_turn : (old mid new : PlantView) (first between last : Told) → GoesOn old (Happen (Event event.Tick) ∷ []) mid first between → PullsAll mid new between last → Turns old (Event event.Tick) new first last
+pub tick_turn : (old mid new : PlantView) (first between last : Told) → GoesOn old (Happen (Event event.Tick) ∷ []) mid first between → PullsAll mid new between last → TakesTurn old (Event event.Tick) new first last
 tick_turn old mid new first between last g p = record {
   pulled = p.pulled;
   may = p.few;
@@ -186,7 +186,7 @@ lengths_are cut done k (link ∷ links) (v ∷ vs) h =
     ap₂ (λ (l : Lengths) (ls : List Lengths). l ∷ ls) (sym (ap (λ (s : SlaveView). s.kit.settings.lengths) h.0.stands.slave.is)) (lengths_are cut done (suc k) links vs h.1)
 
 -- a plant plays its turns
-pub follows_event : (old new : PlantView) (e : PlantEvent) (before after : Told) → Fits (lengths_kept old.links) e → Turns old (Event e) new before after → Follows old (Event e) new before after
+pub follows_event : (old new : PlantView) (e : PlantEvent) (before after : Told) → Fits (lengths_kept old.links) e → TakesTurn old (Event e) new before after → Follows old (Event e) new before after
 follows_event old new e before after fits t = record {
   plays = λ b turns s.
       let turn : Turn = record { said = Event e; pulled = t.pulled } in

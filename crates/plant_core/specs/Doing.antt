@@ -128,7 +128,7 @@ pub record PullsAll (old new : PlantView) (before after : Told) : Type 0 where
   pub goes : GoesOn old (pulls pulled) new before after
 
 -- a plant goes on by what is said at a line of the script, and by the pulls then
-pub record Turns (old : PlantView) (said : Said) (new : PlantView) (before after : Told) : Type 0 where
+pub record TakesTurn (old : PlantView) (said : Said) (new : PlantView) (before after : Told) : Type 0 where
   pub pulled : List Parcel
   pub may : MayPull said pulled
   pub goes : GoesOn old (turn_acts said pulled) new before after

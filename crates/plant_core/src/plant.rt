@@ -50,7 +50,7 @@ impl<A: Application> Plant<A> {
     ghost use Rattle.plant_model.specs.Acts.{Event, App};
     ghost use Rattle.plant_core.specs.Making.{begins_with, links_made};
     ghost use Rattle.plant_core.specs.Standing.{Starts, TellsStill, seen, fixed_in, kept_at, lengths_kept, HasLink, Follows, ShowsPair, TellsOther, IsAged, ShowsOn, ShowsWorst};
-    ghost use Rattle.plant_model.specs.FairPairs.{Fits, lengths_in};
+    ghost use Rattle.plant_model.specs.Fits.{Fits, lengths_in};
 
     /// Creates a plant of this configuration's connections with this application, which begins. After `Memory` the
     /// channel is unchanged, and the application is dropped.

@@ -1,7 +1,7 @@
 -- Worked lines of a journal.
 use Rattle.std.specs.Prelude.{◌≡◌, true, false, [], ◌∷◌, codes, map, Ok}
 use Rattle.fsoe_base.specs.declared.command.End.TheVariants as side
-use Rattle.plant_model.specs.FairPairs.{lengths_in}
+use Rattle.plant_model.specs.Fits.{lengths_in}
 use Rattle.plant_model.specs.WorkedPlant.{both_links}
 use Rattle.plant_model.specs.declared.event.PlantEvent.{PlantEvent}
 use Rattle.plant_model.specs.declared.event.PlantEvent.TheVariants as event

@@ -1,5 +1,5 @@
 -- A tick is late for a bound only where a pair has another entry: from the first of the still moments that reach it on
--- the bound is quiet. Turns, acts and what is said are listed newest first.
+-- the bound is quiet. Turns, acts and what is heard are listed newest first.
 use Rattle.std.proofs.Common.{◌≡◌, ◌≤◌, ℕ, zero, suc, ◌+◌, ◌-◌, Bool, true, false, ◌||◌, nat_lt, List, [], ◌∷◌, ◌++◌, map, length, Option, Some, None, if◌then◌else◌, refl, sym, ap, ap₂, subst, ◌∙◌, append_assoc, arith}
 use Rattle.std.specs.Option.{option_map_or}
 use Rattle.std.proofs.Math.Dec.{leb-suc-zero}
@@ -13,7 +13,7 @@ use Rattle.plant_model.specs.declared.event.PlantEvent.TheVariants as event
 use Rattle.plant_model.specs.declared.journal.JournalStep.{JournalStep}
 use Rattle.plant_model.specs.Acts.{Beginning, Said, Event, App, Act, Happen, PullFrom, journal}
 use Rattle.plant_model.specs.Bound.{is_off, is_guarded, is_still, HasLinks, limit, is_on}
-use Rattle.plant_model.specs.BoundLines.{limit_by, limit_of, is_driven, said_of, broken_at}
+use Rattle.plant_model.specs.BoundLines.{limit_by, limit_of, is_driven, heard_of, broken_at}
 use Rattle.plant_model.specs.Pair.{ticks}
 use Rattle.plant_model.specs.Promises.{AllSound}
 use Rattle.plant_model.specs.Turns.{Turn, acts, turn_acts}
@@ -97,24 +97,24 @@ quiet_act b bound act done n s still q =
     }
 
 -- from here on or from earlier on
-quiet_now : (b : Beginning) (bound : BoundSpec) (done : List Act) (n : ℕ) (still : Bool) (said : List reaction.Said) → is_still b bound done ≡ still
-    → (is_still b bound done ≡ true → reaction.quiet_for n said ≡ true → QuietFor b bound done n) → reaction.quiet_for n (reaction.Quiet still ∷ said) ≡ true → QuietFor b bound done n
-quiet_now b bound done zero true said is on quiet = quiet_here b bound done is
-quiet_now b bound done (suc n) true said is on quiet = on is (sym (ap (λ (now : Bool). now || reaction.quiet_for (suc n) said) (leb-suc-zero n)) ∙ quiet)
-quiet_now b bound done n false said is on quiet = absurd (cc quiet)
+quiet_now : (b : Beginning) (bound : BoundSpec) (done : List Act) (n : ℕ) (still : Bool) (heard : List reaction.Heard) → is_still b bound done ≡ still
+    → (is_still b bound done ≡ true → reaction.quiet_for n heard ≡ true → QuietFor b bound done n) → reaction.quiet_for n (reaction.Quiet still ∷ heard) ≡ true → QuietFor b bound done n
+quiet_now b bound done zero true heard is on quiet = quiet_here b bound done is
+quiet_now b bound done (suc n) true heard is on quiet = on is (sym (ap (λ (now : Bool). now || reaction.quiet_for (suc n) heard) (leb-suc-zero n)) ∙ quiet)
+quiet_now b bound done n false heard is on quiet = absurd (cc quiet)
 
 -- a tick isn't late where a quiet stop keeps the drive off
 untrue : (x : Bool) → (x ≡ true → ⊥) → x ≡ false
 untrue true h = absurd (h refl)
 untrue false h = refl
 
-not_late : (limit : ℕ) (on : Bool) (said : List reaction.Said) → (reaction.quiet_for (limit - 1) said ≡ true → on ≡ false) → reaction.is_late limit (reaction.Tick on ∷ said) ≡ false
-not_late limit true said off = untrue (reaction.quiet_for (limit - 1) said) (λ quiet. absurd (cc (off quiet)))
-not_late limit false said off = refl
+not_late : (limit : ℕ) (on : Bool) (heard : List reaction.Heard) → (reaction.quiet_for (limit - 1) heard ≡ true → on ≡ false) → reaction.is_late limit (reaction.Tick on ∷ heard) ≡ false
+not_late limit true heard off = untrue (reaction.quiet_for (limit - 1) heard) (λ quiet. absurd (cc (off quiet)))
+not_late limit false heard off = refl
 
--- a bound whose pairs have no other entry, up to here: it is quiet for as long as was said, and not broken
+-- a bound whose pairs have no other entry, up to here: it is quiet for as long as was heard, and not broken
 record Kept (b : Beginning) (bound : BoundSpec) (turns : List Turn) : Type 0 where
-  quiet : (n : ℕ) → reaction.quiet_for n (said_of b bound turns) ≡ true → QuietFor b bound (acts turns) n
+  quiet : (n : ℕ) → reaction.quiet_for n (heard_of b bound turns) ≡ true → QuietFor b bound (acts turns) n
   none : broken_at b bound turns ≡ None
 
 kept_tick : (b : Beginning) (bound : BoundSpec) (estop drive : LinkConf) (parcels : List Parcel) (turns : List Turn) → HasLinks b bound estop drive
@@ -125,22 +125,22 @@ kept_tick b bound estop drive parcels turns links s ce cd k =
     let all : List Act = turn_acts (Event event.Tick) parcels ++ acts turns in
     let driven : is_driven b bound all ≡ is_on bound drive (journal b all) = ap (λ (o : Option LinkConf). option_map_or (λ z. is_on bound z (journal b all)) o false) links.drive_is in
     let limit_is : limit_of b.links bound ≡ limit estop drive = ap₂ (λ (one two : Option LinkConf). limit_by one two) links.estop_is links.drive_is in
-    let count : ℕ = suc (reaction.ticks (said_of b bound turns)) in
+    let count : ℕ = suc (reaction.ticks (heard_of b bound turns)) in
     record {
-      quiet = λ n. quiet_now b bound all n (is_still b bound all) (reaction.Tick (is_driven b bound all) ∷ said_of b bound turns) refl (λ still before. quiet_tick b bound parcels (acts turns) n s (k.quiet (n - 1) before));
+      quiet = λ n. quiet_now b bound all n (is_still b bound all) (reaction.Tick (is_driven b bound all) ∷ heard_of b bound turns) refl (λ still before. quiet_tick b bound parcels (acts turns) n s (k.quiet (n - 1) before));
       none = ap₂ (λ (before : Option ℕ) (late : Bool). first_of_both (first_of_both before late count) false count) k.none
-          (not_late (limit_of b.links bound) (is_driven b bound all) (said_of b bound turns)
+          (not_late (limit_of b.links bound) (is_driven b bound all) (heard_of b bound turns)
           (λ before.
           let q : QuietFor b bound all (limit_of b.links bound) = quiet_tick b bound parcels (acts turns) (limit_of b.links bound) s (k.quiet (limit_of b.links bound - 1) before) in
           let long = q.long in
           driven ∙ steps_off b bound estop drive q.later q.earlier (journal b all) [] links q.stays.quiet (sym (ap (journal b) q.acts_are) ∙ sym (append-nil (journal b all))) ce cd (omega (arith, limit_is))));
     }
 
-kept_act : (b : Beginning) (bound : BoundSpec) (act : Act) (done : List Act) (said : List reaction.Said) → AllSound b (act ∷ done)
-    → ((n : ℕ) → reaction.quiet_for n said ≡ true → QuietFor b bound done n)
-    → (n : ℕ) → reaction.quiet_for n (reaction.Quiet (is_still b bound (act ∷ done)) ∷ said) ≡ true → QuietFor b bound (act ∷ done) n
-kept_act b bound act done said s before n =
-    quiet_now b bound (act ∷ done) n (is_still b bound (act ∷ done)) said refl (λ still earlier. quiet_act b bound act done n s still (before n earlier))
+kept_act : (b : Beginning) (bound : BoundSpec) (act : Act) (done : List Act) (heard : List reaction.Heard) → AllSound b (act ∷ done)
+    → ((n : ℕ) → reaction.quiet_for n heard ≡ true → QuietFor b bound done n)
+    → (n : ℕ) → reaction.quiet_for n (reaction.Quiet (is_still b bound (act ∷ done)) ∷ heard) ≡ true → QuietFor b bound (act ∷ done) n
+kept_act b bound act done heard s before n =
+    quiet_now b bound (act ∷ done) n (is_still b bound (act ∷ done)) heard refl (λ still earlier. quiet_act b bound act done n s still (before n earlier))
 
 still_none : (before : Option ℕ) (n : ℕ) → before ≡ None → first_of_both before false n ≡ None
 still_none before n none = ap (λ (o : Option ℕ). first_of_both o false n) none
@@ -150,12 +150,12 @@ kept_turn : (b : Beginning) (bound : BoundSpec) (estop drive : LinkConf) (said :
     → Clean estop bound.estop.link (journal b (turn_acts said parcels ++ acts turns)) → Clean drive bound.drive.link (journal b (turn_acts said parcels ++ acts turns))
     → Kept b bound turns → Kept b bound (record { said = said; pulled = parcels } ∷ turns)
 kept_turn b bound estop drive (Event event.Tick) parcels turns links s ce cd k = kept_tick b bound estop drive parcels turns links s ce cd k
-kept_turn b bound estop drive (Event (event.Put n load)) parcels turns links s ce cd k = record { quiet = kept_act b bound _ (acts turns) (said_of b bound turns) s k.quiet; none = still_none (broken_at b bound turns) _ k.none }
-kept_turn b bound estop drive (Event (event.Hold n failsafe)) parcels turns links s ce cd k = record { quiet = kept_act b bound _ (acts turns) (said_of b bound turns) s k.quiet; none = still_none (broken_at b bound turns) _ k.none }
-kept_turn b bound estop drive (Event (event.Local n)) parcels turns links s ce cd k = record { quiet = kept_act b bound _ (acts turns) (said_of b bound turns) s k.quiet; none = still_none (broken_at b bound turns) _ k.none }
-kept_turn b bound estop drive (Event (event.Nonce n end id)) parcels turns links s ce cd k = record { quiet = kept_act b bound _ (acts turns) (said_of b bound turns) s k.quiet; none = still_none (broken_at b bound turns) _ k.none }
-kept_turn b bound estop drive (Event (event.Cut n cut)) parcels turns links s ce cd k = record { quiet = kept_act b bound _ (acts turns) (said_of b bound turns) s k.quiet; none = still_none (broken_at b bound turns) _ k.none }
-kept_turn b bound estop drive (App app) parcels turns links s ce cd k = record { quiet = kept_act b bound _ (acts turns) (said_of b bound turns) s k.quiet; none = still_none (broken_at b bound turns) _ k.none }
+kept_turn b bound estop drive (Event (event.Put n load)) parcels turns links s ce cd k = record { quiet = kept_act b bound _ (acts turns) (heard_of b bound turns) s k.quiet; none = still_none (broken_at b bound turns) _ k.none }
+kept_turn b bound estop drive (Event (event.Hold n failsafe)) parcels turns links s ce cd k = record { quiet = kept_act b bound _ (acts turns) (heard_of b bound turns) s k.quiet; none = still_none (broken_at b bound turns) _ k.none }
+kept_turn b bound estop drive (Event (event.Local n)) parcels turns links s ce cd k = record { quiet = kept_act b bound _ (acts turns) (heard_of b bound turns) s k.quiet; none = still_none (broken_at b bound turns) _ k.none }
+kept_turn b bound estop drive (Event (event.Nonce n end id)) parcels turns links s ce cd k = record { quiet = kept_act b bound _ (acts turns) (heard_of b bound turns) s k.quiet; none = still_none (broken_at b bound turns) _ k.none }
+kept_turn b bound estop drive (Event (event.Cut n cut)) parcels turns links s ce cd k = record { quiet = kept_act b bound _ (acts turns) (heard_of b bound turns) s k.quiet; none = still_none (broken_at b bound turns) _ k.none }
+kept_turn b bound estop drive (App app) parcels turns links s ce cd k = record { quiet = kept_act b bound _ (acts turns) (heard_of b bound turns) s k.quiet; none = still_none (broken_at b bound turns) _ k.none }
 
 clean_first : (b : Beginning) (link : LinkConf) (k : ℕ) (more done : List Act) → Clean link k (journal b (more ++ done)) → Clean link k (journal b done)
 clean_first b link k more done c =

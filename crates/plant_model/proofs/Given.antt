@@ -15,8 +15,8 @@ use Rattle.plant_model.specs.declared.event.PlantEvent.TheVariants as event
 use Rattle.plant_model.specs.declared.journal.JournalStep.{JournalStep}
 use Rattle.plant_model.specs.declared.journal.JournalStep.TheVariants as step
 use Rattle.plant_model.specs.Acts.{Beginning, Said, Event, App, Act, Start, Happen, PullFrom, offer_step, offers, steps_of, journal, is_cut, newer, push_to, pushes_of, all_pushes, uses_of, uses_after, uses, masters, cycle_of}
-use Rattle.plant_model.specs.Pair.{pair}
-use Rattle.plant_model.specs.JournalLaws.{ticks_all, pulled_in, one_if_left, short_ticks}
+use Rattle.plant_model.specs.Pair.{pair, is_tick_event}
+use Rattle.plant_model.specs.JournalLaws.{pulled_in, one_if_left, short_ticks}
 use Rattle.plant_model.specs.Turns.{Turn, turn_acts, acts}
 use Rattle.plant_model.specs.Uses.{Use, Begin, Push, Pull}
 use Rattle.plant_model.specs.Gifts.{gifts, counted, empty_pulls}
@@ -137,18 +137,18 @@ none_adds zero n = omega arith
 none_adds (suc room) n = omega arith
 
 -- a line more
-script_adds : (room : ℕ) (xs : List JournalStep) (e : PlantEvent) (rest : List JournalStep) → short_ticks room (xs ++ step.Script e ∷ rest) ≡ short_ticks room xs + short_ticks (if ticks_all e then 64 else 0) rest
-script_adds room [] e rest = none_adds room (short_ticks (if ticks_all e then 64 else 0) rest)
+script_adds : (room : ℕ) (xs : List JournalStep) (e : PlantEvent) (rest : List JournalStep) → short_ticks room (xs ++ step.Script e ∷ rest) ≡ short_ticks room xs + short_ticks (if is_tick_event e then 64 else 0) rest
+script_adds room [] e rest = none_adds room (short_ticks (if is_tick_event e then 64 else 0) rest)
 script_adds room (step.Script d ∷ xs) e rest =
-    ap (one_if_left room) (script_adds (if ticks_all d then 64 else 0) xs e rest) ∙ left_adds room (short_ticks (if ticks_all d then 64 else 0) xs) (short_ticks (if ticks_all e then 64 else 0) rest)
-script_adds room (step.App ∷ xs) e rest = ap (one_if_left room) (script_adds 0 xs e rest) ∙ left_adds room (short_ticks 0 xs) (short_ticks (if ticks_all e then 64 else 0) rest)
+    ap (one_if_left room) (script_adds (if is_tick_event d then 64 else 0) xs e rest) ∙ left_adds room (short_ticks (if is_tick_event d then 64 else 0) xs) (short_ticks (if is_tick_event e then 64 else 0) rest)
+script_adds room (step.App ∷ xs) e rest = ap (one_if_left room) (script_adds 0 xs e rest) ∙ left_adds room (short_ticks 0 xs) (short_ticks (if is_tick_event e then 64 else 0) rest)
 script_adds room (step.Offer link load ∷ xs) e rest = script_adds room xs e rest
 script_adds room (step.Pulled parcel ∷ xs) e rest = script_adds (room - 1) xs e rest
 
 app_adds : (room : ℕ) (xs rest : List JournalStep) → short_ticks room (xs ++ step.App ∷ rest) ≡ short_ticks room xs + short_ticks 0 rest
 app_adds room [] rest = none_adds room (short_ticks 0 rest)
 app_adds room (step.Script d ∷ xs) rest =
-    ap (one_if_left room) (app_adds (if ticks_all d then 64 else 0) xs rest) ∙ left_adds room (short_ticks (if ticks_all d then 64 else 0) xs) (short_ticks 0 rest)
+    ap (one_if_left room) (app_adds (if is_tick_event d then 64 else 0) xs rest) ∙ left_adds room (short_ticks (if is_tick_event d then 64 else 0) xs) (short_ticks 0 rest)
 app_adds room (step.App ∷ xs) rest = ap (one_if_left room) (app_adds 0 xs rest) ∙ left_adds room (short_ticks 0 xs) (short_ticks 0 rest)
 app_adds room (step.Offer link load ∷ xs) rest = app_adds room xs rest
 app_adds room (step.Pulled parcel ∷ xs) rest = app_adds (room - 1) xs rest
@@ -216,7 +216,7 @@ ends_so b e (parcel ∷ parcels) done =
     }
 
 -- an event that pulls nothing
-event_short : (b : Beginning) (e : PlantEvent) (done : List Act) → ticks_all e ≡ false → short_ticks 0 (journal b (Happen (Event e) ∷ done)) ≡ short_ticks 0 (journal b done) + 0
+event_short : (b : Beginning) (e : PlantEvent) (done : List Act) → is_tick_event e ≡ false → short_ticks 0 (journal b (Happen (Event e) ∷ done)) ≡ short_ticks 0 (journal b done) + 0
 event_short b e done h =
     script_adds 0 (journal b done) e (offers b (Happen (Event e)) done)
     ∙ ap (λ (t : Bool). short_ticks 0 (journal b done) + short_ticks (if t then 64 else 0) (offers b (Happen (Event e)) done)) h
@@ -254,7 +254,7 @@ tick_short b parcels done h =
     ∙ ap (λ (n : ℕ). short_ticks 0 (journal b done) + n) (sym left)
     ∙ sym (ap (short_ticks 0) (pulls_if b short before ∙ s.is) ∙ script_adds 0 (journal b done) event.Tick s.rest)
 
-quiet_short : (b : Beginning) (e : PlantEvent) (done : List Act) → ticks_all e ≡ false → nones done ≡ short_ticks 0 (journal b done) → nones (Happen (Event e) ∷ done) ≡ short_ticks 0 (journal b (Happen (Event e) ∷ done))
+quiet_short : (b : Beginning) (e : PlantEvent) (done : List Act) → is_tick_event e ≡ false → nones done ≡ short_ticks 0 (journal b done) → nones (Happen (Event e) ∷ done) ≡ short_ticks 0 (journal b (Happen (Event e) ∷ done))
 quiet_short b e done t h = ap (λ (n : ℕ). n + 0) h ∙ sym (event_short b e done t)
 
 turn_short : (b : Beginning) (said : Said) (parcels : List Parcel) (done : List Act) → nones done ≡ short_ticks 0 (journal b done)

@@ -8,15 +8,15 @@ use Rattle.plant_model.specs.declared.event.PlantEvent.{PlantEvent}
 use Rattle.plant_model.specs.declared.event.PlantEvent.TheVariants as event
 use Rattle.plant_model.specs.declared.journal.JournalStep.{JournalStep}
 use Rattle.plant_model.specs.declared.journal.JournalStep.TheVariants as step
-use Rattle.plant_model.specs.Acts.{Beginning, Said, Event, App, Act, Start, Happen, PullFrom, masters, cycle_of, offer_step, offers, journal}
-use Rattle.plant_model.specs.Promises.{line_step}
-use Rattle.plant_model.specs.JournalLaws.{ticks_all, PullsFit, line_steps}
+use Rattle.plant_model.specs.Acts.{Beginning, Said, Event, App, Act, Start, Happen, PullFrom, masters, cycle_of, offer_step, offers, journal, line_step}
+use Rattle.plant_model.specs.JournalLaws.{PullsFit, line_steps}
+use Rattle.plant_model.specs.Pair.{is_tick_event}
 use Rattle.plant_model.specs.Turns.{IsTurn, Turn, MayPull, pulls_at, acts, said_by_turns}
 
 -- how many parcels may still come after these steps
 abbrev room_after : ℕ → List JournalStep → ℕ
 room_after room [] = room
-room_after room (step.Script e ∷ steps) = room_after (if ticks_all e then 64 else 0) steps
+room_after room (step.Script e ∷ steps) = room_after (if is_tick_event e then 64 else 0) steps
 room_after room (step.App ∷ steps) = room_after 0 steps
 room_after room (step.Offer link load ∷ steps) = room_after room steps
 room_after room (step.Pulled parcel ∷ steps) = room_after (room - 1) steps
@@ -29,7 +29,7 @@ record Leaves (room : ℕ) (steps : List JournalStep) (left : ℕ) : Type 0 wher
 then_leaves : (room mid left : ℕ) (xs ys : List JournalStep) → Leaves room xs mid → Leaves mid ys left → Leaves room (xs ++ ys) left
 then_leaves room mid left [] ys h i = subst (λ (r : ℕ). Leaves r ys left) (sym h.left_is) i
 then_leaves room mid left (step.Script e ∷ xs) ys h i =
-    let rest = then_leaves (if ticks_all e then 64 else 0) mid left xs ys (record { fit = h.fit; left_is = h.left_is }) i in record { fit = rest.fit; left_is = rest.left_is }
+    let rest = then_leaves (if is_tick_event e then 64 else 0) mid left xs ys (record { fit = h.fit; left_is = h.left_is }) i in record { fit = rest.fit; left_is = rest.left_is }
 then_leaves room mid left (step.App ∷ xs) ys h i = let rest = then_leaves 0 mid left xs ys (record { fit = h.fit; left_is = h.left_is }) i in record { fit = rest.fit; left_is = rest.left_is }
 then_leaves room mid left (step.Offer link load ∷ xs) ys h i = let rest = then_leaves room mid left xs ys (record { fit = h.fit; left_is = h.left_is }) i in record { fit = rest.fit; left_is = rest.left_is }
 then_leaves room mid left (step.Pulled parcel ∷ xs) ys h i =
@@ -49,10 +49,10 @@ Leave b done left = Leaves 0 (journal b done) left
 start : (b : Beginning) → Leave b (Start ∷ []) 0
 start b = offers_leave b Start [] 0
 
-event_leaves : (b : Beginning) (e : PlantEvent) (done : List Act) (room : ℕ) → Leave b done room → Leave b (Happen (Event e) ∷ done) (if ticks_all e then 64 else 0)
+event_leaves : (b : Beginning) (e : PlantEvent) (done : List Act) (room : ℕ) → Leave b done room → Leave b (Happen (Event e) ∷ done) (if is_tick_event e then 64 else 0)
 event_leaves b e done room h =
-    let changed = offers_leave b (Happen (Event e)) done (if ticks_all e then 64 else 0) in
-    then_leaves 0 room (if ticks_all e then 64 else 0) (journal b done) (step.Script e ∷ offers b (Happen (Event e)) done) h (record { fit = changed.fit; left_is = changed.left_is })
+    let changed = offers_leave b (Happen (Event e)) done (if is_tick_event e then 64 else 0) in
+    then_leaves 0 room (if is_tick_event e then 64 else 0) (journal b done) (step.Script e ∷ offers b (Happen (Event e)) done) h (record { fit = changed.fit; left_is = changed.left_is })
 
 app_leaves : (b : Beginning) (a : AppView) (done : List Act) (room : ℕ) → Leave b done room → Leave b (Happen (App a) ∷ done) 0
 app_leaves b a done room h =

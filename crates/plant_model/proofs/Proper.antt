@@ -24,7 +24,8 @@ use Rattle.plant_model.specs.declared.event.PlantEvent.{PlantEvent}
 use Rattle.plant_model.specs.declared.event.PlantEvent.TheVariants as event
 use Rattle.plant_model.specs.declared.journal.JournalStep.{JournalStep}
 use Rattle.plant_model.specs.declared.journal.JournalStep.TheVariants as step
-use Rattle.plant_model.specs.FairPairs.{EventFits, StepFits, PairsAreFair, lengths_in, lengths_at}
+use Rattle.plant_model.specs.FairPairs.{StepFits, PairsAreFair}
+use Rattle.plant_model.specs.Fits.{EventFits, lengths_in, lengths_at}
 use Rattle.plant_model.specs.Pair.{if_same, script_part, own_part, own_events, pair, link_at}
 
 abbrev Proper : LinkConf → Event → Type 0

@@ -85,12 +85,16 @@ offer_step x = step.Offer x.0 x.1
 abbrev pub offers : Beginning → Act → List Act → List JournalStep
 offers b act acts = map offer_step (changed_by (cycle_of b act acts) (masters b acts).connections)
 
+-- the step of what a line of the script says
+abbrev pub line_step : Said → JournalStep
+line_step (Event event) = step.Script event
+line_step (App app) = step.App
+
 -- the steps of an act: its offers stand after a line of the script, and before a parcel that was pulled. What gave no
 -- parcel is no step
 abbrev pub steps_of : Act → List JournalStep → List JournalStep
 steps_of Start changed = changed
-steps_of (Happen (Event event)) changed = step.Script event ∷ changed
-steps_of (Happen (App app)) changed = step.App ∷ changed
+steps_of (Happen said) changed = line_step said ∷ changed
 steps_of (PullFrom None) changed = changed
 steps_of (PullFrom (Some parcel)) changed = changed ++ step.Pulled parcel ∷ []
 

@@ -12,10 +12,9 @@ use Rattle.plant_conf.specs.declared.conf.LinkConf.{LinkConf}
 use Rattle.reaction_bound.specs.Age.{told_age, worst_of}
 use Rattle.reaction_bound.specs.Reaction as reaction
 use Rattle.plant_model.specs.declared.journal.JournalStep.{JournalStep}
-use Rattle.plant_model.specs.Acts.{Act, Beginning, journal}
+use Rattle.plant_model.specs.Acts.{Act, Beginning, journal, line_step}
 use Rattle.plant_model.specs.Bound.{is_on, is_still, limit}
 use Rattle.plant_model.specs.Pair.{is_tick, link_at, pair}
-use Rattle.plant_model.specs.Promises.{line_step}
 use Rattle.plant_model.specs.Turns.{Turn, acts}
 
 -- the limit of a bound, in ticks, 0 where there isn't one of its connections
@@ -30,20 +29,20 @@ limit_of links bound = limit_by (link_at links bound.estop.link) (link_at links 
 abbrev pub is_driven : Beginning → BoundSpec → List Act → Bool
 is_driven b bound done = option_map_or (λ drive. is_on bound drive (journal b done)) (link_at b.links bound.drive.link) false
 
--- what a line of the script says of a bound after what was said before, where these are all acts with it: if it is a
--- tick, whether the drive is on; and then whether the moment after it is still
-abbrev pub heard : Beginning → BoundSpec → Bool → List Act → List reaction.Said → List reaction.Said
+-- what a reaction heard of a bound with a line of the script, after what it heard before, where these are all acts with
+-- the line: if that is a tick, whether the drive is on; and then whether the moment after it is still
+abbrev pub heard : Beginning → BoundSpec → Bool → List Act → List reaction.Heard → List reaction.Heard
 heard b bound tick done before =
     reaction.Quiet (is_still b bound done) ∷ (if tick then reaction.Tick (is_driven b bound done) ∷ before else before)
 
--- what the start of a plant and these turns say of a bound, newest first
-abbrev pub said_of : Beginning → BoundSpec → List Turn → List reaction.Said
-said_of b bound [] = heard b bound false (acts []) []
-said_of b bound (turn ∷ turns) = heard b bound (is_tick (line_step turn.said)) (acts (turn ∷ turns)) (said_of b bound turns)
+-- what it heard of a bound at the start of a plant and in these turns, newest first
+abbrev pub heard_of : Beginning → BoundSpec → List Turn → List reaction.Heard
+heard_of b bound [] = heard b bound false (acts []) []
+heard_of b bound (turn ∷ turns) = heard b bound (is_tick (line_step turn.said)) (acts (turn ∷ turns)) (heard_of b bound turns)
 
 -- the least number of a late tick, if there is one; ticks are counted as in the lines of ticks
 abbrev pub broken_at : Beginning → BoundSpec → List Turn → Option ℕ
-broken_at b bound turns = reaction.broken_of (limit_of b.links bound) (said_of b bound turns)
+broken_at b bound turns = reaction.broken_of (limit_of b.links bound) (heard_of b bound turns)
 
 -- the greatest age of an end's outputs at connection k by a journal, after any entry of its pair, if there was one
 abbrev pub worst_at : List LinkConf → List JournalStep → ℕ → End → Option ℕ

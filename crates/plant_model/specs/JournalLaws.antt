@@ -4,10 +4,8 @@ use Rattle.param_load.specs.declared.entry.Entry.{Entry}
 use Rattle.exchange_model.specs.World.{deeds}
 use Rattle.multi_master.specs.Calls.{connection}
 use Rattle.plant_model.specs.Acts.{Beginning, cycle_of, App, Happen, masters, Start, journal, Act, PullFrom, Event}
-use Rattle.plant_model.specs.Pair.{pair, link_at}
-use Rattle.plant_model.specs.declared.event.PlantEvent.TheVariants as event
+use Rattle.plant_model.specs.Pair.{pair, link_at, is_tick_event}
 use Rattle.plant_model.specs.declared.journal.JournalStep.TheVariants as step
-use Rattle.plant_model.specs.declared.event.PlantEvent.{PlantEvent}
 use Rattle.plant_model.specs.declared.journal.JournalStep.{JournalStep}
 use Rattle.std.specs.Prelude.{suc, [], IsSomeAnd, true, Some, false, List, IfSome, Option, ◌-◌, ◌≡◌, Bool, ◌∷◌, if◌then◌else◌, is_some, ◌<◌, ℕ, None, zero}
 use Rattle.black_channel.specs.declared.channel.Parcel.{Parcel}
@@ -32,16 +30,11 @@ abbrev pub master_hears : Option LinkConf → End → ℕ → List JournalStep �
 master_hears (Some link) side.Master k journal = tells_hearing (pair link k journal)
 master_hears _ _ k journal = false
 
--- whether an event of the script is a tick
-abbrev pub ticks_all : PlantEvent → Bool
-ticks_all event.Tick = true
-ticks_all _ = false
-
 -- whether an act runs a cycle of the application, after which the journal is this: at the start, in each tick, after
 -- each change of the application, and at each parcel that a master takes or resets on
 abbrev pub runs_cycle : List LinkConf → Act → List JournalStep → Bool
 runs_cycle links Start journal = true
-runs_cycle links (Happen (Event event)) journal = ticks_all event
+runs_cycle links (Happen (Event event)) journal = is_tick_event event
 runs_cycle links (Happen (App app)) journal = true
 runs_cycle links (PullFrom None) journal = false
 runs_cycle links (PullFrom (Some parcel)) journal = master_hears (link_at links parcel.to.link) parcel.to.end parcel.to.link journal
@@ -54,7 +47,7 @@ Cycles b act acts = is_some (cycle_of b act acts) ≡ runs_cycle b.links act (jo
 -- these steps; and none elsewhere
 abbrev pub PullsFit : ℕ → List JournalStep → Type 0
 PullsFit room [] = Unit {0}
-PullsFit room (step.Script event ∷ steps) = PullsFit (if ticks_all event then 64 else 0) steps
+PullsFit room (step.Script event ∷ steps) = PullsFit (if is_tick_event event then 64 else 0) steps
 PullsFit room (step.App ∷ steps) = PullsFit 0 steps
 PullsFit room (step.Offer link load ∷ steps) = PullsFit room steps
 PullsFit room (step.Pulled parcel ∷ steps) = (0 < room) × PullsFit (room - 1) steps
@@ -76,7 +69,7 @@ one_if_left (suc room) n = suc n
 -- them may still come before these steps
 abbrev pub short_ticks : ℕ → List JournalStep → ℕ
 short_ticks room [] = one_if_left room 0
-short_ticks room (step.Script event ∷ steps) = one_if_left room (short_ticks (if ticks_all event then 64 else 0) steps)
+short_ticks room (step.Script event ∷ steps) = one_if_left room (short_ticks (if is_tick_event event then 64 else 0) steps)
 short_ticks room (step.App ∷ steps) = one_if_left room (short_ticks 0 steps)
 short_ticks room (step.Offer link load ∷ steps) = short_ticks room steps
 short_ticks room (step.Pulled parcel ∷ steps) = short_ticks (room - 1) steps

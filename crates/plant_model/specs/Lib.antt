@@ -3,6 +3,7 @@ pub mod Bound
 pub mod BoundLines
 pub mod Broken
 pub mod FairPairs
+pub mod Fits
 pub mod Gifts
 pub mod JournalLaws
 pub mod NetCycles

@@ -80,9 +80,13 @@ abbrev pub lowest_other : ℕ → List LinkConf → List JournalStep → Option 
 lowest_other k [] journal = None
 lowest_other k (link ∷ links) journal = if has_other link k journal then Some k else lowest_other (suc k) links journal
 
--- whether a step is a tick of the script
+-- whether an event of the script is a tick; a step may be one too
+abbrev pub is_tick_event : PlantEvent → Bool
+is_tick_event event.Tick = true
+is_tick_event _ = false
+
 abbrev pub is_tick : JournalStep → Bool
-is_tick (step.Script event.Tick) = true
+is_tick (step.Script event) = is_tick_event event
 is_tick _ = false
 
 -- the number of ticks in a journal

@@ -59,14 +59,14 @@ lines_from links before (step ∷ steps) =
 abbrev pub ticks_text : List LinkConf → List JournalStep → List ℕ
 ticks_text links journal = lines_from links [] journal
 
--- the last lines of a plant with this journal, whose script stops so; these are the lines of its bounds
+-- the last lines of a plant with this journal, whose script stops so; `bound_text` has the lines of its bounds
 abbrev pub last_lines : List LinkConf → List JournalStep → List ℕ → Stop → List ℕ
-last_lines links journal bounds AtEnd = codes "ticks " ++ decimal (ticks journal) ++ codes "\n" ++ other_line (lowest_other 1 links journal) ++ bounds
-last_lines links journal bounds (Refused number why) = refused_line number why
+last_lines links journal bound_text AtEnd = codes "ticks " ++ decimal (ticks journal) ++ codes "\n" ++ other_line (lowest_other 1 links journal) ++ bound_text
+last_lines links journal bound_text (Refused number why) = refused_line number why
 
--- the report of a plant with this journal, whose script stops so; these are the lines of its bounds
+-- the report of a plant with this journal, whose script stops so; `bound_text` has the lines of its bounds
 abbrev pub report_text : List LinkConf → List JournalStep → List ℕ → Stop → List ℕ
-report_text links journal bounds stop = ticks_text links journal ++ last_lines links journal bounds stop
+report_text links journal bound_text stop = ticks_text links journal ++ last_lines links journal bound_text stop
 
 -- how a run ends that writes it
 abbrev pub report_end : List LinkConf → List JournalStep → Stop → Ended

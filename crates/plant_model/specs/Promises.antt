@@ -1,17 +1,10 @@
 -- What holds of a plant's offers after each act: all are the application's answer, which keeps off what is guarded.
--- This rests on what an application promises. Acts are listed newest first, steps oldest first.
+-- This rests on what an application promises. Acts are listed newest first.
 use Rattle.std.specs.Prelude.{List, [], ◌∷◌, IfSome}
 use Rattle.multi_master.specs.Calls.{IsSound}
-use Rattle.plant_model.specs.declared.journal.JournalStep.{JournalStep}
-use Rattle.plant_model.specs.declared.journal.JournalStep.TheVariants as step
-use Rattle.plant_model.specs.Acts.{Beginning, Said, Event, App, Act, masters, cycle_of}
+use Rattle.plant_model.specs.Acts.{Beginning, Act, masters, cycle_of}
 
 -- the answer of each of these acts that ran a cycle is sound after it
 abbrev pub AllSound : Beginning → List Act → Type 0
 AllSound b [] = Unit {0}
 AllSound b (act ∷ acts) = IfSome (cycle_of b act acts) (IsSound (masters b (act ∷ acts))) × AllSound b acts
-
--- the step of what a line of the script says
-abbrev pub line_step : Said → JournalStep
-line_step (Event event) = step.Script event
-line_step (App app) = step.App

@@ -9,7 +9,7 @@ use Rattle.plant_model.specs.declared.event.PlantLine.{PlantLine}
 use Rattle.plant_model.specs.declared.event.PlantLine.TheVariants as line
 use Rattle.plant_model.specs.Acts.{Said, Event, App, Act, Start, Happen, PullFrom}
 use Rattle.plant_conf.specs.declared.conf.LinkConf.{LinkConf}
-use Rattle.plant_model.specs.FairPairs.{EventFits}
+use Rattle.plant_model.specs.Fits.{EventFits}
 
 -- what happened at a line of the script: what the line says, and the parcels that were pulled then
 pub record Turn : Type 0 where

@@ -3,9 +3,8 @@
 ghost use Rattle.std.specs.Prelude.{◌≡◌, List, All, map};
 ghost use Rattle.fb_net.specs.NetView.{NetView};
 ghost use Rattle.fb_net.specs.Standing.{IsNewNet};
-ghost use Rattle.plant_model.specs.Acts.{Beginning, Act, journal, uses};
+ghost use Rattle.plant_model.specs.Acts.{Beginning, Act, journal, uses, line_step};
 ghost use Rattle.plant_model.specs.NetCycles.{AnswersByNet};
-ghost use Rattle.plant_model.specs.Promises.{line_step};
 ghost use Rattle.plant_model.specs.JournalLaws.{MastersAgree, Cycles, PullsFit, line_steps, pulled_in, short_ticks};
 ghost use Rattle.plant_model.specs.Turns.{IsTurn, AppsAreSpare, Named, Turn, acts, said, said_by_turns};
 ghost use Rattle.plant_model.specs.Gifts.{gifts, empty_pulls};

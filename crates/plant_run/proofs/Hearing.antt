@@ -13,13 +13,12 @@ use Rattle.fb_net.specs.declared.kind_of.KindOf.{KindOf}
 use Rattle.multi_master.specs.Calls.{AppView}
 use Rattle.reaction_bound.specs.Kept.{ReactionView, view_of}
 use Rattle.reaction_bound.specs.Reaction as reaction
-use Rattle.plant_model.specs.Acts.{Act, Beginning}
-use Rattle.plant_model.specs.BoundLines.{is_driven, limit_of, said_of}
+use Rattle.plant_model.specs.Acts.{Act, Beginning, line_step}
+use Rattle.plant_model.specs.BoundLines.{is_driven, limit_of, heard_of}
 use Rattle.plant_run.specs.Given.{GivenStands}
 use Rattle.plant_core.specs.Link.{Fixed, LinkView, fixed_of, new_link}
 use Rattle.plant_core.specs.Making.{is_named, links_made}
 use Rattle.plant_model.specs.Pair.{is_tick}
-use Rattle.plant_model.specs.Promises.{line_step}
 use Rattle.plant_run.specs.Reporting.{Terms}
 use Rattle.plant_run.specs.Script.{ScriptHeading}
 use Rattle.plant_core.specs.Standing.{PlantStands, PlantView, fixed_in, IsAged}
@@ -27,24 +26,24 @@ use Rattle.plant_model.specs.Turns.{Turn, acts}
 use Rattle.plant_run.specs.Watching.{AreAged, CanHear, HasRoom, HearsLine, reactions_after, reactions_by}
 use Rattle.plant_model.specs.declared.event.PlantLine.{PlantLine}
 
-if_ticks : (tick on : Bool) (before : List reaction.Said) → reaction.ticks (if tick then reaction.Tick on ∷ before else before) ≤ suc (reaction.ticks before)
+if_ticks : (tick on : Bool) (before : List reaction.Heard) → reaction.ticks (if tick then reaction.Tick on ∷ before else before) ≤ suc (reaction.ticks before)
 if_ticks true on before = omega arith
 if_ticks false on before = omega arith
 
 -- no more ticks are said than there are turns
-said_ticks : (b : Beginning) (bound : BoundSpec) (turns : List Turn) → reaction.ticks (said_of b bound turns) ≤ length turns
+said_ticks : (b : Beginning) (bound : BoundSpec) (turns : List Turn) → reaction.ticks (heard_of b bound turns) ≤ length turns
 said_ticks b bound [] = omega arith
 said_ticks b bound (turn ∷ turns) =
     let rest = said_ticks b bound turns in
     let done : List Act = acts (turn ∷ turns) in
-    let one = if_ticks (is_tick (line_step turn.said)) (is_driven b bound done) (said_of b bound turns) in
+    let one = if_ticks (is_tick (line_step turn.said)) (is_driven b bound done) (heard_of b bound turns) in
     omega (arith, rest, one)
 
 pub rooms : (b : Beginning) (turns : List Turn) (bounds : List BoundSpec) → length turns + 1 < 2 ^ 64 → All HasRoom (reactions_after b turns bounds)
 rooms b turns [] h = All-nil HasRoom
 rooms b turns (bound ∷ bounds) h =
     let few = said_ticks b bound turns in
-    All-cons HasRoom (view_of (limit_of b.links bound) (said_of b bound turns)) (reactions_after b turns bounds) (omega (arith, few, h)) (rooms b turns bounds h)
+    All-cons HasRoom (view_of (limit_of b.links bound) (heard_of b bound turns)) (reactions_after b turns bounds) (omega (arith, few, h)) (rooms b turns bounds h)
 
 -- a plant that runs can tell its reactions of a line more
 pub can_hear : {H : Type 0} (view : KindOf H → AppView) (t : Terms) (v : PlantView) (reactions : List ReactionView) (left : List (EntryOf H)) (before after : Told) (count : ℕ) (h : ScriptHeading) (log : List PlantLine) (text : List ℕ) (bounds : List BoundSpec)
@@ -52,7 +51,7 @@ pub can_hear : {H : Type 0} (view : KindOf H → AppView) (t : Terms) (v : Plant
 can_hear view t v reactions left before after count h log text bounds k few same =
     subst (λ (z : List BoundSpec). CanHear reactions z) same
     (record {
-      count = ap length k.watched ∙ length-map t.bounds (λ bound. view_of (limit_of t.begins.links bound) (said_of t.begins bound k.runs.turns));
+      count = ap length k.watched ∙ length-map t.bounds (λ bound. view_of (limit_of t.begins.links bound) (heard_of t.begins bound k.runs.turns));
       room = subst (λ (z : List ReactionView). All HasRoom z) (sym k.watched) (rooms t.begins k.runs.turns t.bounds (let whole = k.runs.whole in omega (arith, whole, few)));
     })
 

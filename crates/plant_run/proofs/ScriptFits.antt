@@ -16,7 +16,7 @@ use Rattle.schedule_file.specs.declared.line_cause.LineCause.TheVariants as caus
 use Rattle.schedule_file.proofs.Sound.{each, known, IfOk-every, IfOk-map}
 use Rattle.plant_run.specs.ScriptLine.{end_of_letter, existing, link_and_switch, local_line, nonce_line, plant_line, plant_said, plant_said_by, plant_word_of, put_line}
 use Rattle.plant_run.specs.Running.{LineFits}
-use Rattle.plant_model.specs.FairPairs.{lengths_at}
+use Rattle.plant_model.specs.Fits.{lengths_at}
 use Rattle.plant_model.specs.declared.event.PlantLine.{PlantLine}
 use Rattle.plant_run.specs.declared.script_line.PlantWord.{PlantWord}
 use Rattle.plant_run.specs.declared.script_line.PlantWord.TheVariants as word

@@ -14,12 +14,11 @@ use Rattle.plant_model.specs.declared.event.PlantEvent.TheVariants as event
 use Rattle.plant_model.specs.declared.event.PlantLine.{PlantLine}
 use Rattle.plant_model.specs.declared.event.PlantLine.TheVariants as line
 use Rattle.plant_model.specs.declared.journal.JournalStep.{JournalStep}
-use Rattle.plant_model.specs.Acts.{Beginning, Said, Event, App, journal}
+use Rattle.plant_model.specs.Acts.{Beginning, Said, Event, App, journal, line_step}
 use Rattle.plant_model.specs.BoundLines.{bound_lines}
-use Rattle.plant_model.specs.FairPairs.{lengths_in}
+use Rattle.plant_model.specs.Fits.{lengths_in}
 use Rattle.plant_model.specs.Pair.{is_tick}
 use Rattle.plant_model.specs.PlantReport.{last_lines, report_end, report_text, tick_lines, ticks_text}
-use Rattle.plant_model.specs.Promises.{line_step}
 use Rattle.plant_run.specs.Reporting.{PlantReports, Terms, journal_after, plant_reporting, run_stop}
 use Rattle.plant_run.specs.Running.{RunCloses, RunStands}
 use Rattle.plant_run.specs.Script.{Script, ScriptHeading, script_format}
@@ -118,16 +117,16 @@ reports_stopped t v left h log text lines stop k =
     let links : List LinkConf = t.begins.links in
     let steps : List JournalStep = journal t.begins (acts k.turns) in
     let same : v.journal ≡ steps = k.stands.has_done.journal_is in
-    let lines_of_bounds : List ℕ = bound_lines t.begins k.turns t.bounds in
+    let bound_text : List ℕ = bound_lines t.begins k.turns t.bounds in
     let stops : run_stop (length k.turns) (input_stopped h lines log stop) ≡ stop = stops_with (length k.turns) (input_stopped h lines log stop) k.whole in (
       k.turns,
       record {
         said_are = sym (ap (said t.spare) (sym (append-nil log)) ∙ k.says [] ∙ append-nil (said_by_turns k.turns));
         pulled = turns_pull links k.turns k.stands.turns_are;
       },
-      ap (λ (z : List ℕ). z ++ last_lines links v.journal lines_of_bounds stop) k.text_is
-          ∙ ap (λ (j : List JournalStep). report_text links j lines_of_bounds stop) same
-          ∙ ap (report_text links steps lines_of_bounds) (sym stops),
+      ap (λ (z : List ℕ). z ++ last_lines links v.journal bound_text stop) k.text_is
+          ∙ ap (λ (j : List JournalStep). report_text links j bound_text stop) same
+          ∙ ap (report_text links steps bound_text) (sym stops),
       ap (λ (j : List JournalStep). report_end links j stop) same ∙ ap (report_end links steps) (sym stops),
     )
 
@@ -139,10 +138,10 @@ plant_so_far t v left h log text k = record {
       let links : List LinkConf = t.begins.links in
       let turns : List Turn = quiet (said left more) k.turns in
       let steps : List JournalStep = journal t.begins (acts turns) in
-      let lines_of_bounds : List ℕ = bound_lines t.begins turns t.bounds in
-      let last : List ℕ = last_lines links steps lines_of_bounds (run_stop (length turns) script) in
+      let bound_text : List ℕ = bound_lines t.begins turns t.bounds in
+      let last : List ℕ = last_lines links steps bound_text (run_stop (length turns) script) in
       let begun = quiet_begins t.begins (said left more) k.turns in (
-        report_text links steps lines_of_bounds (run_stop (length turns) script),
+        report_text links steps bound_text (run_stop (length turns) script),
         report_end links steps (run_stop (length turns) script),
         (
           turns,

@@ -6,10 +6,9 @@ use Rattle.plant_conf.specs.declared.conf.LinkConf.{LinkConf}
 use Rattle.plant_model.specs.declared.event.PlantEvent.TheVariants as event
 use Rattle.plant_model.specs.declared.journal.JournalStep.{JournalStep}
 use Rattle.plant_model.specs.declared.journal.JournalStep.TheVariants as step
-use Rattle.plant_model.specs.Acts.{Beginning, Said, Event, App, Act, Happen, PullFrom, offers, journal}
+use Rattle.plant_model.specs.Acts.{Beginning, Said, Event, App, Act, Happen, PullFrom, offers, journal, line_step}
 use Rattle.plant_model.specs.Pair.{is_tick}
 use Rattle.plant_model.specs.PlantReport.{in_tick, is_line, lines_due, lines_from, tick_lines, ticks_text}
-use Rattle.plant_model.specs.Promises.{line_step}
 use Rattle.plant_model.specs.JournalLaws.{line_steps}
 use Rattle.plant_model.specs.Turns.{pulls_at, turn_acts}
 use Rattle.plant_model.proofs.Lines.{lines_append, no_lines_by, one_more}

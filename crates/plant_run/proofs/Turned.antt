@@ -30,16 +30,15 @@ use Rattle.plant_model.specs.declared.event.PlantLine.{PlantLine}
 use Rattle.plant_model.specs.declared.event.PlantLine.TheVariants as line
 use Rattle.plant_model.specs.declared.journal.JournalStep.{JournalStep}
 use Rattle.plant_model.specs.declared.journal.JournalStep.TheVariants as step
-use Rattle.plant_model.specs.Acts.{Beginning, Said, Event, App, Act, Start, journal, offers, uses, uses_after}
-use Rattle.plant_model.specs.FairPairs.{lengths_in, Fits}
+use Rattle.plant_model.specs.Acts.{Beginning, Said, Event, App, Act, Start, journal, offers, uses, uses_after, line_step}
+use Rattle.plant_model.specs.Fits.{lengths_in, Fits}
 use Rattle.plant_run.specs.Given.{GivenCloses, GivenStands, named, rest_in, terms_of, waiting}
 use Rattle.plant_model.specs.Pair.{has_other, is_tick, lowest_other, ticks}
 use Rattle.plant_model.specs.PlantReport.{last_lines, tick_lines, ticks_text}
-use Rattle.plant_model.specs.Promises.{line_step}
 use Rattle.plant_model.specs.JournalLaws.{line_steps}
 use Rattle.plant_run.specs.Ran.{IsReportOf}
 use Rattle.plant_run.specs.Reporting.{Terms, plant_reporting}
-use Rattle.plant_model.specs.BoundLines.{bound_line, bound_lines, said_of}
+use Rattle.plant_model.specs.BoundLines.{bound_line, bound_lines, heard_of}
 use Rattle.plant_core.specs.Making.{links_made}
 use Rattle.plant_run.specs.Running.{RunStands, LineFits}
 use Rattle.plant_run.specs.Script.{ScriptHeading, happening, script_format}
@@ -137,7 +136,7 @@ goes_on view t old new old_reactions new_reactions left next before mid after co
           (written_if (is_tick (line_step one)) _ (tick_lines t.begins.links new.journal) piece (ap (λ (n : ℕ). (codes "tick " ++ decimal n ++ codes "\n") ++ waiting 1 t.begins.links new.journal) counted) is);
       channel = used t.begins k.runs.turns one new before mid after k.channel p;
       fixed = same ∙ k.fixed;
-      watched = hears.hears t.begins (record { said = one; pulled = p.pulled } ∷ k.runs.turns) (λ bound. said_of t.begins bound k.runs.turns) p.stands k.watched;
+      watched = hears.hears t.begins (record { said = one; pulled = p.pulled } ∷ k.runs.turns) (λ bound. heard_of t.begins bound k.runs.turns) p.stands k.watched;
       same_lengths = k.same_lengths;
       counted = counted;
       few = let most = k.few in let one_more = one_most (is_tick (line_step one)) in omega (arith, most, counts, one_more, length_push log event);

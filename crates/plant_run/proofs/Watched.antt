@@ -59,49 +59,49 @@ pub tick_heard : (v : PlantView) (bound : BoundSpec) (tick : Bool) (old mid new 
 tick_heard v bound tick old mid new on still s ticks tells quiet e =
     subst (λ (z : Bool). HearsOne v bound z old new) (sym e)
     (record {
-      hears = λ b turns said h is.
-          quiet.hears (limit_of b.links bound) (Tick on ∷ said) (ticks.hears (limit_of b.links bound) said is)
-          ∙ ap₂ (λ (q o : Bool). view_of (limit_of b.links bound) (Quiet q ∷ Tick o ∷ said)) (tells.tells b turns h) (driven b v turns bound on h s);
+      hears = λ b turns before h is.
+          quiet.hears (limit_of b.links bound) (Tick on ∷ before) (ticks.hears (limit_of b.links bound) before is)
+          ∙ ap₂ (λ (q o : Bool). view_of (limit_of b.links bound) (Quiet q ∷ Tick o ∷ before)) (tells.tells b turns h) (driven b v turns bound on h s);
     })
 
 pub other_heard : (v : PlantView) (bound : BoundSpec) (tick : Bool) (old new : ReactionView) (still : Bool) → TellsStill v bound still → Hears old (Quiet still) new → tick ≡ false → HearsOne v bound tick old new
 other_heard v bound tick old new still tells quiet e =
     subst (λ (z : Bool). HearsOne v bound z old new) (sym e)
     (record {
-      hears = λ b turns said h is.
-          quiet.hears (limit_of b.links bound) said is ∙ ap (λ (q : Bool). view_of (limit_of b.links bound) (Quiet q ∷ said)) (tells.tells b turns h);
+      hears = λ b turns before h is.
+          quiet.hears (limit_of b.links bound) before is ∙ ap (λ (q : Bool). view_of (limit_of b.links bound) (Quiet q ∷ before)) (tells.tells b turns h);
     })
 
 -- what a reaction of a bound was told with a line
-abbrev told_with : Beginning → Bool → List Act → (BoundSpec → List reaction.Said) → BoundSpec → ReactionView
-told_with b tick done said bound = view_of (limit_of b.links bound) (heard b bound tick done (said bound))
+abbrev told_with : Beginning → Bool → List Act → (BoundSpec → List reaction.Heard) → BoundSpec → ReactionView
+told_with b tick done before bound = view_of (limit_of b.links bound) (heard b bound tick done (before bound))
 
 -- the reactions of the first bounds were told of a line
 pub record HeardTo (i : ℕ) (v : PlantView) (bounds : List BoundSpec) (tick : Bool) (initial now : List ReactionView) : Type 0 where
   pub count : length now ≡ length bounds
   pub rest : Untouched i initial now
-  pub heard_so : (b : Beginning) (turns : List Turn) (said : BoundSpec → List reaction.Said) → PlantStands b v turns → initial ≡ reactions_by b.links said bounds
-      → map (told_with b tick (acts turns) said) (take i bounds) ≡ take i now
+  pub heard_so : (b : Beginning) (turns : List Turn) (before : BoundSpec → List reaction.Heard) → PlantStands b v turns → initial ≡ reactions_by b.links before bounds
+      → map (told_with b tick (acts turns) before) (take i bounds) ≡ take i now
 
 pub heard_more : (i : ℕ) (v : PlantView) (bounds : List BoundSpec) (tick : Bool) (initial now : List ReactionView) (bound : BoundSpec) (r new : ReactionView) → HeardTo i v bounds tick initial now
     → slice_get bounds i ≡ Some bound → slice_get now i ≡ Some r → HearsOne v bound tick r new → HeardTo (i + 1) v bounds tick initial (slice_set now i new)
 heard_more i v bounds tick initial now bound r new inv at there hears = record {
   count = length-set now i new ∙ inv.count;
   rest = untouched_more i initial now (slice_set now i new) new inv.rest refl;
-  heard_so = λ b turns said h is.
-      let f : BoundSpec → ReactionView = told_with b tick (acts turns) said in
-      let g : BoundSpec → ReactionView = λ bound. view_of (limit_of b.links bound) (said bound) in
+  heard_so = λ b turns before h is.
+      let f : BoundSpec → ReactionView = told_with b tick (acts turns) before in
+      let g : BoundSpec → ReactionView = λ bound. view_of (limit_of b.links bound) (before bound) in
       let mine : Some r ≡ Some (g bound) =
       sym there ∙ inv.rest i (omega arith) ∙ ap (λ (z : List ReactionView). slice_get z i) is ∙ slice_get-map g bounds i ∙ ap (option_map g) at
       in
       ap (map f) (next_taken bounds i bound at)
-      ∙ written_more f (take i bounds) bound now (slice_set now i new) i (inv.heard_so b turns said h is) (slice_get_within now i r there)
-      (ap (slice_set now i) (hears.hears b turns (said bound) h (cc mine)));
+      ∙ written_more f (take i bounds) bound now (slice_set now i new) i (inv.heard_so b turns before h is) (slice_get_within now i r there)
+      (ap (slice_set now i) (hears.hears b turns (before bound) h (cc mine)));
 }
 
 pub heard_all : (i : ℕ) (v : PlantView) (bounds : List BoundSpec) (tick : Bool) (initial now : List ReactionView) → length bounds ≤ i → HeardTo i v bounds tick initial now → HearsLine v bounds tick initial now
 heard_all i v bounds tick initial now past inv = record {
-  hears = λ b turns said h is.
+  hears = λ b turns before h is.
       let count = inv.count in
-      sym (ap (map (told_with b tick (acts turns) said)) (sym (take_all i bounds past)) ∙ inv.heard_so b turns said h is ∙ take_all i now (omega arith));
+      sym (ap (map (told_with b tick (acts turns) before)) (sym (take_all i bounds past)) ∙ inv.heard_so b turns before h is ∙ take_all i now (omega arith));
 }

@@ -6,7 +6,7 @@ use Rattle.file_run.specs.Reporting.{Always, Reporting}
 use Rattle.plant_conf.specs.declared.conf.BoundSpec.{BoundSpec}
 use Rattle.plant_model.specs.Acts.{Beginning, Said, journal}
 use Rattle.plant_model.specs.BoundLines.{bound_lines}
-use Rattle.plant_model.specs.FairPairs.{lengths_in}
+use Rattle.plant_model.specs.Fits.{lengths_in}
 use Rattle.plant_model.specs.PlantReport.{report_end, report_text}
 use Rattle.plant_run.specs.Script.{Script, ScriptHeading, script_format}
 use Rattle.plant_model.specs.Turns.{MayPull, Named, Turn, acts, said, said_by_turns}

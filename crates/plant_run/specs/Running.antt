@@ -1,6 +1,6 @@
 -- What it means that a plant runs over a script. Turns are listed newest first, the lines of a script oldest first.
 use Rattle.std.specs.Prelude.{◌≡◌, ℕ, List, ◌++◌, length, map, MatchResult, Ok, Err, ◌≤◌, Result, All}
-use Rattle.plant_model.specs.FairPairs.{lengths_in, Fits}
+use Rattle.plant_model.specs.Fits.{lengths_in, Fits}
 use Rattle.fsoe_io.specs.declared.status.Ended.{Ended}
 use Rattle.schedule_file.specs.Input.{AtEnd}
 use Rattle.schedule_file.specs.declared.line_cause.LineCause.{LineCause}

@@ -17,7 +17,7 @@ use Rattle.plant_model.specs.declared.event.PlantLine.{PlantLine}
 use Rattle.plant_model.specs.declared.event.PlantLine.TheVariants as line
 use Rattle.plant_run.specs.declared.script_line.PlantWord.{PlantWord}
 use Rattle.plant_run.specs.declared.script_line.PlantWord.TheVariants as word
-use Rattle.plant_model.specs.FairPairs.{lengths_at}
+use Rattle.plant_model.specs.Fits.{lengths_at}
 
 -- the word of an event or of an application, or `end`
 abbrev pub plant_word_of : List ℕ → Option PlantWord

@@ -5,7 +5,7 @@ use Rattle.plant_conf.specs.declared.conf.LinkConf.{LinkConf}
 use Rattle.reaction_bound.specs.Kept.{ReactionView, view_of}
 use Rattle.reaction_bound.specs.Reaction as reaction
 use Rattle.plant_model.specs.Acts.{Beginning}
-use Rattle.plant_model.specs.BoundLines.{heard, limit_of, line_by, said_of}
+use Rattle.plant_model.specs.BoundLines.{heard, limit_of, line_by, heard_of}
 use Rattle.plant_core.specs.Link.{LinkView}
 use Rattle.plant_core.specs.Standing.{PlantStands, PlantView, IsAged}
 use Rattle.plant_model.specs.Turns.{Turn, acts}
@@ -15,25 +15,25 @@ use Rattle.plant_model.specs.declared.journal.JournalStep.{JournalStep}
 abbrev pub HasRoom : ReactionView → Type 0
 HasRoom r = r.ticks + 1 < 2 ^ 64
 
--- the reactions of these bounds, to each of which this was said
-abbrev pub reactions_by : List LinkConf → (BoundSpec → List reaction.Said) → List BoundSpec → List ReactionView
-reactions_by links said bounds = map (λ bound. view_of (limit_of links bound) (said bound)) bounds
+-- the reactions of these bounds, each of which has heard this
+abbrev pub reactions_by : List LinkConf → (BoundSpec → List reaction.Heard) → List BoundSpec → List ReactionView
+reactions_by links before bounds = map (λ bound. view_of (limit_of links bound) (before bound)) bounds
 
 -- the reactions of these bounds over these turns
 abbrev pub reactions_after : Beginning → List Turn → List BoundSpec → List ReactionView
-reactions_after b turns bounds = reactions_by b.links (λ bound. said_of b bound turns) bounds
+reactions_after b turns bounds = reactions_by b.links (λ bound. heard_of b bound turns) bounds
 
 -- a reaction of this bound is told of a line of the script, which may be a tick, by a plant that stands for the turns
 -- with it
 pub record HearsOne (v : PlantView) (bound : BoundSpec) (tick : Bool) (old new : ReactionView) : Type 0 where
-  pub hears : (b : Beginning) (turns : List Turn) (said : List reaction.Said) → PlantStands b v turns → old ≡ view_of (limit_of b.links bound) said
-      → new ≡ view_of (limit_of b.links bound) (heard b bound tick (acts turns) said)
+  pub hears : (b : Beginning) (turns : List Turn) (before : List reaction.Heard) → PlantStands b v turns → old ≡ view_of (limit_of b.links bound) before
+      → new ≡ view_of (limit_of b.links bound) (heard b bound tick (acts turns) before)
 
 -- the reactions of these bounds are told of a line of the script, which may be a tick, by a plant that stands for the
 -- turns with it
 pub record HearsLine (v : PlantView) (bounds : List BoundSpec) (tick : Bool) (old new : List ReactionView) : Type 0 where
-  pub hears : (b : Beginning) (turns : List Turn) (said : BoundSpec → List reaction.Said) → PlantStands b v turns → old ≡ reactions_by b.links said bounds
-      → new ≡ reactions_by b.links (λ bound. heard b bound tick (acts turns) (said bound)) bounds
+  pub hears : (b : Beginning) (turns : List Turn) (before : BoundSpec → List reaction.Heard) → PlantStands b v turns → old ≡ reactions_by b.links before bounds
+      → new ≡ reactions_by b.links (λ bound. heard b bound tick (acts turns) (before bound)) bounds
 
 -- the lines of these bounds by a journal and by their reactions
 abbrev pub lines_by : List LinkConf → List JournalStep → List BoundSpec → List ReactionView → List ℕ

@@ -2,7 +2,7 @@
 use Rattle.std.specs.Prelude.{◌≡◌, ℕ, true, List, [], ◌∷◌, ◌++◌, codes, length, map, Some}
 use Rattle.schedule_file.specs.Input.{AtEnd, Line, NoApp, NoLine, NoNewline, Refused, Stop, input_read}
 use Rattle.schedule_file.specs.declared.line_cause.LineCause.TheVariants as cause
-use Rattle.plant_model.specs.FairPairs.{lengths_in}
+use Rattle.plant_model.specs.Fits.{lengths_in}
 use Rattle.plant_run.specs.Reporting.{run_stop}
 use Rattle.plant_run.specs.Script.{Script, script_format}
 use Rattle.plant_model.specs.Turns.{Named, said}

@@ -2,7 +2,7 @@
 ghost use Rattle.std.specs.Prelude.{◌≡◌, ◌≤◌, ◌<◌, [], ◌∷◌, ◌++◌, map, length};
 ghost use Rattle.file_run.specs.Event.{what_says};
 ghost use Rattle.plant_conf.specs.declared.conf.LinkConf.{LinkConf};
-ghost use Rattle.plant_model.specs.FairPairs.{lengths_in};
+ghost use Rattle.plant_model.specs.Fits.{lengths_in};
 ghost use Rattle.plant_run.specs.Script.{untitled};
 ghost use Rattle.plant_run.specs.ScriptLine.{plant_line};
 ghost use Rattle.schedule_file.specs.declared.line_buf.TheConstants.{MAX_LINE};

@@ -5,7 +5,7 @@ ghost use Rattle.schedule_file.specs.declared.line_buf.TheConstants.{MAX_LINE};
 ghost use Rattle.schedule_file.specs.FieldsRead.{fields_after};
 ghost use Rattle.plant_run.specs.ScriptLine.{plant_word_of, end_of_letter, existing, bare_line, app_line, put_line, link_and_switch, hold_line, cut_line, local_line, nonce_line, plant_line};
 ghost use Rattle.plant_run.specs.Running.{IsExisting, FieldsFit, LineFits};
-ghost use Rattle.plant_model.specs.FairPairs.{lengths_at};
+ghost use Rattle.plant_model.specs.Fits.{lengths_at};
 
 use fsoe_base::{End, Image, Lengths, MOST_DATA};
 use plant_model::{PlantEvent, PlantLine};

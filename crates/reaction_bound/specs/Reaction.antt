@@ -1,33 +1,33 @@
 -- When a reaction is broken: a drive is on though its stop was quiet (pressed) for so many ticks. Lists of what was
--- said are newest first.
+-- heard are newest first.
 use Rattle.std.specs.Prelude.{ℕ, suc, ◌-◌, nat_le, List, [], ◌∷◌, Bool, true, false, ◌||◌, Option, None}
 use Rattle.exchange_model.specs.Other.{first_of_both}
 
--- what is said to a reaction: whether the stop is quiet from now on, or that a tick ended with the drive on or off
-pub data Said : Type 0 where
-  Quiet : Bool → Said
-  Tick : Bool → Said
+-- what a reaction hears: whether the stop is quiet from now on, or that a tick ended with the drive on or off
+pub data Heard : Type 0 where
+  Quiet : Bool → Heard
+  Tick : Bool → Heard
 
--- the ticks that were said
-abbrev pub ticks : List Said → ℕ
+-- the ticks that were heard
+abbrev pub ticks : List Heard → ℕ
 ticks [] = 0
-ticks (Quiet is ∷ said) = ticks said
-ticks (Tick on ∷ said) = suc (ticks said)
+ticks (Quiet is ∷ heard) = ticks heard
+ticks (Tick on ∷ heard) = suc (ticks heard)
 
--- whether at least n ticks came since the stop was said to be quiet, without being said not to be after it
-abbrev pub quiet_for : ℕ → List Said → Bool
+-- whether at least n ticks came since the stop was heard to be quiet, without being heard not to be after it
+abbrev pub quiet_for : ℕ → List Heard → Bool
 quiet_for n [] = false
-quiet_for n (Quiet true ∷ said) = nat_le n 0 || quiet_for n said
-quiet_for n (Quiet false ∷ said) = false
-quiet_for n (Tick on ∷ said) = quiet_for (n - 1) said
+quiet_for n (Quiet true ∷ heard) = nat_le n 0 || quiet_for n heard
+quiet_for n (Quiet false ∷ heard) = false
+quiet_for n (Tick on ∷ heard) = quiet_for (n - 1) heard
 
--- whether the newest that was said is a late tick: the drive is on with it, and the stop was quiet for so many ticks,
+-- whether the newest that was heard is a late tick: the drive is on with it, and the stop was quiet for so many ticks,
 -- with it
-abbrev pub is_late : ℕ → List Said → Bool
-is_late limit (Tick true ∷ said) = quiet_for limit (Tick true ∷ said)
+abbrev pub is_late : ℕ → List Heard → Bool
+is_late limit (Tick true ∷ heard) = quiet_for limit (Tick true ∷ heard)
 is_late limit _ = false
 
 -- the number from 1 of the first late tick; none where no tick is late
-abbrev pub broken_of : ℕ → List Said → Option ℕ
+abbrev pub broken_of : ℕ → List Heard → Option ℕ
 broken_of limit [] = None
-broken_of limit (next ∷ said) = first_of_both (broken_of limit said) (is_late limit (next ∷ said)) (ticks (next ∷ said))
+broken_of limit (next ∷ heard) = first_of_both (broken_of limit heard) (is_late limit (next ∷ heard)) (ticks (next ∷ heard))

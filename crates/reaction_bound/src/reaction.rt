@@ -22,7 +22,7 @@ impl Model for Reaction {
 impl Reaction {
     ghost use Rattle.std.specs.Prelude.{◌≡◌, ◌<◌, ◌+◌, ◌^◌, ◌&&◌, ℕ, List, []};
     ghost use Rattle.exchange_model.specs.Other.{first_of_both};
-    ghost use Rattle.reaction_bound.specs.Reaction.{Said, Quiet, Tick, broken_of};
+    ghost use Rattle.reaction_bound.specs.Reaction.{Heard, Quiet, Tick, broken_of};
     ghost use Rattle.reaction_bound.specs.Kept.{Hears, is_long, view_of};
 
     /// Creates a reaction that observed nothing. The drive must be off at the `limit`-th tick after the stop was
@@ -86,7 +86,7 @@ impl Reaction {
     /// Returns the number, from 1, of the first late tick, or None if there is none. A tick is late if the drive is on,
     /// and at least `limit` ticks, itself counted, came since the stop was pressed, without a break.
     pub fn broken(&self) -> Option<u64>
-        ensures { (limit : ℕ) (said : List Said) → self.now ≡ view_of limit said → result ≡ broken_of limit said }
+        ensures { (limit : ℕ) (heard : List Heard) → self.now ≡ view_of limit heard → result ≡ broken_of limit heard }
     {
         self.broken
     }
