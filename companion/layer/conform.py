@@ -103,7 +103,10 @@ def run(given: argparse.Namespace, tool: Tool) -> int:
         raise Complaint(f"there is no program {given.command[0]}")
     results = list(results_of(given, tool))
     print("\n".join(table(results)))
-    firsts = {(case.rule, case.end): (case, count, found) for case, count, found in reversed(results) if found}
-    for case, count, found in reversed(firsts.values()):
-        print(difference_text(case, count, found))
+    firsts: dict[tuple[str, str], Result] = {}
+    for case, count, found in results:
+        if found:
+            firsts.setdefault((case.rule, case.end), (case, count, found))
+    for first in firsts.values():
+        print(difference_text(*first))
     return 1 if firsts else 0

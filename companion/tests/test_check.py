@@ -10,7 +10,7 @@ from conftest import TOOL, TOP, gatepast
 from hypothesis import given, strategies
 from layer.check import warnings
 from layer.explain import expected, explained
-from layer.forms import KEYS, KINDS
+from layer.forms import HEADER, KEYS, KINDS
 from layer.net import Net
 from layer.vectors import check_named
 from layer.words import code_words
@@ -65,13 +65,25 @@ def test_what_cannot_be_seen_is_shown():
     )
 
 
+NUMBER = r"\d[\d,]*\d|\d"
 RANGE = r"\d+ to \d[\d,]*\d"
+PAGE = (TOP / "docs" / "formats.md").read_text()
+
+
+def test_numbers_of_forms_are_those_of_the_page():
+    for kind in KINDS.values():
+        for word, form in [(word, HEADER[word]) for word in kind.header] + [*kind.events.items()]:
+            word = word.removeprefix("<k> ")
+            of_master = word[0] + "m" if word[1:] == "s" else word
+            told = "\n".join(re.findall(rf"`{of_master}[` ].*(?:\n[^|\n].*)?", PAGE))
+            assert set(re.findall(NUMBER, form)) <= set(re.findall(NUMBER, told)), form
+    others = {"image": "2,000 events", "plant": "2,000 events", "trace": "200,000 frames", "pairs": "200,000 entries"}
+    for first, kind in KINDS.items():
+        assert kind.most == others.get(first.split(" ")[2], "200,000 events"), first
 
 
 def test_keys_are_those_of_the_page():
-    page = (
-        (TOP / "docs" / "formats.md").read_text().partition("## The configuration of a plant")[2].partition("\n## ")[0]
-    )
+    page = PAGE.partition("## The configuration of a plant")[2].partition("\n## ")[0]
     rows = re.findall(r"^\| (?:`\[+(\w+)\]+`[^|]*)?\| `(\w+)` \| ([^|]*)", page, re.M)
     found, table = {}, ""
     for name, key, value in rows:
@@ -100,6 +112,8 @@ def test_lines_of_a_configuration_are_found():
 def test_what_few_reports_have_is_explained():
     assert explained("refused 2 Position", "fsoe 1 image\nw 1 00")[2] == "the bytes leave the image"
     assert all(len(explained(last, None)) == 2 for last in ("desk failed", "usage: fsoe_tool"))
+    for number, wanted in enumerate(("a drive's wire names", "a wire of block 1 names")):
+        assert explained(f"config Later {number}", EXAMPLE)[-1].startswith(wanted)
     assert [code_words(code) for code in ("7f", "80")] == ["no code of this protocol", "device specific"]
 
 
@@ -205,7 +219,8 @@ def test_what_is_not_guarded_can_be_on(tmp_path):
 def test_what_is_meant_gives_no_warning():
     net = EXAMPLE.replace("watchdog = 5", "watchdog = 5\nmost = 5") + BOUND.format(0, 0)
     mirror = EXAMPLE.replace('app = "net"', 'app = "mirror"') + BOUND.format(0, 0).replace("i1", "i2")
-    assert [*warnings(net, True), *warnings(mirror, True)] == []
+    zeros = EXAMPLE.replace('app = "net"', 'app = "zeros"').replace('from = "b6"', 'from = "b1"')
+    assert [*warnings(net, True), *warnings(mirror, True), *warnings(zeros, True)] == []
 
 
 def test_reaction_times_are_those_of_the_duties(tmp_path):

@@ -7,7 +7,7 @@ import example_node
 import pytest
 from conftest import COMPANION, TOOL, TOP, gatepast
 from hypothesis import given, strategies
-from layer.rules import RULES
+from layer.rules import RULES, SETTINGS
 
 EXAMPLE = COMPANION / "example_node.py"
 ALTERED = (  # one line each
@@ -24,6 +24,16 @@ ALTERED = (  # one line each
     ("        if self.session_id is None:", "        if True:"),
     ("            return connection != 0", "            return True"),
     ("return self.watchdog or self.settings", "return self.settings"),
+    ("        self.outputs = data if command == PROCESS else bytes(self.receives)", "        self.outputs = data"),
+    (r'bytes([code]).ljust(length, b"\0")', r'bytes([code]).ljust(length, b"\1")'),
+    (
+        "        return crcs == crcs_of(data, last, connection, number, command)",
+        "        return crcs[:3] == crcs_of(data, last, connection, number, command)[:3]",
+    ),
+    (
+        "        return crcs == crcs_of(data, last, connection, number, command)",
+        "        return any(crcs == crcs_of(data, last, connection, n, command) for n in (number, number + 1))",
+    ),
 )
 
 
@@ -125,7 +135,7 @@ def test_the_proved_program_passes():
     assert "differs" not in said and "not tried" not in said
 
 
-@pytest.mark.parametrize("old, new", ALTERED, ids=[old.strip() for old, _ in ALTERED])
+@pytest.mark.parametrize("old, new", ALTERED, ids=[new.strip() for _, new in ALTERED])
 def test_altered_examples_are_caught(tmp_path, old, new):
     text = EXAMPLE.read_text()
     assert text.count(old) == 1
@@ -141,6 +151,10 @@ def test_programs_that_end_or_say_nothing_differ():
     for command in (["true"], ["cat"], ["sleep", "99"], ["yes"], [sys.executable, "-c", half]):
         status, said, _ = gatepast("conform", "--first", "--seeds", 0, "--patience", 0.1, "--", *command)
         assert status == 1 and "came" in said
+    status, said, _ = gatepast("conform", "--seeds", 0, "--patience", 0.1, "--", "true")
+    assert status == 1 and re.findall(r"^(.*), (slave|master), (.*): answer 1 differs$", said, re.M) == [
+        (rule, end, SETTINGS[0].name) for rule, *_ in RULES for end in ("slave", "master")
+    ]
     status, said, why = gatepast("conform", "--", "no-such-program")
     assert (status, said) == (2, "") and "no-such-program" in why
 

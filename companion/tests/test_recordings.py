@@ -55,8 +55,10 @@ def test_captures_have_the_frames_of_a_report(frames):
 def test_a_report_without_frames_leaves_no_file(tmp_path):
     status, said, why = gatepast("pcap", "-", "--into", tmp_path / "a.pcap", text="events 0\n")
     assert (status, said) == (2, "") and "no line of a replay" in why and not list(tmp_path.iterdir())
-    status, said, why = gatepast("pcap", "-", "--into", tmp_path / "no" / "a.pcap", text="1 m again Reset 00 > 2a\n")
-    assert (status, said) == (2, "") and "can't be written" in why
+    for into in (tmp_path / "no" / "a.pcap", tmp_path):
+        status, said, why = gatepast("pcap", "-", "--into", into, text="1 m again Reset 00 > 2a\n")
+        assert (status, said) == (2, "") and "can't be written" in why
+        assert not [*tmp_path.iterdir(), *tmp_path.parent.glob("*.part")]
 
 
 def test_the_dissector_has_the_words_of_the_page():
@@ -67,34 +69,40 @@ def test_the_dissector_has_the_words_of_the_page():
     assert {int(byte, 16): name for byte, name in commands} == COMMANDS
 
 
+def dissected(folder, report, names, lengths):
+    """What the dissector tells of each frame of a report under these names, if it is told these lengths."""
+    (folder / "a.pcap").write_bytes(PCAP + b"".join(packets(report, 52000)))
+    words = ["tshark", "-X", f"lua_script:{COMPANION / 'gatepast.lua'}", "-r", folder / "a.pcap", "-T", "fields"]
+    for name, number in zip(("port", "master_length", "slave_length"), (52000, *lengths.split(" "))):
+        words += ["-o", f"gatepast.{name}:{number}"]
+    words += [word for name in names for word in ("-e", name)]
+    return [line.split("\t") for line in subprocess.run(words, capture_output=True, text=True).stdout.splitlines()]
+
+
 @WITH_TSHARK
 @pytest.mark.parametrize("lengths", ("1 1", "4 6"))
 def test_the_dissector_reads_each_frame(tmp_path, lengths):
-    report = report_of(["ds -1", "dm -1"] * 20, lengths)
-    (tmp_path / "a.pcap").write_bytes(PCAP + b"".join(packets(report, 52000)))
-    names = ("sender", "command", "code", "data", "crc", "connection")
-    words = ["-o", "gatepast.port:52000", *(word for name in names for word in ("-e", f"gatepast.{name}"))]
-    for number, name in enumerate(("master", "slave")):
-        words += ["-o", f"gatepast.{name}_length:{lengths.split(' ')[number]}"]
-    words = [
-        "tshark",
-        "-X",
-        f"lua_script:{COMPANION / 'gatepast.lua'}",
-        "-r",
-        tmp_path / "a.pcap",
-        "-T",
-        "fields",
-        *words,
-    ]
-    said = subprocess.run(words, capture_output=True, text=True).stdout.splitlines()
+    report = report_of([f"pm {'ab' * int(lengths[0])}", *["ds -1", "dm -1"] * 20], lengths)
+    names = [f"gatepast.{name}" for name in ("sender", "command", "code", "data", "crc", "connection")]
+    said = dissected(tmp_path, report, [*names, "_ws.col.Info"], lengths)
     for line, (end, frame) in zip(said, frames_in(report), strict=True):
-        sender, command, code, data, crcs, connection = line.split("\t")
+        sender, command, code, data, crcs, connection, info = line
         assert code == (f"0x{frame[2:4]}" if command == "0x2a" else "")
+        assert info == f"{sender} {COMMANDS[int(command, 16)]} {data}"
         groups = re.findall("..?.?.?" if data[2:] else "..", data)
         again = f"{int(command, 16):02x}" + "".join(
             group + struct.pack("<H", int(crc, 16)).hex() for group, crc in zip(groups, crcs.split(","), strict=True)
         )
         assert (sender[0], again + struct.pack("<H", int(connection)).hex()) == (end, frame)
+
+
+@WITH_TSHARK
+@pytest.mark.parametrize("lengths, right", (("0 0", [{6, 7, 11, 255}] * 2), ("1 4", [{6}, {11}]), ("4 1", [{11}, {6}])))
+def test_the_dissector_finds_wrong_lengths(tmp_path, lengths, right):
+    frames = [(end, length) for length in (1, 2, 3, 5, 6, 7, 8, 9, 10, 11, 13, 255, 259) for end in (0, 1)]
+    report = "".join(f"{at} {'ms'[end]} again Reset 00 > {'2a' * length}\n" for at, (end, length) in enumerate(frames))
+    said = dissected(tmp_path, report, ["gatepast.length", "gatepast.command"], lengths)
+    assert said == [["", "0x2a"] if length in right[end] else ["1", ""] for end, length in frames]
 
 
 def test_recordings_are_judged_session_by_session():
