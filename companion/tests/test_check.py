@@ -40,23 +40,32 @@ def test_each_refusal_is_explained():
         assert not re.search(r"[{}]", "".join(lines[1:]).replace(text, "")) or "{" in text, (name, lines)
 
 
-def test_header_lines_are_expected_where_they_may_stand():
-    for name, last, _, text in RUNS:
-        lines = text.split("\n")
-        if found := re.fullmatch(r"refused (\d+) (\w+)", last):
-            number, cause = int(found[1]), found[2]
-            if (
-                lines[0] in KINDS
-                and "go" not in lines[: number - 1]
-                and 1 < number < len(lines)
-                and KINDS[lines[0]].header
-            ):
-                words = {form.split(" ")[0].rstrip(",") for form in expected(lines, number)}
-                assert (lines[number - 1].split(" ")[0] in words) == (cause not in ("Header", "Long")), (
-                    name,
-                    last,
-                    words,
-                )
+LENGTHS = ["lengths 2 2"]
+MASTER = ["master 1 2 100 1", "profile 7", "app 0a", "app 0b"]
+SLAVE = ["slave 2 200 1000 2", "profile 7", "rule exact", "bytes 0a", "bytes 0b"]
+RANGES = ["slave 2 200 1000 2", "rule ranges", "range 0001", "range 0001"]
+BOTH = [*LENGTHS, *MASTER, "slave 2 200 1000 2", "profile 7", "rule any 2"]
+
+
+@pytest.mark.parametrize(
+    "command, first, lines",
+    (
+        ("node master", "fsoe 1 node master", [*LENGTHS, *MASTER]),
+        ("node slave", "fsoe 1 node slave", [*LENGTHS, *SLAVE]),
+        ("node slave", "fsoe 1 node slave", [*LENGTHS, *RANGES]),
+        ("replay", "fsoe 1 pair", BOTH),
+        ("replay", "fsoe 2 pairs", ["pair 1", *BOTH, "pair 2", *LENGTHS, "master 2 2 100 1", *SLAVE]),
+        ("image", "fsoe 1 image", ["size 14 14", "slot 1 0 0", *LENGTHS, *SLAVE, "slot 2 7 7", *LENGTHS, *MASTER]),
+        ("diagnose", "fsoe 1 trace", LENGTHS),
+    ),
+)
+def test_header_lines_are_expected_where_they_may_stand(command, first, lines):
+    lines = [first, *lines, "go"]
+    for at in range(1, len(lines)):
+        words = {form.split(" ")[0].rstrip(",") for form in expected(lines[:at], at + 1)}
+        for word in HEADER:
+            report = TOOL.ask(*command.split(" "), text="\n".join([*lines[:at], f"{word} x", ""]))[1]
+            assert (word in words) == (not report.endswith(f"refused {at + 1} Header\n")), (lines[:at], word, report)
 
 
 def test_what_cannot_be_seen_is_shown():
