@@ -1,24 +1,55 @@
 -- The words that name the command of the program, and what it does.
-use Rattle.std.specs.Prelude.{ℕ, List, [], ◌∷◌, codes, Some, None, if◌then◌else◌}
-use Rattle.std.specs.declared.option.Option.{Option}
+use Rattle.std.specs.Prelude.{ℕ, ◌+◌, nat_le, List, [], ◌∷◌, codes, Option, Some, None, if◌then◌else◌}
 use Rattle.std.specs.Str.{bytes_eq}
 use Rattle.fsoe_io.specs.declared.status.Ended.{Ended}
 use Rattle.fsoe_io.specs.declared.status.Status.TheVariants as status
 use Rattle.file_run.specs.Outside.{Outside}
 use Rattle.plant_file.specs.Handed.{DeskTold, Handed}
-use Rattle.plant_file.specs.Noted.{RanNoted}
+use Rattle.plant_file.specs.Noted.{RanWanted}
 use Rattle.plant_file.specs.Plant.{RanFile, WroteLine}
+use Rattle.plant_file.specs.declared.noted.Wanted.{Wanted}
+use Rattle.plant_file.specs.declared.noted.Wanted.TheVariants as wanted
+use Rattle.rate_channel.specs.declared.rate_channel.Rates.{Rates}
+use Rattle.schedule_file.specs.Field.{number_said}
+use Rattle.fsoe_lab.specs.declared.command.Trial.{Trial}
 
--- the file that words name: the second of two, where the first is `journal`
-abbrev pub file_named : List (List ℕ) → Option (List ℕ)
-file_named (word ∷ file ∷ []) = if bytes_eq word (codes "journal") then Some file else None
-file_named words = None
+-- numbers that are at most 10,000 together
+abbrev pub rates_of : Option ℕ → Option ℕ → Option ℕ → Option ℕ → Option Rates
+rates_of (Some lose) (Some alter) (Some repeat) (Some late) =
+    if nat_le (lose + alter + repeat + late) 10000 then Some (record { lose = lose; alter = alter; repeat = repeat; late = late }) else None
+rates_of lose alter repeat late = None
 
--- the line that is written where the words name no file
+-- the rates that words name: four, or none, where all are 0
+abbrev pub rates_said : List (List ℕ) → Option Rates
+rates_said [] = Some (record { lose = 0; alter = 0; repeat = 0; late = 0 })
+rates_said (lose ∷ alter ∷ repeat ∷ late ∷ []) = rates_of (number_said 10000 lose) (number_said 10000 alter) (number_said 10000 repeat) (number_said 10000 late)
+rates_said words = None
+
+abbrev pub wanted_by : List ℕ → Option Wanted
+wanted_by word =
+    if bytes_eq word (codes "journal") then Some wanted.Journal
+    else if bytes_eq word (codes "rates") then Some wanted.Report
+    else None
+
+abbrev pub trial_of : Option Wanted → Option Rates → Option Trial
+trial_of (Some wanted) (Some rates) = Some (record { wanted = wanted; rates = rates })
+trial_of wanted rates = None
+
+-- what words name: `journal` or `rates`, a file, and rates
+abbrev pub trial_said : List (List ℕ) → Option Trial
+trial_said (word ∷ file ∷ rates) = trial_of (wanted_by word) (rates_said rates)
+trial_said words = None
+
+-- the file that words name: the second of them
+abbrev pub file_named : List (List ℕ) → List ℕ
+file_named (word ∷ file ∷ words) = file
+file_named words = []
+
+-- the line that is written where the words name nothing
 abbrev pub usage_line : List ℕ
-usage_line = codes "usage: fsoe_lab journal <file>\n"
+usage_line = codes "usage: fsoe_lab journal|rates <file> [<lose> <alter> <repeat> <late>]\n"
 
 -- what holds of the run of what the words name: a plant ran by the file; without one the usage line was written
-abbrev pub Runs : {C : Type 0} → Option (List ℕ) → Ended → Outside → DeskTold → Handed C → Type 0
+abbrev pub Runs : {C : Type 0} → Option Trial → Ended → Outside → DeskTold → Handed C → Type 0
 Runs None ended o desk h = WroteLine usage_line status.Usage ended o h
-Runs (Some file) ended o desk h = RanFile RanNoted ended o desk h
+Runs (Some trial) ended o desk h = RanFile (RanWanted trial.wanted) ended o desk h

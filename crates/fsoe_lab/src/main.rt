@@ -1,14 +1,17 @@
-//! A second program for trials: `journal` runs a plant over standard input and writes the plant's journal to standard
-//! output.
+//! A second program for trials: `rates` runs a plant over standard input, also over a channel with chosen rates, and
+//! `journal` writes the plant's journal in place of its report.
 #![tactic(auto)]
 
+mod command;
 mod run;
 
 use black_channel::{Channel, HostileChannel, PerfectChannel};
+use command::trial_said;
 use fb_net::{AppEntry, Mirror, Zeros};
 use fsoe_base::Memory;
 use fsoe_io::{FileDesk, Status, StdSink, StdSource};
 use plant_run::Journal;
+use rate_channel::{RateChannel, Rates};
 use run::run;
 use std::process::ExitCode;
 use std::{env, io};
@@ -51,6 +54,10 @@ fn run_program(rt: HostRuntime) -> Option<Status> {
         .ok()?;
     channels
         .push(Box::new(alloc, HostileChannel::new(alloc).ok()?).ok()?)
+        .ok()?;
+    let rates = trial_said(words.as_slice()).map_or(Rates::default(), |trial| trial.rates);
+    channels
+        .push(Box::new(alloc, RateChannel::new(alloc, rates).ok()?).ok()?)
         .ok()?;
     let mut desk = FileDesk::new(rt);
     let mut source = StdSource::new(rt.stdin());

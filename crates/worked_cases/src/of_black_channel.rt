@@ -3,6 +3,7 @@ ghost use Rattle.std.specs.Prelude.{◌≤◌};
 use black_channel::{Channel, HostileChannel, PerfectChannel, Place, Window};
 use fsoe_base::{End, FrameBuf};
 use fsoe_io::LineText;
+use rate_channel::{RateChannel, Rates};
 use std::alloc::Global;
 use std::test::Fail;
 
@@ -145,6 +146,54 @@ fn a_hostile_channel_does_what_its_words_say(rt: HostRuntime) -> Result<(), Fail
         }
         push_parcels(&mut channel, most.min(12));
         assert_eq!(rt; first_unlike(&mut channel, row), None, "seed {seed:?}");
+    }
+    Ok(())
+}
+
+/// What a channel of chosen rates gives: to lose, alter, repeat and delay; then as `HOSTILE`, of which the rows were
+/// made in the same way.
+const RATED: [([u16; 4], u64, u8, &str); 6] = [
+    (
+        [2500, 2500, 2500, 2500],
+        0,
+        6,
+        "1m:1031 2s:202122 - 2s:202122 - 4s:40 4s:40 - 5m:5071 6s:206162 -",
+    ),
+    (
+        [2000, 2000, 2000, 4000],
+        4,
+        12,
+        "1m:1011 1m:1011 3m:30b13233 4s:40 - 5m:5051 - 5m:5051 6s:606162 7m:70317273 8s:80 8s:80 9m:9091 - 9m:9091 10s:a0a1a2 11m:b0b1b2b3 12s:c0 -",
+    ),
+    (
+        [0, 10_000, 0, 0],
+        18_446_744_073_709_551_615,
+        6,
+        "1m:1091 2s:202102 3m:3031b233 4s:60 5m:5251 6s:606160 -",
+    ),
+    (
+        [0, 0, 10_000, 0],
+        2,
+        3,
+        "1m:1011 1m:1011 2s:202122 2s:202122 3m:30313233 3m:30313233 -",
+    ),
+    ([10_000, 0, 0, 0], 7, 6, "- -"),
+    ([0, 0, 0, 0], 2, 4, "1m:1011 2s:202122 3m:30313233 4s:40 -"),
+];
+
+#[test]
+fn a_channel_of_rates_does_what_its_words_say(rt: HostRuntime) -> Result<(), Fail> {
+    for ([lose, alter, repeat, late], seed, most, row) in RATED {
+        let rates = Rates {
+            lose,
+            alter,
+            repeat,
+            late,
+        };
+        let mut channel = RateChannel::new(rt.alloc(), rates).ok().ok_or("no memory")?;
+        channel.begin(seed);
+        push_parcels(&mut channel, most.min(12));
+        assert_eq!(rt; first_unlike(&mut channel, row), None, "seed {seed}");
     }
     Ok(())
 }
