@@ -1,5 +1,5 @@
-//! The FSoE masters of up to 64 connections, with one application. It computes the data that all masters send from the
-//! data that all received (SafeInputs in ETG.5100). It runs once per tick, once when it replaces another application or
+//! The FSoE masters of up to 64 connections, with one application. From the data that all masters received (SafeInputs
+//! in ETG.5100) it computes the data that all send. It runs once per tick, once when it replaces another application or
 //! `first_cycle` is called, and once for each frame that is taken or ends a session, before the reply is built. Nothing
 //! else passes from one connection to another. The program passes in frames and ticks, and sends what is written:
 //!

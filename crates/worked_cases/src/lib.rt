@@ -2,8 +2,8 @@
 //! and sinks in memory that fail, and compare with values that were found without this code. What the program does is
 //! tested in `runs/`. What a contract states needs no test.
 //!
-//! Tests have crates of their own, since a crate would be proved twice if it had tests. Those of the ends and of what
-//! runs them are in `worked_ends`.
+//! Tests have crates of their own, since a crate would be proved twice if it had tests. Those of single ends and of the
+//! crates around them are in `worked_ends`, those of complete runs in `worked_runs`.
 #![tactic(auto)]
 
 #[cfg(test)]
