@@ -32,15 +32,6 @@ fn begins(code: Code) -> bool
     code.0 == 0x00
 }
 
-/// Returns the bytes of a Reset frame, to keep as those of the last frame taken.
-fn kept(view: &FrameView<'_>) -> FrameBuf
-    ensures { result ≡ bytes_of view.now }
-{
-    let mut last = FrameBuf::new();
-    last.set(view.bytes());
-    last
-}
-
 /// Reports that a Reset frame was taken, and that nothing was sent yet.
 fn tell_reset(view: &FrameView<'_>, did: &mut Did)
     ensures { did.new ≡ record (takes command.Reset view.now.load false) { sent = false } }
@@ -157,7 +148,7 @@ impl Master {
             did.dropped = Some(Dropped::InReset);
             return;
         }
-        self.phase = Phase::Begin(kept(view));
+        self.phase.begin(view);
         self.owe(Code::LOCAL_RESET);
         tell_reset(view, did);
     }

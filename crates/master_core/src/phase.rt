@@ -7,6 +7,7 @@ use crate::kit::Kit;
 use crate::states::{Due, InConnection, InData, InParameter, InReset, InSession};
 use failsafe_io::zeros;
 use fsoe_base::{Code, Command, FrameBuf, MOST_DATA, State};
+use fsoe_frame::FrameView;
 use param_load::{MasterSettings, Progress, Terms};
 use seq_chain::{Link, Session, SessionFrame, reset_frame, test_session};
 use std::mem;
@@ -36,6 +37,7 @@ fn has_conn(settings: &MasterSettings, command: Command, field: u16) -> bool
 impl Phase {
     ghost use Rattle.std.specs.Prelude.{◌≡◌, ◌≤◌, length, Some, IfOk, option_copied};
     ghost use Rattle.std.specs.Result.{result_err};
+    ghost use Rattle.fsoe_frame.specs.Parts.{bytes_of};
     ghost use Rattle.seq_chain.specs.Session.{tested, HasPassed};
     ghost use Rattle.master_core.specs.declared.states.Due.{Due};
     ghost use Rattle.master_core.specs.declared.states.Exchange.{Exchange};
@@ -135,6 +137,18 @@ impl Phase {
     // A function clears the room of all its locals, so that each change of phase, which makes a state, has one of its
     // own.
 
+    /// This Reset frame begins a session; it is kept as the last frame that was taken.
+    #[inline(never)]
+    pub(crate) fn begin(&mut self, reset: &FrameView<'_>)
+        ensures { self.new ≡ phase.Begin (bytes_of reset.now) }
+    {
+        *self = Phase::Begin(FrameBuf::new());
+        let Phase::Begin(last) = self else {
+            unreachable!();
+        };
+        last.set(reset.bytes());
+    }
+
     /// Goes on to state Connection after the last answer in state Session.
     #[inline(never)]
     fn begin_connection(&mut self, kit: &Kit)
@@ -216,7 +230,11 @@ impl Phase {
             unreachable!();
         };
         let last = mem::replace(last, FrameBuf::new());
-        *self = Phase::Session(InSession::begin(last, kit, out));
+        *self = Phase::Session(InSession::begin(last, kit));
+        let Phase::Session(state) = self else {
+            unreachable!();
+        };
+        state.send(kit, out);
     }
 
     /// The terms in state Data.

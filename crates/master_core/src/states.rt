@@ -117,20 +117,18 @@ impl Exchange {
 }
 
 impl InSession {
-    /// Begins a session, which this Reset frame of the slave led to, by the first Session frame. The master's session
-    /// id is its nonce at this moment.
-    pub(crate) fn begin(last: FrameBuf, kit: &Kit, out: &mut FrameBuf) -> InSession
-        ensures next { result ≡ piece_sent command.Session 0 kit.now (first_exchange kit.now last) }
-        ensures sent { out.new ≡ piece_frame command.Session 0 kit.now (first_exchange kit.now last) }
+    /// A session that this Reset frame of the slave led to, before its first frame. The master's session id is its
+    /// nonce at this moment.
+    pub(crate) fn begin(last: FrameBuf, kit: &Kit) -> InSession
+        ensures next { result ≡ first_exchange kit.now last }
         ensures under { ExchangeUnder kit.now.settings result }
     {
-        let exchange = Exchange {
-            session: Session::after(last),
-            download: kit.session_download(),
-        };
-        let mut state = InSession { exchange };
-        state.send(kit, out);
-        state
+        InSession {
+            exchange: Exchange {
+                session: Session::after(last),
+                download: kit.session_download(),
+            },
+        }
     }
 
     /// Sends the current piece of the session id.

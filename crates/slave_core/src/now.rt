@@ -5,7 +5,6 @@ use crate::states::{InConnection, InData, InParameter, InReset, InSession};
 use fsoe_base::{Code, Command, FrameBuf, State};
 use param_load::Terms;
 use seq_chain::{Link, Session, SessionFrame, test_session};
-use std::mem;
 
 /// The state that a slave is in.
 #[derive(Debug, Drop)]
@@ -149,76 +148,71 @@ impl Now {
         *self = state(next);
     }
 
-    // A function clears the room of all its locals where it begins, so that each change of phase, which moves states,
-    // has one of its own. What a transition refuses leaves state Reset.
+    // A function clears the room of all its locals where it begins, so that each change of phase has one of its own.
+    // The next state answers where it lies, so that it isn't moved.
 
-    /// Begins state Session in place of Reset, by `InReset::start`.
+    /// Begins state Session in place of Reset.
     #[inline(never)]
     fn start(&mut self, seen: &Seen<'_>, kit: &Kit, out: &mut FrameBuf) -> Result<(), Code>
         requires { BeginsNext kit.now.settings state.Reset self.old seen.now.frame seen.now.link }
         ensures { Advances kit.now self.old seen.now.frame result self.new out.new }
     {
-        match InReset::new().start(seen, kit, out) {
-            Ok(next) => {
-                self.enter(next, Now::Session);
-                Ok(())
-            }
-            Err((_, code)) => Err(code),
-        }
+        self.enter(InReset::to_session(kit), Now::Session);
+        let Now::Session(state) = self else {
+            unreachable!();
+        };
+        state.answer(seen, kit, out)
     }
 
-    /// Begins state Connection in place of Session, by `InSession::connect`.
+    /// Begins state Connection in place of Session.
     #[inline(never)]
     fn connect(&mut self, seen: &Seen<'_>, kit: &Kit, out: &mut FrameBuf) -> Result<(), Code>
         requires { BeginsNext kit.now.settings state.Session self.old seen.now.frame seen.now.link }
         ensures { Advances kit.now self.old seen.now.frame result self.new out.new }
     {
-        let Now::Session(state) = mem::replace(self, Now::Reset(InReset::new())) else {
+        let Now::Session(state) = self else {
             unreachable!();
         };
-        match state.connect(seen, kit, out) {
-            Ok(next) => {
-                self.enter(next, Now::Connection);
-                Ok(())
-            }
-            Err((_, code)) => Err(code),
-        }
+        let next = state.to_connection(seen.frame.conn(), kit);
+        self.enter(next, Now::Connection);
+        let Now::Connection(state) = self else {
+            unreachable!();
+        };
+        state.answer(seen, kit, out)
     }
 
-    /// Begins state Parameter in place of Connection, by `InConnection::load`.
+    /// Begins state Parameter in place of Connection.
     #[inline(never)]
     fn load(&mut self, seen: &Seen<'_>, kit: &Kit, out: &mut FrameBuf) -> Result<(), Code>
         requires { BeginsNext kit.now.settings state.Connection self.old seen.now.frame seen.now.link }
         ensures { Advances kit.now self.old seen.now.frame result self.new out.new }
     {
-        let Now::Connection(state) = mem::replace(self, Now::Reset(InReset::new())) else {
+        let Now::Connection(state) = self else {
             unreachable!();
         };
-        match state.load(seen, kit, out) {
-            Ok(next) => {
-                self.enter(next, Now::Parameter);
-                Ok(())
-            }
-            Err((_, code)) => Err(code),
-        }
+        let next = state.to_parameter(kit);
+        self.enter(next, Now::Parameter);
+        let Now::Parameter(state) = self else {
+            unreachable!();
+        };
+        state.answer(seen, kit, out)
     }
 
-    /// Begins state Data in place of Parameter, by `InParameter::run`.
+    /// Begins state Data in place of Parameter.
     #[inline(never)]
     fn run(&mut self, seen: &Seen<'_>, kit: &Kit, out: &mut FrameBuf) -> Result<(), Code>
         requires { BeginsNext kit.now.settings state.Parameter self.old seen.now.frame seen.now.link }
         ensures { Advances kit.now self.old seen.now.frame result self.new out.new }
     {
-        let Now::Parameter(state) = mem::replace(self, Now::Reset(InReset::new())) else {
+        let Now::Parameter(state) = self else {
             unreachable!();
         };
-        match state.run(seen, kit, out) {
-            Ok(next) => {
-                self.enter(next, Now::Data);
-                Ok(())
-            }
-            Err((_, code)) => Err(code),
-        }
+        let next = state.to_data(kit);
+        self.enter(next, Now::Data);
+        let Now::Data(state) = self else {
+            unreachable!();
+        };
+        state.answer(seen, kit, out)
     }
 
     /// Takes a frame that passed the tests in this state: a phase goes on in place until its payload is complete, and

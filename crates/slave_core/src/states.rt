@@ -19,6 +19,7 @@ use failsafe_io::{Outputs, data_holds};
 use fsoe_base::{Code, Command, FrameBuf};
 use param_load::{AppBytes, Payload, Pieces, Terms, padded};
 use seq_chain::Session;
+use std::mem;
 
 /// No session.
 #[derive(Debug, Drop)]
@@ -84,12 +85,19 @@ impl InReset {
         ensures goes_on { GoesOn (now.Reset self) kit.now seen.now.frame (as_now now.Session result) out.old out.new }
         ensures under { IfOk result (λ s. SessionUnder kit.now.settings s) }
     {
-        let begun = InSession {
+        InReset::to_session(kit).more(seen, kit, out)
+    }
+
+    /// State Session of a new session, before anything of its payload came.
+    pub(crate) fn to_session(kit: &Kit) -> InSession
+        ensures next { result ≡ starting kit.now }
+        ensures under { SessionUnder kit.now.settings result }
+    {
+        InSession {
             session: Session::new(),
             id: kit.nonce(),
             upload: Pieces::session(kit.settings().piece_len(), kit.profile()),
-        };
-        begun.more(seen, kit, out)
+        }
     }
 
     /// Returns state Reset.
@@ -131,7 +139,7 @@ impl InSession {
     /// wrong connection id, 06h for a wrong slave address, 07h for padding that isn't 0.
     #[tactic(auto, using(crate::proofs::Transitions::goes_by))]
     pub fn connect(
-        self,
+        mut self,
         seen: &Seen<'_>,
         kit: &Kit,
         out: &mut FrameBuf,
@@ -146,14 +154,20 @@ impl InSession {
         ensures goes_on { GoesOn (now.Session self) kit.now seen.now.frame (as_now now.Connection result) out.old out.new }
         ensures under { IfOk result (λ s. ConnectionUnder kit.now.settings s) }
     {
-        let conn = seen.frame.conn();
+        let begun = self.to_connection(seen.frame.conn(), kit);
+        begun.more(seen, kit, out)
+    }
+
+    /// State Connection of this session, before anything of its payload came. This state must only be left.
+    pub(crate) fn to_connection(&mut self, conn: u16, kit: &Kit) -> InConnection
+        ensures { result ≡ connecting kit.now self.old conn }
+    {
         let settings = kit.settings();
-        let begun = InConnection {
-            session: self.session,
+        InConnection {
+            session: mem::replace(&mut self.session, Session::new()),
             conn,
             upload: Pieces::connection(settings.piece_len(), conn, settings.address()),
-        };
-        begun.more(seen, kit, out)
+        }
     }
 
     /// Does the same as `more`, in place. After a refusal the state must only be left.
@@ -223,7 +237,7 @@ impl InConnection {
     /// for a wrong number of application parameters, 0Bh if these break the rule, 07h for padding that isn't 0.
     #[tactic(auto, using(crate::proofs::Transitions::goes_by))]
     pub fn load(
-        self,
+        mut self,
         seen: &Seen<'_>,
         kit: &Kit,
         out: &mut FrameBuf,
@@ -238,9 +252,16 @@ impl InConnection {
         ensures goes_on { GoesOn (now.Connection self) kit.now seen.now.frame (as_now now.Parameter result) out.old out.new }
         ensures under { IfOk result (λ s. ParameterUnder kit.now.settings s) }
     {
+        self.to_parameter(kit).more(seen, kit, out)
+    }
+
+    /// State Parameter of this session, before anything of its payload came. This state must only be left.
+    pub(crate) fn to_parameter(&mut self, kit: &Kit) -> InParameter
+        ensures { result ≡ loading kit.now self.old }
+    {
         let settings = kit.settings();
-        let begun = InParameter {
-            session: self.session,
+        InParameter {
+            session: mem::replace(&mut self.session, Session::new()),
             conn: self.conn,
             address: settings.address(),
             upload: Pieces::parameter(
@@ -249,8 +270,7 @@ impl InConnection {
                 settings.rule(),
                 settings.profile(),
             ),
-        };
-        begun.more(seen, kit, out)
+        }
     }
 
     /// Does the same as `more`, in place. After a refusal the state must only be left.
@@ -316,7 +336,7 @@ impl InParameter {
     /// Refused with 07h if a FailSafeData frame has a byte that isn't 0.
     #[tactic(auto, using(crate::proofs::Transitions::goes_by))]
     pub fn run(
-        self,
+        mut self,
         seen: &Seen<'_>,
         kit: &Kit,
         out: &mut FrameBuf,
@@ -331,10 +351,20 @@ impl InParameter {
         ensures goes_on { GoesOn (now.Parameter self) kit.now seen.now.frame (as_now now.Data result) out.old out.new }
         ensures under { IfOk result (λ s. DataUnder kit.now.settings s) }
     {
+        self.to_data(kit).more(seen, kit, out)
+    }
+
+    /// State Data of this session as it is entered, with zeros as outputs. This state must only be left.
+    pub(crate) fn to_data(&mut self, kit: &Kit) -> InData
+        requires whole { IsTrue (is_whole self.old.upload) }
+        requires under { ParameterUnder kit.now.settings self.old }
+        ensures next { result ≡ running kit.now self.old }
+        ensures under { DataUnder kit.now.settings result }
+    {
         let mut app = AppBytes::new();
         app.set(self.upload.app());
-        let begun = InData {
-            session: self.session,
+        InData {
+            session: mem::replace(&mut self.session, Session::new()),
             terms: Terms {
                 conn: self.conn,
                 address: self.address,
@@ -343,8 +373,7 @@ impl InParameter {
                 profile: kit.profile(),
             },
             outputs: Outputs::new(kit.settings().peer_len()),
-        };
-        begun.more(seen, kit, out)
+        }
     }
 
     /// Does the same as `more`, in place. After a refusal the state must only be left.
