@@ -105,7 +105,8 @@ impl Exchange {
         Ok(progress)
     }
 
-    /// Sends the current piece.
+    /// Sends the current piece. It isn't inlined, so that the sending of a data frame needs no room for it.
+    #[inline(never)]
     fn send(&mut self, command: Command, conn: u16, kit: &Kit, out: &mut FrameBuf)
         requires { ExchangeUnder kit.now.settings self.old }
         ensures exchange { self.new ≡ piece_sent command conn kit.now self.old }
@@ -207,6 +208,7 @@ impl InParameter {
 impl InData {
     /// Accepts the next data frame, in place. Refused with 07h if a FailSafeData frame has a byte that isn't 0; then
     /// nothing is changed.
+    #[inline(always)]
     pub(crate) fn take(
         &mut self,
         seen: &SessionFrame<'_>,

@@ -24,7 +24,7 @@ impl<'a> Model for UnreadFrame<'a> {
 }
 
 impl<'a> UnreadFrame<'a> {
-    ghost use Rattle.std.specs.Prelude.{◌≡◌, IsTrue, Some, length};
+    ghost use Rattle.std.specs.Prelude.{◌≡◌, IsTrue, Some, [], length};
     ghost use Rattle.fsoe_base.specs.Command.{command_byte};
     ghost use Rattle.fsoe_base.specs.Lengths.{is_length, group_count};
 
@@ -61,18 +61,27 @@ impl<'a> UnreadFrame<'a> {
         self.view.load_into(out);
     }
 
-    /// Writes the command and the safe data to `did.took`, whose old contents are lost, and changes no other field.
+    /// Writes the command to `did.took`, and no safe data. It clears the room of what it makes, so it isn't inlined.
+    #[cold]
     #[inline(never)]
+    fn make_room(&self, did: &mut Did)
+        ensures { did.new.took ≡ Some (record { command = self.now.command; load = [] }) }
+    {
+        did.took = Some(Took {
+            command: self.command,
+            load: Image::new(),
+        });
+    }
+
+    /// Writes the command and the safe data to `did.took`, whose old contents are lost, and changes no other field.
+    #[inline(always)]
     pub fn took_into(&self, did: &mut Did)
         ensures value { did.new.took ≡ Some (record { command = self.now.command; load = self.now.frame.load }) }
         ensures valid { IsTrue (is_length (length self.now.frame.load)) }
         ensures groups { length self.now.frame.crcs ≡ group_count (length self.now.frame.load) }
     {
         if did.took.is_none() {
-            did.took = Some(Took {
-                command: self.command,
-                load: Image::new(),
-            });
+            self.make_room(did);
         }
         if let Some(took) = &mut did.took {
             took.command = self.command;

@@ -434,6 +434,7 @@ impl InData {
     }
 
     /// Does the same as `more`, in place. After a refusal the state must only be left.
+    #[inline(always)]
     pub(crate) fn answer(
         &mut self,
         seen: &Seen<'_>,
