@@ -159,8 +159,7 @@ impl Phase {
         let Phase::Session(state) = self else {
             unreachable!();
         };
-        let next = state.to_connection(kit);
-        *self = Phase::Connection(next);
+        *self = Phase::Connection(state.to_connection(kit));
     }
 
     /// Goes on to state Parameter after the last answer in state Connection.
@@ -173,8 +172,7 @@ impl Phase {
         let Phase::Connection(state) = self else {
             unreachable!();
         };
-        let next = state.to_parameter(kit);
-        *self = Phase::Parameter(next);
+        *self = Phase::Parameter(state.to_parameter(kit));
     }
 
     /// Goes on to state Data after the last answer in state Parameter.
@@ -187,8 +185,7 @@ impl Phase {
         let Phase::Parameter(state) = self else {
             unreachable!();
         };
-        let next = state.to_data(kit);
-        *self = Phase::Data(next);
+        *self = Phase::Data(state.to_data(kit));
     }
 
     /// The same, apart from state Data, so that a data frame doesn't bear the cost of a change of phase.
