@@ -136,22 +136,15 @@ none_adds : (room n : ℕ) → one_if_left room n ≡ one_if_left room 0 + n
 none_adds zero n = omega arith
 none_adds (suc room) n = omega arith
 
--- a line more
-script_adds : (room : ℕ) (xs : List JournalStep) (e : PlantEvent) (rest : List JournalStep) → short_ticks room (xs ++ step.Script e ∷ rest) ≡ short_ticks room xs + short_ticks (if is_tick_event e then 64 else 0) rest
-script_adds room [] e rest = none_adds room (short_ticks (if is_tick_event e then 64 else 0) rest)
-script_adds room (step.Script d ∷ xs) e rest =
-    ap (one_if_left room) (script_adds (if is_tick_event d then 64 else 0) xs e rest) ∙ left_adds room (short_ticks (if is_tick_event d then 64 else 0) xs) (short_ticks (if is_tick_event e then 64 else 0) rest)
-script_adds room (step.App ∷ xs) e rest = ap (one_if_left room) (script_adds 0 xs e rest) ∙ left_adds room (short_ticks 0 xs) (short_ticks (if is_tick_event e then 64 else 0) rest)
-script_adds room (step.Offer link load ∷ xs) e rest = script_adds room xs e rest
-script_adds room (step.Pulled parcel ∷ xs) e rest = script_adds (room - 1) xs e rest
-
-app_adds : (room : ℕ) (xs rest : List JournalStep) → short_ticks room (xs ++ step.App ∷ rest) ≡ short_ticks room xs + short_ticks 0 rest
-app_adds room [] rest = none_adds room (short_ticks 0 rest)
-app_adds room (step.Script d ∷ xs) rest =
-    ap (one_if_left room) (app_adds (if is_tick_event d then 64 else 0) xs rest) ∙ left_adds room (short_ticks (if is_tick_event d then 64 else 0) xs) (short_ticks 0 rest)
-app_adds room (step.App ∷ xs) rest = ap (one_if_left room) (app_adds 0 xs rest) ∙ left_adds room (short_ticks 0 xs) (short_ticks 0 rest)
-app_adds room (step.Offer link load ∷ xs) rest = app_adds room xs rest
-app_adds room (step.Pulled parcel ∷ xs) rest = app_adds (room - 1) xs rest
+-- a line more, after which so many parcels may come
+line_adds : (room : ℕ) (xs : List JournalStep) (s : JournalStep) (next : ℕ) (rest : List JournalStep) → ((r : ℕ) → short_ticks r (s ∷ rest) ≡ one_if_left r (short_ticks next rest))
+    → short_ticks room (xs ++ s ∷ rest) ≡ short_ticks room xs + short_ticks next rest
+line_adds room [] s next rest h = h room ∙ none_adds room (short_ticks next rest)
+line_adds room (step.Script d ∷ xs) s next rest h =
+    ap (one_if_left room) (line_adds (if is_tick_event d then 64 else 0) xs s next rest h) ∙ left_adds room (short_ticks (if is_tick_event d then 64 else 0) xs) (short_ticks next rest)
+line_adds room (step.App ∷ xs) s next rest h = ap (one_if_left room) (line_adds 0 xs s next rest h) ∙ left_adds room (short_ticks 0 xs) (short_ticks next rest)
+line_adds room (step.Offer link load ∷ xs) s next rest h = line_adds room xs s next rest h
+line_adds room (step.Pulled parcel ∷ xs) s next rest h = line_adds (room - 1) xs s next rest h
 
 -- steps that are no lines of the script
 abbrev NoLines : List JournalStep → Type 0
@@ -218,7 +211,7 @@ ends_so b e (parcel ∷ parcels) done =
 -- an event that pulls nothing
 event_short : (b : Beginning) (e : PlantEvent) (done : List Act) → is_tick_event e ≡ false → short_ticks 0 (journal b (Happen (Event e) ∷ done)) ≡ short_ticks 0 (journal b done) + 0
 event_short b e done h =
-    script_adds 0 (journal b done) e (offers b (Happen (Event e)) done)
+    line_adds 0 (journal b done) (step.Script e) (if is_tick_event e then 64 else 0) (offers b (Happen (Event e)) done) (λ r. refl)
     ∙ ap (λ (t : Bool). short_ticks 0 (journal b done) + short_ticks (if t then 64 else 0) (offers b (Happen (Event e)) done)) h
     ∙ ap (λ (n : ℕ). short_ticks 0 (journal b done) + n) (none_left (offers b (Happen (Event e)) done) (no_lines b (Happen (Event e)) done))
 
@@ -252,7 +245,7 @@ tick_short b parcels done h =
     nones_if short before
     ∙ ap (λ (n : ℕ). n + (if short then 1 else 0)) (nones_gave parcels (Happen (Event event.Tick) ∷ done) ∙ plain ∙ h)
     ∙ ap (λ (n : ℕ). short_ticks 0 (journal b done) + n) (sym left)
-    ∙ sym (ap (short_ticks 0) (pulls_if b short before ∙ s.is) ∙ script_adds 0 (journal b done) event.Tick s.rest)
+    ∙ sym (ap (short_ticks 0) (pulls_if b short before ∙ s.is) ∙ line_adds 0 (journal b done) (step.Script event.Tick) 64 s.rest (λ r. refl))
 
 quiet_short : (b : Beginning) (e : PlantEvent) (done : List Act) → is_tick_event e ≡ false → nones done ≡ short_ticks 0 (journal b done) → nones (Happen (Event e) ∷ done) ≡ short_ticks 0 (journal b (Happen (Event e) ∷ done))
 quiet_short b e done t h = ap (λ (n : ℕ). n + 0) h ∙ sym (event_short b e done t)
@@ -273,7 +266,7 @@ turn_short b (Event (event.Cut link cut)) parcels done h = quiet_short b (event.
 turn_short b (App a) parcels done h =
     let changed_steps : List JournalStep = offers b (Happen (App a)) done in
     ap (λ (n : ℕ). n + 0) h
-    ∙ sym (app_adds 0 (journal b done) changed_steps ∙ ap (λ (n : ℕ). short_ticks 0 (journal b done) + n) (none_left changed_steps (no_lines b (Happen (App a)) done)))
+    ∙ sym (line_adds 0 (journal b done) step.App 0 changed_steps (λ r. refl) ∙ ap (λ (n : ℕ). short_ticks 0 (journal b done) + n) (none_left changed_steps (no_lines b (Happen (App a)) done)))
 
 all_short : (b : Beginning) (turns : List Turn) → nones (acts turns) ≡ short_ticks 0 (journal b (acts turns))
 all_short b [] = sym (none_left (offers b Start []) (no_lines b Start []))

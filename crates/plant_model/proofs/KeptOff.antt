@@ -94,43 +94,25 @@ out_due ms ss which w same h =
     sym (due_is_out s (deeds which w) (deeds_are_run ms ss which w h))
     ∙ ap₂ outputs_due (sym (receives_is ms ss which same)) (sym (told ms ss which w h))
 
-input_at : (b : Beginning) (bit : Bit) (acts : List Act) (place : ℕ) (link : LinkConf) → bit.link ≡ suc place → slice_get b.links place ≡ Some link
-    → bit_at (inputs_after b acts) bit ≡ bit_of (out (OfMaster link.master) (deeds side.Master (pair link bit.link (journal b acts)))) bit.bit
-input_at b bit acts place link n is =
-    ap (λ (k : ℕ). bit_at (inputs_after b acts) (record { link = k; bit = bit.bit })) n
-    ∙ ap (λ (image : List ℕ). bit_of image bit.bit) (mapped_at outputs_at (masters b acts).connections place (master_with link (pair link (suc place) (journal b acts))) (mastered b acts place link is))
-    ∙ ap (λ (k : ℕ). bit_of (out (OfMaster link.master) (deeds side.Master (pair link k (journal b acts)))) bit.bit) (sym n)
-
-offer_bit_at : (b : Beginning) (bit : Bit) (acts : List Act) (place : ℕ) (link : LinkConf) → bit.link ≡ suc place → slice_get b.links place ≡ Some link
-    → bit_at (offers_after b acts) bit ≡ bit_of (offer (OfMaster link.master) (deeds side.Master (pair link bit.link (journal b acts)))) bit.bit
-offer_bit_at b bit acts place link n is =
-    ap (λ (k : ℕ). bit_at (offers_after b acts) (record { link = k; bit = bit.bit })) n
-    ∙ ap (λ (image : List ℕ). bit_of image bit.bit) (mapped_at offer_at (masters b acts).connections place (master_with link (pair link (suc place) (journal b acts))) (mastered b acts place link is))
-    ∙ ap (λ (k : ℕ). bit_of (offer (OfMaster link.master) (deeds side.Master (pair link k (journal b acts)))) bit.bit) (sym n)
-
--- a connection that there is has a place
-pub record Placed (links : List LinkConf) (k : ℕ) (link : LinkConf) : Type 0 where
-  pub place : ℕ
-  pub number : k ≡ suc place
-  pub is : slice_get links place ≡ Some link
-
-pub placed : (links : List LinkConf) (k : ℕ) (link : LinkConf) → link_at links k ≡ Some link → Placed links k link
-placed links zero link e = absurd (cc e)
-placed links (suc place) link e = record { place = place; number = refl; is = e }
+-- a bit of the master of many is one of the master in the pair
+bit_in : (f : Connection → List ℕ) (b : Beginning) (bit : ℕ) (acts : List Act) (k : ℕ) (link : LinkConf) → link_at b.links k ≡ Some link
+    → bit_at (map f (masters b acts).connections) (record { link = k; bit = bit }) ≡ bit_of (f (master_with link (pair link k (journal b acts)))) bit
+bit_in f b bit acts zero link e = absurd (cc e)
+bit_in f b bit acts (suc place) link e =
+    ap (λ (image : List ℕ). bit_of image bit) (mapped_at f (masters b acts).connections place (master_with link (pair link (suc place) (journal b acts))) (mastered b acts place link e))
 
 -- an input of the application is an output of the master in the pair
 pub input_is : (b : Beginning) (bit : Bit) (acts : List Act) (link : LinkConf) → link_at b.links bit.link ≡ Some link
     → bit_at (inputs_after b acts) bit ≡ bit_of (out (OfMaster link.master) (deeds side.Master (pair link bit.link (journal b acts)))) bit.bit
-input_is b bit acts link e = let p = placed b.links bit.link link e in input_at b bit acts p.place link p.number p.is
+input_is b bit acts link e = bit_in outputs_at b bit.bit acts bit.link link e
 
 -- where the offer of the master of many has a bit as 0, the master in the pair offers it as 0
 pub offered_zero : (b : Beginning) (bit : Bit) (acts : List Act) (link : LinkConf) → link_at b.links bit.link ≡ Some link → bit_at (offers_after b acts) bit ≡ false
     → offers_bit bit.bit (next_offered (of_end side.Master (pair link bit.link (journal b acts)))) ≡ false
 offered_zero b bit acts link e is_off =
-    let p = placed b.links bit.link link e in
     let w : List Entry = pair link bit.link (journal b acts) in
     offers_is (OfMaster link.master) side.Master bit.bit w
-    ∙ ap (λ (z : Bool). not (held (deeds side.Master w)) && z) (sym (offer_bit_at b bit acts p.place link p.number p.is) ∙ is_off)
+    ∙ ap (λ (z : Bool). not (held (deeds side.Master w)) && z) (sym (bit_in offer_at b bit.bit acts bit.link link e) ∙ is_off)
     ∙ and_false (not (held (deeds side.Master w)))
 
 -- a call that runs no cycle changes no offer

@@ -1,8 +1,8 @@
 -- Why a drive is off in time. The master of the e-stop has its bit as 0 from some tick on; each cycle from that tick's
 -- on answers the drive's bit as 0, so that its master offers it so; and its slave has it as 0 some ticks later. Acts
 -- and entries are listed newest first, steps oldest first.
-use Rattle.std.proofs.Common.{◌≡◌, ◌≤◌, ◌<◌, ◌⊎◌, inl, inr, ℕ, ◌+◌, ◌-◌, ◌*◌, Bool, true, false, not, List, [], ◌∷◌, ◌++◌, Option, Some, None, refl, sym, ap, ap₂, subst, ◌∙◌, append_assoc, arith}
-use Rattle.std.specs.Prelude.{IfSome, IsTrue, cond}
+use Rattle.std.proofs.Common.{◌≡◌, ◌≤◌, ◌<◌, ◌⊎◌, inl, inr, ℕ, zero, suc, ◌+◌, ◌-◌, ◌*◌, Bool, true, false, not, List, [], ◌∷◌, ◌++◌, Option, Some, None, refl, sym, ap, ap₂, subst, ◌∙◌, append_assoc, arith}
+use Rattle.std.specs.Prelude.{IfSome, IsTrue, cond, is_some}
 use Rattle.std.specs.Option.{option_map_or}
 use Rattle.std.proofs.lemmas.Bool.{cases_lt}
 use Rattle.std.proofs.lemmas.List.{append-nil}
@@ -25,13 +25,13 @@ use Rattle.exchange_model.specs.World.{setup_of, deeds, SameLengths}
 use Rattle.exchange_model.specs.Schedules.{IsWorld}
 use Rattle.exchange_model.proofs.Offering.Offered.{was_offered}
 use Rattle.exchange_model.proofs.Offering.Older.{older_world, older_clean}
-use Rattle.plant_model.specs.declared.event.PlantEvent.TheVariants as event
 use Rattle.plant_model.specs.declared.journal.JournalStep.{JournalStep}
 use Rattle.plant_model.specs.Acts.{Beginning, Event, App, Act, Start, Happen, PullFrom, cycle_of, offers, steps_of, journal}
 use Rattle.plant_model.specs.Bound.{slave_offers, is_off, inputs_after, offers_after, StaysOff, HasLinks, is_on, Reacts}
 use Rattle.plant_model.specs.Pair.{pair, link_at, is_tick, ticks}
+use Rattle.plant_model.proofs.Cycled.{cycles}
 use Rattle.plant_model.proofs.FairPlant.{AreWorlds}
-use Rattle.plant_model.proofs.KeptOff.{out_due, placed, input_is, offered_zero, act_keeps}
+use Rattle.plant_model.proofs.KeptOff.{out_due, input_is, offered_zero, act_keeps}
 use Rattle.plant_model.proofs.Sends.{OffersZero, delivered_zero, ticks_since}
 use Rattle.plant_model.proofs.Since.{Grown, GoesBack, HoldsAfter, Silent, grown_on, grown_silent, grown_act, grown_acts, grown_any, grown_still, part_silent, is_tick_act, act_ticks, act_ticks_most}
 
@@ -103,13 +103,8 @@ input_off b bound estop later earlier e q c many =
 
 -- a tick runs a cycle
 no_cycle_no_tick : (b : Beginning) (act : Act) (done : List Act) → cycle_of b act done ≡ None → is_tick_act act ≡ false
-no_cycle_no_tick b (Happen (Event event.Tick)) done e = absurd (cc e)
 no_cycle_no_tick b Start done e = refl
-no_cycle_no_tick b (Happen (Event (event.Put n load))) done e = refl
-no_cycle_no_tick b (Happen (Event (event.Hold n failsafe))) done e = refl
-no_cycle_no_tick b (Happen (Event (event.Local n))) done e = refl
-no_cycle_no_tick b (Happen (Event (event.Nonce n end id))) done e = refl
-no_cycle_no_tick b (Happen (Event (event.Cut n cut))) done e = refl
+no_cycle_no_tick b (Happen (Event event)) done e = sym (cycles b (Happen (Event event)) done) ∙ ap is_some e
 no_cycle_no_tick b (Happen (App app)) done e = refl
 no_cycle_no_tick b (PullFrom gift) done e = refl
 
@@ -245,13 +240,12 @@ steps_off b bound estop drive (act ∷ later) earlier steps rest links q e ce cd
 -- a pair in the first steps of a journal, without another entry in these
 pub clean_at : (links : List LinkConf) (all : List JournalStep) (link : LinkConf) (k : ℕ) (steps rest : List JournalStep) → AreWorlds links all → link_at links k ≡ Some link → all ≡ steps ++ rest → NoOther (pair link k steps)
     → Clean link k steps
-clean_at links all link k steps rest are is e none =
-    let p = placed links k link is in
-    let w = are p.place link p.is in
-    let here : IsWorld link.master link.slave (pair link k all) = subst (λ (n : ℕ). IsWorld link.master link.slave (pair link n all)) (sym p.number) w.world in
+clean_at links all link zero steps rest are is e none = absurd (cc is)
+clean_at links all link (suc place) steps rest are is e none =
+    let w = are place link is in
     record {
       lengths = w.lengths;
-      world = world_before link k steps rest (subst (λ (js : List JournalStep). IsWorld link.master link.slave (pair link k js)) e here);
+      world = world_before link (suc place) steps rest (subst (λ (js : List JournalStep). IsWorld link.master link.slave (pair link (suc place) js)) e w.world);
       none = none;
     }
 

@@ -22,7 +22,7 @@ use Rattle.plant_model.specs.declared.event.PlantEvent.{PlantEvent}
 use Rattle.plant_model.specs.declared.event.PlantEvent.TheVariants as event
 use Rattle.plant_model.specs.declared.journal.JournalStep.{JournalStep}
 use Rattle.plant_model.specs.declared.journal.JournalStep.TheVariants as step
-use Rattle.plant_model.specs.Acts.{Beginning, Event, App, Act, Start, Happen, PullFrom, masters, cycle_of, offer_step, offers, steps_of, journal}
+use Rattle.plant_model.specs.Acts.{Beginning, Event, App, Act, Start, Happen, PullFrom, masters, cycle_of, line_step, offer_step, offers, steps_of, journal}
 use Rattle.plant_model.specs.Pair.{next_of, pair, is_tick, ticks}
 use Rattle.plant_model.proofs.Growing.{IsOne, pair_more, pair_one, no_entry}
 use Rattle.plant_model.proofs.Sends.{BringsNone, SentWhile, no_data, sent_append}
@@ -266,7 +266,7 @@ grown_acts P which link k b (act ∷ later) earlier back h =
 
 -- whether an act is a tick
 abbrev pub is_tick_act : Act → Bool
-is_tick_act (Happen (Event event.Tick)) = true
+is_tick_act (Happen said) = is_tick (line_step said)
 is_tick_act _ = false
 
 ticks_listed : (listed : List (ℕ × List ℕ)) → ticks (map offer_step listed) ≡ 0
@@ -284,13 +284,7 @@ ticks_first s os h =
 
 steps_ticks : (act : Act) (os : List JournalStep) → ticks os ≡ 0 → ticks (steps_of act os) ≡ cond (is_tick_act act) 1 0
 steps_ticks Start os h = h
-steps_ticks (Happen (Event event.Tick)) os h = ticks_first (step.Script event.Tick) os h
-steps_ticks (Happen (Event (event.Put n load))) os h = ticks_first (step.Script (event.Put n load)) os h
-steps_ticks (Happen (Event (event.Hold n failsafe))) os h = ticks_first (step.Script (event.Hold n failsafe)) os h
-steps_ticks (Happen (Event (event.Local n))) os h = ticks_first (step.Script (event.Local n)) os h
-steps_ticks (Happen (Event (event.Nonce n end id))) os h = ticks_first (step.Script (event.Nonce n end id)) os h
-steps_ticks (Happen (Event (event.Cut n cut))) os h = ticks_first (step.Script (event.Cut n cut)) os h
-steps_ticks (Happen (App app)) os h = ticks_first step.App os h
+steps_ticks (Happen said) os h = ticks_first (line_step said) os h
 steps_ticks (PullFrom None) os h = h
 steps_ticks (PullFrom (Some parcel)) os h =
     let all : ticks (os ++ step.Pulled parcel ∷ []) ≡ ticks os + ticks (step.Pulled parcel ∷ []) = sum_by-append (λ x. cond (is_tick x) 1 0) os (step.Pulled parcel ∷ []) in

@@ -24,7 +24,7 @@ use Rattle.multi_master.specs.Connection.{outputs_at, offer_at}
 use Rattle.plant_model.specs.declared.event.PlantEvent.TheVariants as event
 use Rattle.plant_model.specs.declared.journal.JournalStep.{JournalStep}
 use Rattle.plant_model.specs.declared.journal.JournalStep.TheVariants as step
-use Rattle.plant_model.specs.Acts.{Beginning, Event, App, Act, Start, Happen, PullFrom, settings, delivery_call, calls, masters, cycle_of, offer_step, offers, journal}
+use Rattle.plant_model.specs.Acts.{Beginning, Event, Act, Happen, PullFrom, settings, delivery_call, calls, masters, cycle_of, offer_step, offers, journal}
 use Rattle.plant_model.specs.Bound.{is_off, is_guarded, is_still, StaysOff}
 use Rattle.plant_model.specs.Pair.{next_of, pair, link_at}
 use Rattle.plant_model.specs.Promises.{AllSound}
@@ -100,28 +100,20 @@ offers_keep : (link : LinkConf) (k : ℕ) (b : Beginning) (act : Act) (done : Li
 offers_keep link k b act done js = listed_keep link k (changed_by (cycle_of b act done) (masters b done).connections) js
 
 -- a tick, and a pull, of a tick
-abbrev pub IsOfTick : Act → Type 0
-IsOfTick (Happen (Event event.Tick)) = Unit {0}
-IsOfTick (PullFrom gift) = Unit {0}
-IsOfTick _ = ⊥
+pub data IsOfTick : Act → Type 0 where
+  Ticks : IsOfTick (Happen (Event event.Tick))
+  Pulls : (gift : Option Parcel) → IsOfTick (PullFrom gift)
 
 act_offers : (link : LinkConf) (k : ℕ) (b : Beginning) (act : Act) (done : List Act) → IsOfTick act → offered_by link k (journal b (act ∷ done)) ≡ offered_by link k (journal b done)
-act_offers link k b Start done h = absurd h
-act_offers link k b (Happen (App app)) done h = absurd h
-act_offers link k b (Happen (Event (event.Put n load))) done h = absurd h
-act_offers link k b (Happen (Event (event.Hold n failsafe))) done h = absurd h
-act_offers link k b (Happen (Event (event.Local n))) done h = absurd h
-act_offers link k b (Happen (Event (event.Nonce n end id))) done h = absurd h
-act_offers link k b (Happen (Event (event.Cut n cut))) done h = absurd h
-act_offers link k b (Happen (Event event.Tick)) done h =
+act_offers link k b _ done Ticks =
     let js : List JournalStep = journal b done in
     let s : JournalStep = step.Script event.Tick in
     let os : List JournalStep = offers b (Happen (Event event.Tick)) done in
     ap (offered_by link k) (sym (append_assoc js (s ∷ []) os))
     ∙ offers_keep link k b (Happen (Event event.Tick)) done (js ++ s ∷ [])
     ∙ ap (λ (w : List Entry). next_offered (of_end side.Slave w)) (pair_more link k js (s ∷ []))
-act_offers link k b (PullFrom None) done h = offers_keep link k b (PullFrom None) done (journal b done)
-act_offers link k b (PullFrom (Some parcel)) done h =
+act_offers link k b _ done (Pulls None) = offers_keep link k b (PullFrom None) done (journal b done)
+act_offers link k b _ done (Pulls (Some parcel)) =
     let js : List JournalStep = journal b done in
     let act : Act = PullFrom (Some parcel) in
     let s : JournalStep = step.Pulled parcel in
@@ -147,16 +139,9 @@ parcel_guards b done (Some link) side.Slave n frame = refl
 parcel_guards b done (Some link) side.Master n frame = cycle_guards (cycle_in (Deliver n frame) (masters b done)) (masters b done)
 
 act_guards : (b : Beginning) (act : Act) (done : List Act) → IsOfTick act → (masters b (act ∷ done)).app.guards ≡ (masters b done).app.guards
-act_guards b Start done h = absurd h
-act_guards b (Happen (App app)) done h = absurd h
-act_guards b (Happen (Event (event.Put n load))) done h = absurd h
-act_guards b (Happen (Event (event.Hold n failsafe))) done h = absurd h
-act_guards b (Happen (Event (event.Local n))) done h = absurd h
-act_guards b (Happen (Event (event.Nonce n end id))) done h = absurd h
-act_guards b (Happen (Event (event.Cut n cut))) done h = absurd h
-act_guards b (Happen (Event event.Tick)) done h = refl
-act_guards b (PullFrom None) done h = refl
-act_guards b (PullFrom (Some parcel)) done h = parcel_guards b done (link_at b.links parcel.to.link) parcel.to.end parcel.to.link parcel.frame
+act_guards b _ done Ticks = refl
+act_guards b _ done (Pulls None) = refl
+act_guards b _ done (Pulls (Some parcel)) = parcel_guards b done (link_at b.links parcel.to.link) parcel.to.end parcel.to.link parcel.frame
 
 -- so a bound stays still through a tick
 pub stays_still : (b : Beginning) (bound : BoundSpec) (act : Act) (done : List Act) → IsOfTick act → is_still b bound (act ∷ done) ≡ is_still b bound done
@@ -169,12 +154,12 @@ AreOfTick [] = Unit {0}
 AreOfTick (act ∷ more) = IsOfTick act × AreOfTick more
 
 pulled_of_tick : (parcels : List Parcel) → AreOfTick (map (λ parcel. PullFrom (Some parcel)) parcels ++ Happen (Event event.Tick) ∷ [])
-pulled_of_tick [] = (tt, tt)
-pulled_of_tick (parcel ∷ parcels) = (tt, pulled_of_tick parcels)
+pulled_of_tick [] = (Ticks, tt)
+pulled_of_tick (parcel ∷ parcels) = (Pulls (Some parcel), pulled_of_tick parcels)
 
 pulls_of_tick : (few : Bool) (parcels : List Parcel)
     → AreOfTick (((if few then PullFrom None ∷ [] else []) ++ map (λ parcel. PullFrom (Some parcel)) parcels) ++ Happen (Event event.Tick) ∷ [])
-pulls_of_tick true parcels = (tt, pulled_of_tick parcels)
+pulls_of_tick true parcels = (Pulls None, pulled_of_tick parcels)
 pulls_of_tick false parcels = pulled_of_tick parcels
 
 -- all acts of a tick are such

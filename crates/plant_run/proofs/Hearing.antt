@@ -56,37 +56,21 @@ can_hear view t v reactions left before after count h log text bounds k few same
     })
 
 -- a bound names its connections
-either : (a b c : Bool) → a ≡ true → (a || b || c) ≡ true
-either true true c e = refl
-either true false c e = refl
-either false b c e = absurd (cc e)
+or_first : (a b : Bool) → a ≡ true → (a || b) ≡ true
+or_first true b e = refl
+or_first false b e = absurd (cc e)
 
-other : (a b c : Bool) → b ≡ true → (a || b || c) ≡ true
-other true true c e = refl
-other false true c e = refl
-other a false c e = absurd (cc e)
+or_later : (a b : Bool) → b ≡ true → (a || b) ≡ true
+or_later true b e = refl
+or_later false b e = e
 
-later : (a b c : Bool) → c ≡ true → (a || b || c) ≡ true
-later true b true e = refl
-later false true true e = refl
-later false false true e = refl
-later a b false e = absurd (cc e)
-
-estop_named : (bounds : List BoundSpec) (place : ℕ) (bound : BoundSpec) → slice_get bounds place ≡ Some bound → is_named bounds bound.estop.link ≡ true
-estop_named [] place bound e = absurd (cc e)
-estop_named (first ∷ bounds) zero bound e =
+named_by : (k : ℕ) (bounds : List BoundSpec) (place : ℕ) (bound : BoundSpec) → slice_get bounds place ≡ Some bound → (bound.estop.link == k || bound.drive.link == k) ≡ true → is_named bounds k ≡ true
+named_by k [] place bound e named = absurd (cc e)
+named_by k (first ∷ bounds) zero bound e named =
     let same : first ≡ bound = cc in
-    either (first.estop.link == bound.estop.link) (first.drive.link == bound.estop.link) (is_named bounds bound.estop.link) (eq-eqb first.estop.link bound.estop.link (ap (λ (z : BoundSpec). z.estop.link) same))
-estop_named (first ∷ bounds) (suc place) bound e =
-    later (first.estop.link == bound.estop.link) (first.drive.link == bound.estop.link) (is_named bounds bound.estop.link) (estop_named bounds place bound e)
-
-drive_named : (bounds : List BoundSpec) (place : ℕ) (bound : BoundSpec) → slice_get bounds place ≡ Some bound → is_named bounds bound.drive.link ≡ true
-drive_named [] place bound e = absurd (cc e)
-drive_named (first ∷ bounds) zero bound e =
-    let same : first ≡ bound = cc in
-    other (first.estop.link == bound.drive.link) (first.drive.link == bound.drive.link) (is_named bounds bound.drive.link) (eq-eqb first.drive.link bound.drive.link (ap (λ (z : BoundSpec). z.drive.link) same))
-drive_named (first ∷ bounds) (suc place) bound e =
-    later (first.estop.link == bound.drive.link) (first.drive.link == bound.drive.link) (is_named bounds bound.drive.link) (drive_named bounds place bound e)
+    or_first (first.estop.link == k || first.drive.link == k) (is_named bounds k) (ap (λ (z : BoundSpec). z.estop.link == k || z.drive.link == k) same ∙ named)
+named_by k (first ∷ bounds) (suc place) bound e named =
+    or_later (first.estop.link == k || first.drive.link == k) (is_named bounds k) (named_by k bounds place bound e named)
 
 -- the ages of a connection are told that a bound names
 aged_new : (aged : Bool) (link : LinkConf) → aged ≡ true → (fixed_of (new_link aged link)).aged ≡ true
@@ -116,8 +100,8 @@ aged_at bounds links vs (suc place) e named =
 
 pub are_aged : (bounds : List BoundSpec) (links : List LinkConf) (vs : List LinkView) (place : ℕ) (bound : BoundSpec) → fixed_in vs ≡ fixed_in (links_made 1 bounds links) → slice_get bounds place ≡ Some bound → AreAged vs bound
 are_aged bounds links vs place bound e at = record {
-  estop = aged_at bounds links vs bound.estop.link e (estop_named bounds place bound at);
-  drive = aged_at bounds links vs bound.drive.link e (drive_named bounds place bound at);
+  estop = aged_at bounds links vs bound.estop.link e (named_by bound.estop.link bounds place bound at (or_first (bound.estop.link == bound.estop.link) (bound.drive.link == bound.estop.link) (eq-eqb bound.estop.link bound.estop.link refl)));
+  drive = aged_at bounds links vs bound.drive.link e (named_by bound.drive.link bounds place bound at (or_later (bound.estop.link == bound.drive.link) (bound.drive.link == bound.drive.link) (eq-eqb bound.drive.link bound.drive.link refl)));
 }
 
 -- what is heard of bounds is heard of the same ones
