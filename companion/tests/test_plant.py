@@ -5,7 +5,7 @@ import tomllib
 import pytest
 from conftest import ENVIRONMENT, TOOL, TOP, WITH_LAB, gatepast
 from hypothesis import given, settings, strategies
-from layer.journal import Direction, Entry
+from layer.journal import Direction, Entry, Pair, bit_of, header_of, steps_of
 from layer.plant import ran
 from layer.program import Tool
 from layer.reactions import over_seeds, presses, with_seed
@@ -15,6 +15,8 @@ from layer.vectors import check_named
 EXAMPLE = TOP / "examples" / "emergency_stop.toml"
 SCRIPT = (TOP / "examples" / "emergency_stop.script").read_text()
 BOUND = '\n[[bound]]\nestop = "i1.0"\ndrive = "o2.0"\n'
+KEYS = 'app = "0a0b"\nrule = "exact"\nhand = 7\nmost = 6\nmaster_nonce = 300\nslave_nonce = 9\n\n[[block]]'
+KEYS = EXAMPLE.read_text().replace("[[block]]", KEYS, 1)
 HOSTILE = EXAMPLE.read_text().replace('"perfect"', '"hostile"') + BOUND
 ON = "fsoe 1 plant\np 1 0500\np 2 0100\nt 2\np 1 0300\nt 2\np 1 0500\nt 2\n"
 LAB = Tool(ENVIRONMENT.get("GATEPAST_LAB"))
@@ -71,14 +73,43 @@ def test_a_plain_script_is_what_the_program_reads():
 
 
 def test_frames_are_found_again():
-    def sent(frame):
-        return Entry("m", "again", "Reset", "00", frame, 0, "tm", None)
-
     direction = Direction()
-    direction.sent = [sent(frame) for frame in ("0102", "0304", "0506", "0708")]
-    frames = ("0102", "0102", "0306", "0708", "0506", "ff00", "06")
-    wanted = ["", "again", "altered", "", "late", "never sent", "never sent"]
-    assert [direction.found(frame).what for frame in frames] == wanted
+    sent = ("0102", "0304", "0506", "0506", "0708", "0102")
+    direction.sent = [Entry("m", "again", "Reset", "00", frame, at, "tm", None) for at, frame in enumerate(sent)]
+    frames = ("0102", "0306", "0708", "0506", "0506", "0506", "ff00", "06", "0102")
+    ways = [direction.found(frame) for frame in frames]
+    assert [way.what for way in ways] == ["", "altered", "", "late", "late", "again", "never sent", "never sent", ""]
+    assert [way.sent.step for way in ways if way.sent] == [0, 1, 4, 3, 2, 3, 5]
+
+
+def test_bits_are_numbered_from_the_lowest_of_the_first_byte():
+    assert [number for number in range(40) if bit_of("01800a", number)] == [0, 15, 17, 19]
+
+
+def test_a_frame_of_another_session_was_not_taken_last():
+    entry, last = None, []
+    for did, state in (("took Session", "Session"), ("quiet", "Session"), ("reset own", "Reset"), ("quiet", "Reset")):
+        entry = Entry("s", did, state, "00", "", 0, "ts", entry)
+        last.append(entry.last_taken())
+    assert [taken.did if taken else None for taken in last] == [None, "took Session", "took Session", None]
+
+
+def test_an_entry_that_is_other_is_the_one_of_its_number():
+    class Replay:
+        def ask(self, *_, text):
+            return 1, "1 s quiet Reset 00\n2 m again Reset 00 > 2a\nevents 2\nother 2\n"
+
+    steps = steps_of("t", [Line("fsoe 1 plant", 1), Line("t", 2)])
+    pair = Pair(1, tomllib.loads(EXAMPLE.read_text())["connection"][0], steps, Replay())
+    assert pair.other is pair.entries[1] and pair.other.did == "again"
+
+
+def test_the_header_of_a_connection_has_all_that_is_configured():
+    app = "0a" * 300
+    lines = header_of(tomllib.loads(KEYS)["connection"][1] | {"app": app, "slave_address": 13})
+    pieces = [f"{word} {part}" for word in ("app", "bytes") for part in (app[:512], app[512:])]
+    slave = ["slave 13 7 6 9", "rule exact"]
+    assert lines[2:] == ["master 2 12 5 300", *pieces[:2], *slave, *pieces[2:], "go"]
 
 
 PUTS = [f"p {link} 0{bits}00" for link in (1, 2) for bits in range(8)]
@@ -92,7 +123,7 @@ LINES = strategies.sampled_from(PUTS + [line.format(link) for line in OTHERS for
 def test_replay_of_a_journal_says_what_the_report_says(lines, seed):
     last = ["app mirror", "t 3", "app zeros", "t", "end"]
     script = expanded("\n".join(["fsoe 1 plant", "p 1 0500", "p 2 0100", *lines, *last]))
-    for text in (EXAMPLE.read_text(), with_seed(HOSTILE, seed)):
+    for text in (EXAMPLE.read_text(), KEYS, with_seed(HOSTILE, seed)):
         status, report, done = ran(TOOL, LAB, text, script)
         others = [number for number, pair in done.pairs.items() if pair.other]
         assert f"\nother {others[0] if others else 'none'}\n" in report and status == bool(others)
@@ -132,6 +163,14 @@ def said(tmp_path, script, text=EXAMPLE.read_text() + BOUND, *words):
         ("app zeros\nt", "tick 7: drive o2.0 off: another application runs (line 9: app zeros)"),
         ("cut 2 1\nt 9", "tick 12: drive o2.0 off: its slave was reset, watchdog expired (line 9: cut 2 1)"),
         (
+            "cut 2 1\nt\ncut 2 0\ncut 2 1\nt 9",
+            "tick 12: drive o2.0 off: its slave was reset, watchdog expired (line 9: cut 2 1)",
+        ),
+        (
+            "cut 2 1\ncut 2 1\nt\ncut 2 0\nt 9",
+            "tick 11: drive o2.0 off: its master was reset, watchdog expired (line 9: cut 2 1)",
+        ),
+        (
             "cut 1 1\nt 9",
             "tick 11: drive o2.0 off: connection 1 is down: its master was reset, watchdog expired (line 9: cut 1 1)",
         ),
@@ -141,6 +180,18 @@ def test_a_drive_goes_off_for_a_cause(tmp_path, lines, wanted):
     found = said(tmp_path, f"{ON}{lines}\nend\n")
     assert [line for line in found if " off: " in line] == [wanted]
     assert "tick 5: drive o2.0 on: i1.2 rose (line 7: p 1 0500)" in found
+
+
+@WITH_LAB
+def test_a_connection_goes_down_for_a_cause_of_its_session(tmp_path):
+    found = said(tmp_path, ON + "cut 2 1\nt 9\ncut 2 0\nt 9\n" * 2 + "end\n")
+    assert [line for line in found if "connection 2 " in line] == [
+        "tick 1: connection 2 up: both its ends are in Data",
+        "tick 11: connection 2 down: its master was reset, watchdog expired (line 9: cut 2 1)",
+        "tick 16: connection 2 up: both its ends are in Data",
+        "tick 29: connection 2 down: its master was reset, watchdog expired (line 13: cut 2 1)",
+        "tick 34: connection 2 up: both its ends are in Data",
+    ]
 
 
 @WITH_LAB
