@@ -140,7 +140,11 @@ def page_of(ran: Ran, bounds: list[tuple[str, str]], counts: list, seeds: list[i
         "first": first_lines(ran.changes),
         "at": offs[0] if offs else 1,
         "ticks": chart.ticks,
-        "script": [(step.x, step.line.where) for step in ran.steps if step.line and step.words[0] != "t"],
+        "script": [
+            (step.x, step.line.where)
+            for step in ran.steps
+            if step.line and step.line.source and step.words[0] != "t"  # a fresh id comes from no line
+        ],
         "lanes": lanes,
         "bounds": [bound | {"counts": dict(count)} for bound, count in zip(told, counts)] if counts else told,
         "changes": [(max(1, change.step.tick), change.text, change.is_off) for change in ran.changes],

@@ -113,7 +113,7 @@ CONNECTION = {
 KEYS = {
     "plant": {
         "app": 'the text "net", or the name of an application: "zeros" or "mirror"',
-        "channel": 'the name of a channel: "perfect" or "hostile"',
+        "channel": 'the name of a channel: "perfect" or "hostile"; with --rates of the companion "rates"',
         "seed": "a number from 0 to 9,223,372,036,854,775,807",
     },
     "connection": CONNECTION,

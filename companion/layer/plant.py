@@ -7,16 +7,18 @@ from __future__ import annotations
 
 import argparse
 import tomllib
+from collections import Counter
 from dataclasses import dataclass
-from typing import Iterator
+from typing import Iterator, Sequence
 
 from layer.causes import Causes, Change
 from layer.chart import page_of
 from layer.explain import explained
 from layer.journal import Pair, Step, pairs_of, steps_of
 from layer.program import Complaint, Tool, lab_of, text_of, write_whole
-from layer.reactions import MOST_SEEDS, Tables, outputs_of, over_seeds, rows, said_of, with_file, with_seed
-from layer.script import Line, expanded
+from layer.reactions import MOST_SEEDS, Seen, Tables, outputs_of, over_seeds, report_of, rows, said_of, seen_of, summary
+from layer.reactions import with_file, with_key
+from layer.script import Line, expanded, with_fresh_ids
 from layer.script import text_of as plain
 from layer.toml_lines import tables_of
 
@@ -45,6 +47,21 @@ class Ran:
             for bound, line in zip(self.tables.get("bound", []), lines)
         ]
 
+    def seen(self) -> list[Seen]:
+        """What was seen of each bound."""
+        ticks = outputs_of(self.report)
+        return [seen_of(bound, self.script, ticks) for bound in self.tables.get("bound", [])]
+
+    def begun_twice(self) -> list[int]:
+        """The ticks in which an end began two sessions, the second with the id of the first."""
+        begun = Counter(
+            (self.steps[entry.step].tick, pair.number, entry.end)
+            for pair in self.pairs.values()
+            for entry in pair.entries
+            if entry.state == "Session" and (not entry.before or entry.before.state == "Reset")
+        )
+        return sorted({tick for (tick, _, _), count in begun.items() if count > 1})
+
     def others(self) -> Iterator[str]:
         """What the report's line on `other` entries says."""
         line = next(line for line in self.report.splitlines() if line.startswith("other "))
@@ -56,12 +73,14 @@ class Ran:
                 yield f"  {when}: in connection {pair.number} a frame passed that wasn't the awaited one"
 
 
-def ran(tool: Tool, lab: Tool, text: str, script: list[Line]) -> tuple[int, str, Ran | None]:
+def ran(
+    tool: Tool, lab: Tool, text: str, script: list[Line], rates: Sequence[int] = ()
+) -> tuple[int, str, Ran | None]:
     """The program's status and report, and what ran by them; None if nothing did."""
-    status, report = with_file(tool, text, plain(script), "plant")
+    status, report = report_of(lab if rates else tool, text, script, rates)
     if status not in (*RAN, REFUSED):
         return status, report, None
-    again, journal = with_file(lab, text, plain(script), "journal")
+    again, journal = with_file(lab, text, plain(script), "journal", rates)
     if again not in (*RAN, REFUSED):
         raise Complaint(f"the program that writes journals ends with status {again}, and the other with {status}")
     tables = tables_of(tomllib.loads(text))
@@ -90,39 +109,67 @@ def take(parser: argparse.ArgumentParser) -> None:
     parser.add_argument("--chart", metavar="FILE", help="write a page with a chart of the run")
     seeds = "run all seeds from A to B, and tell how long reactions took; the rest is of seed A"
     parser.add_argument("--seeds", type=int, nargs=2, metavar=("A", "B"), help=seeds)
+    rates = "run over a channel that does so to so many of 10,000 frames, and of 10,000 pulls gives so many late"
+    parser.add_argument("--rates", type=int, nargs=4, metavar=("LOSE", "ALTER", "REPEAT", "LATE"), help=rates)
+    parser.add_argument("--fresh", action="store_true", help="give each end its next session id before each tick")
     lab = "the proved program that writes journals; else GATEPAST_LAB names it, else it is the one that is built here"
     parser.add_argument("--lab", metavar="FILE", help=lab)
 
 
-def told(done: Ran, status: int, text: str) -> Iterator[str]:
+def told(done: Ran, status: int, text: str, fresh: bool) -> Iterator[str]:
     """What is said of a run: its changes, how it ended, and its bounds."""
     yield from (change.text for change in done.changes)
+    if fresh and (ticks := done.begun_twice()):
+        yield f"ticks in which an end began two sessions with one id: {len(ticks)}, the first {ticks[0]}"
     yield from done.others() if status in RAN else refused(done.report, text, done.script)
     yield from (part for line, said in done.bounds() for part in (line, f"  {said}"))
 
 
+def connections_of(text: str) -> int:
+    """How many connections a configuration has; none if the program refuses it."""
+    try:
+        return len(tables_of(tomllib.loads(text)).get("connection", []))
+    except tomllib.TOMLDecodeError:
+        return 0
+
+
+def prepared(given: argparse.Namespace) -> tuple[str, list[Line]]:
+    """The configuration and the script that are run."""
+    script, text = expanded(text_of(given.script)), text_of(given.configuration)
+    if given.rates:
+        if min(given.rates) < 0 or sum(given.rates) > 10_000:
+            raise Complaint("rates go from 0 on, and are at most 10,000 together")
+        text = with_key(text, "channel", "rates")
+    if given.fresh:
+        script = with_fresh_ids(script, connections_of(text))
+    return text, script
+
+
 def run(given: argparse.Namespace, tool: Tool) -> int:
-    script = expanded(text_of(given.script))
+    text, script = prepared(given)
     if given.plain:
         print(plain(script), end="")
         return 0
+    lab, rates = lab_of(given.lab), given.rates or ()
     first, last = given.seeds or (0, 0)
     if not 0 <= first <= last < 1 << 63 or last - first >= MOST_SEEDS:
         raise Complaint(f"seeds go from 0 to 2^63 - 1, the first one at most the last, {MOST_SEEDS:,} of them at most")
-    text = text_of(given.configuration)
-    text = with_seed(text, first) if given.seeds else text
-    status, report, done = ran(tool, lab_of(given.lab), text, script)
+    text = with_key(text, "seed", first) if given.seeds else text
+    status, report, done = ran(tool, lab, text, script, rates)
     if not done:
         print("\n".join(refused(report, text, script)))
         return status
-    lines, bounds, counts = list(told(done, status, text)), done.bounds(), []
+    lines, bounds, seen = list(told(done, status, text, given.fresh)), done.bounds(), []
     if given.seeds and status in RAN:
-        others, counts = over_seeds(tool, text, script, range(first, last + 1))
+        others, seen = over_seeds(lab if rates else tool, text, script, range(first, last + 1), rates)
         status = int(bool(others))
         first_other = f", the first {others[0]}" if others else ""
         lines.append(f"seeds {first} to {last}: {len(others)} with an other entry{first_other}")
-        lines += [part for (line, _), count in zip(bounds, counts) for part in rows(line, count)]
+        for (line, _), each in zip(bounds, seen):
+            lines += [summary(line, each), *rows(line, each.counts)]
+    elif rates:
+        lines += [summary(line, each) for (line, _), each in zip(bounds, done.seen())]
     if given.chart:
-        write_whole(given.chart, page_of(done, bounds, counts, given.seeds).encode())
+        write_whole(given.chart, page_of(done, bounds, [each.counts for each in seen], given.seeds).encode())
     print("\n".join(lines))
     return status

@@ -1,14 +1,16 @@
 """How long a drive stayed on after its stop was pressed, by the script and the report of a plant."""
 from __future__ import annotations
 
+import json
 import re
 import tomllib
 from collections import Counter
 from concurrent.futures import ProcessPoolExecutor
 from dataclasses import dataclass
-from functools import partial
+from functools import partial, reduce
+from operator import add
 from tempfile import NamedTemporaryFile
-from typing import Any, Iterator
+from typing import Any, Iterable, Iterator, Sequence
 
 from layer.causes import place_of
 from layer.journal import bit_of
@@ -29,6 +31,18 @@ class Press:
 
     tick: int
     off: int | None
+
+
+@dataclass(frozen=True)
+class Seen:
+    """What was seen of a bound: how often a reaction took so many ticks (None: no end), and ticks with the drive on."""
+
+    counts: Counter[int | None]
+    on: int
+    ticks: int
+
+    def __add__(self, other: Seen) -> Seen:
+        return Seen(self.counts + other.counts, self.on + other.on, self.ticks + other.ticks)
 
 
 def outputs_of(report: str) -> list[dict[int, str]]:
@@ -92,11 +106,23 @@ def said_of(bound: dict[str, str], tables: Tables, ended: str, script: list[Line
     if not found:
         return f"this shows nothing: stop {stop} was never pressed with drive {drive} on"
     took = sorted({press.off - press.tick for press in found if press.off})
-    times = "once" if len(found) == 1 else f"{len(found)} times"
     off = f"; it was off after {spoken(took)}" if took else ""
     left = sum(press.off is None for press in found)
     never = f"; {left} of these ended before it was off" if left else ""
-    return f"stop {stop} was pressed {times} with drive {drive} on{off}{never}; the limit is {limit}"
+    return f"stop {stop} was pressed {times(len(found))} with drive {drive} on{off}{never}; the limit is {limit}"
+
+
+def seen_of(bound: dict[str, str], script: list[Line], ticks: list[dict[int, str]]) -> Seen:
+    """What was seen of a bound in a run."""
+    link, number = place_of(bound["drive"])
+    found = presses(bound, script, ticks)
+    on = sum(bit_of(tick.get(link, ""), number) for tick in ticks)
+    return Seen(Counter(press.off and press.off - press.tick for press in found), on, len(ticks))
+
+
+def times(count: int) -> str:
+    """How often something was."""
+    return "once" if count == 1 else f"{count:,} times"
 
 
 def spoken(ticks: list[int]) -> str:
@@ -105,48 +131,67 @@ def spoken(ticks: list[int]) -> str:
     return f"{least}{ticks[-1]} tick{'s' if ticks[-1] > 1 else ''}"
 
 
-def with_seed(text: str, seed: int) -> str:
-    """A configuration with another seed; one that the program refuses stays as it is."""
+def with_key(text: str, key: str, value: int | str) -> str:
+    """A configuration with another value of a key of the plant; one that the program refuses stays as it is."""
+    shown = json.dumps(value)
     try:
         wanted = tomllib.loads(text)
     except tomllib.TOMLDecodeError:
         return text
-    place, lines = lines_of(text).get(("plant", 1, "seed")), text.split("\n")
+    place, lines = lines_of(text).get(("plant", 1, key)), text.split("\n")
     if place:
-        lines[place - 1] = re.sub(r"=\s*[\w+-]+", f"= {seed}", lines[place - 1], count=1)
+        lines[place - 1] = re.sub(r"""=\s*("[^"]*"|'[^']*'|[\w+-]+)""", f"= {shown}", lines[place - 1], count=1)
     elif head := lines_of(text).get(("plant", 1, "")):
-        lines.insert(head, f"seed = {seed}")
+        lines.insert(head, f"{key} = {shown}")
     changed = "\n".join(lines)
-    if "plant" in wanted and tomllib.loads(changed) != wanted | {"plant": wanted["plant"] | {"seed": seed}}:
-        raise Complaint("the seed of the configuration can't be replaced: write it in a line of its own under [plant]")
+    if "plant" in wanted and tomllib.loads(changed) != wanted | {"plant": wanted["plant"] | {key: value}}:
+        how = "write it in a line of its own under [plant]"
+        raise Complaint(f"the {key} of the configuration can't be replaced: {how}")
     return changed
 
 
-def with_file(tool: Tool, configuration: str, script: str, *words: str) -> tuple[int, str]:
-    """Status and report for a configuration and a script."""
+def with_file(tool: Tool, configuration: str, script: str, word: str, rates: Iterable[int]) -> tuple[int, str]:
+    """Status and report of a command for a configuration and a script."""
     with NamedTemporaryFile("w", suffix=".toml", encoding="utf-8") as file:
         file.write(configuration)
         file.flush()
-        return tool.ask(*words, file.name, text=script)
+        return tool.ask(word, file.name, *map(str, rates), text=script)
 
 
-def reactions_with(tool: Tool, text: str, script: list[Line], seed: int) -> tuple[int, list[Counter]]:
-    """The program's status with a seed, and for each bound how often a reaction took so many ticks (None: no end)."""
-    status, report = with_file(tool, with_seed(text, seed), text_of(script), "plant")
+def report_of(tool: Tool, text: str, script: list[Line], rates: Sequence[int]) -> tuple[int, str]:
+    """Status and report of a plant, which the program for trials runs if there are rates."""
+    return with_file(tool, text, text_of(script), "rates" if rates else "plant", rates)
+
+
+def reactions_with(
+    tool: Tool, text: str, script: list[Line], rates: Sequence[int], seed: int
+) -> tuple[int, list[Seen]]:
+    """The program's status with a seed, and what was seen of each bound."""
+    status, report = report_of(tool, with_key(text, "seed", seed), script, rates)
     if status > 1:
         raise Complaint(f"with seed {seed} the program ends with status {status}: {report.splitlines()[-1]}")
     ticks = outputs_of(report)
-    bounds = tables_of(tomllib.loads(text)).get("bound", [])
-    found = [presses(bound, script, ticks) for bound in bounds]
-    return status, [Counter(press.off and press.off - press.tick for press in each) for each in found]
+    return status, [seen_of(bound, script, ticks) for bound in tables_of(tomllib.loads(text)).get("bound", [])]
 
 
-def over_seeds(tool: Tool, text: str, script: list[Line], seeds: range) -> tuple[list[int], list[Counter]]:
-    """The seeds with an `other` entry, and the reactions of each bound over all seeds."""
+def over_seeds(
+    tool: Tool, text: str, script: list[Line], seeds: range, rates: Sequence[int] = ()
+) -> tuple[list[int], list[Seen]]:
+    """The seeds with an `other` entry, and what was seen of each bound over all seeds."""
     with ProcessPoolExecutor() as pool:
-        runs = list(pool.map(partial(reactions_with, tool, text, script), seeds, chunksize=4))
-    counts = [sum(counters, Counter()) for counters in zip(*(found for _, found in runs))]
-    return [seed for seed, (status, _) in zip(seeds, runs) if status], counts
+        runs = list(pool.map(partial(reactions_with, tool, text, script, rates), seeds, chunksize=4))
+    return [seed for seed, (status, _) in zip(seeds, runs) if status], [
+        reduce(add, found) for found in zip(*(found for _, found in runs))
+    ]
+
+
+def summary(line: str, seen: Seen) -> str:
+    """How long a drive was on, and how often its stop was pressed then."""
+    _, stop, drive, *_ = line.split(" ")
+    took = [ticks for ticks in seen.counts if ticks is not None]
+    longest = f", and the longest reaction was {spoken([max(took)])}" if took else ""
+    pressed = f"stop {stop} was pressed {times(seen.counts.total())} then{longest}"
+    return f"drive {drive} was on in {seen.on:,} of {seen.ticks:,} ticks; {pressed}"
 
 
 def rows(line: str, counts: Counter) -> Iterator[str]:

@@ -53,6 +53,22 @@ def expanded(text: str) -> list[Line]:
     return blocks[0][:MOST]
 
 
+def with_fresh_ids(lines: list[Line], connections: int) -> list[Line]:
+    """Before each tick each end gets its next session id: 1 more at a master, 2 more at a slave (docs/duties.md)."""
+    ends = [(f"n {number} {end}", step) for number in range(1, connections + 1) for end, step in (("m", 1), ("s", 2))]
+    fresh, tick = [], 0
+    for line in lines:
+        if line.text == "t":
+            tick += 1
+            fresh += [Line(f"{end} {step * tick}", 0) for end, step in ends]
+        fresh.append(line)
+    if len(fresh) > MOST:
+        each = len(ends) + 1
+        fit = (MOST - len(lines) + tick) // each
+        raise Complaint(f"with fresh ids a tick takes {each} lines of a script: {fit} ticks fit, and not {tick}")
+    return fresh
+
+
 def text_of(lines: list[Line]) -> str:
     """The text that the program reads."""
     return "".join(line.text + "\n" for line in lines)

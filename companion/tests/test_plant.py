@@ -8,7 +8,7 @@ from hypothesis import given, settings, strategies
 from layer.journal import Direction, Entry, Pair, bit_of, header_of, steps_of
 from layer.plant import ran
 from layer.program import Tool
-from layer.reactions import over_seeds, presses, with_seed
+from layer.reactions import Seen, over_seeds, presses, with_key
 from layer.script import MOST, Line, expanded
 from layer.vectors import check_named
 
@@ -123,7 +123,7 @@ LINES = strategies.sampled_from(PUTS + [line.format(link) for line in OTHERS for
 def test_replay_of_a_journal_says_what_the_report_says(lines, seed):
     last = ["app mirror", "t 3", "app zeros", "t", "end"]
     script = expanded("\n".join(["fsoe 1 plant", "p 1 0500", "p 2 0100", *lines, *last]))
-    for text in (EXAMPLE.read_text(), KEYS, with_seed(HOSTILE, seed)):
+    for text in (EXAMPLE.read_text(), KEYS, with_key(HOSTILE, "seed", seed)):
         status, report, done = ran(TOOL, LAB, text, script)
         others = [number for number, pair in done.pairs.items() if pair.other]
         assert f"\nother {others[0] if others else 'none'}\n" in report and status == bool(others)
@@ -247,11 +247,26 @@ def test_what_is_refused_is_explained(tmp_path):
 @WITH_LAB
 def test_seeds_are_counted():
     script = expanded("fsoe 1 plant\np 1 0500\np 2 0100\nt 3\np 1 0300\nt\np 1 0500\nt\np 1 0400\nt 30\nend")
-    assert over_seeds(TOOL, EXAMPLE.read_text() + BOUND, script, range(7)) == ([], [{1: 7}])
+    assert over_seeds(TOOL, EXAMPLE.read_text() + BOUND, script, range(7)) == ([], [Seen({1: 7}, 7, 245)])
     for text in (HOSTILE, HOSTILE.replace("seed = 1\n", "")):
         wanted = tomllib.loads(text)
         wanted["plant"]["seed"] = 9
-        assert tomllib.loads(with_seed(text, 9)) == wanted
+        assert tomllib.loads(with_key(text, "seed", 9)) == wanted
+
+
+@WITH_LAB
+def test_rates_and_fresh_ids_are_given(tmp_path):
+    perfect = said(tmp_path, SCRIPT)
+    seen = "drive o2.0 was on in 5 of 8 ticks; stop i1.0 was pressed once then, and the longest reaction was 5 ticks"
+    for text in (EXAMPLE.read_text() + BOUND, HOSTILE):
+        assert said(tmp_path, SCRIPT, text, "--rates", 0, 0, 0, 0) == [*perfect, seen]
+    assert not any("up" in line for line in said(tmp_path, SCRIPT, HOSTILE, "--rates", 0, 10000, 0, 0))
+    ids = "n 1 m 1,n 1 s 2,n 2 m 1,n 2 s 2,t,n 1 m 2,n 1 s 4,n 2 m 2,n 2 s 4,t"
+    script = f"fsoe 1 plant,{ids},end,".replace(",", "\n")
+    assert gatepast("plant", "--plain", "--fresh", EXAMPLE, "-", text="fsoe 1 plant\nt 2\nend") == (0, script, "")
+    for words, why in ((["--rates", 1, 0, 0, 10000], "together"), (["--fresh"], "400 ticks fit, and not 401")):
+        status, told, complaint = gatepast("plant", EXAMPLE, "-", *words, text="fsoe 1 plant\nt 401\nend")
+        assert (status, told) == (2, "") and why in complaint
 
 
 def test_presses_are_seen():
