@@ -1,13 +1,15 @@
 """Scripts for people, the causes of changes in a plant, its bounds, and its chart."""
+import re
 import shutil
 import tomllib
 
 import pytest
 from conftest import ENVIRONMENT, TOOL, TOP, WITH_LAB, gatepast
 from hypothesis import given, settings, strategies
+from layer.causes import drives_of
 from layer.journal import Direction, Entry, Pair, bit_of, header_of, steps_of
 from layer.plant import ran
-from layer.program import Tool
+from layer.program import Complaint, Tool
 from layer.reactions import Seen, over_seeds, presses, with_key
 from layer.script import MOST, Line, expanded
 from layer.vectors import check_named
@@ -86,6 +88,17 @@ def test_bits_are_numbered_from_the_lowest_of_the_first_byte():
     assert [number for number in range(40) if bit_of("01800a", number)] == [0, 15, 17, 19]
 
 
+def test_drives_are_in_the_order_of_their_places():
+    tables = {"plant": [{"app": "net"}], "bound": [{"drive": "o1.0"}, {"drive": "o2.3"}]}
+    assert drives_of(tables | {"drive": [{"out": out} for out in ("o10.0", "o2.11", "o2.3")]}) == [
+        "o1.0",
+        "o2.3",
+        "o2.11",
+        "o10.0",
+    ]
+    assert drives_of(tables | {"plant": [{"app": "zeros"}], "drive": [{"out": "o9.0"}]}) == ["o1.0", "o2.3"]
+
+
 def test_a_frame_of_another_session_was_not_taken_last():
     entry, last = None, []
     for did, state in (("took Session", "Session"), ("quiet", "Session"), ("reset own", "Reset"), ("quiet", "Reset")):
@@ -155,7 +168,8 @@ def said(tmp_path, script, text=EXAMPLE.read_text() + BOUND, *words):
 @pytest.mark.parametrize(
     "lines, wanted",
     (
-        ("p 1 0400\nt", "tick 7: drive o2.0 off: stop i1.0 was pressed (line 9: p 1 0400)"),
+        ("p 1 0400\nt\np 1 0500\nt", "tick 7: drive o2.0 off: stop i1.0 was pressed (line 9: p 1 0400)"),
+        ("p 1 0000\np 2 0000\nt", "tick 7: drive o2.0 off: stop i1.0 was pressed (line 9: p 1 0000)"),
         ("h 1 1\nt", "tick 7: drive o2.0 off: the slave of connection 1 sends fail-safe data (line 9: h 1 1)"),
         ("p 2 0000\nt", "tick 7: drive o2.0 off: i2.0 fell (line 9: p 2 0000)"),
         ("z 2\nt", "after tick 6: drive o2.0 off: its slave was reset, line 9: z 2"),
@@ -234,7 +248,7 @@ def test_what_is_refused_is_explained(tmp_path):
     status, told, _ = gatepast("plant", tmp_path / "plant.toml", "-", "--chart", page, text=SCRIPT)
     assert status == 3 and told.startswith("config Range connection 1 watchdog\nline 9 is: watchdog = 0\n")
     nowhere = tmp_path / "no" / "a.html"
-    for words in (["--seeds", 4, 3], ["--seeds", 0, 10**5], ["--chart", nowhere], ["--lab", tmp_path]):
+    for words in (["--seeds", 4, 3], ["--seeds", 0, 10_000], ["--chart", nowhere], ["--lab", tmp_path]):
         status, told, why = gatepast("plant", EXAMPLE, "-", *words, text=SCRIPT)
         assert (status, told) == (2, "") and why.startswith("gatepast: ")
     assert not page.exists()
@@ -248,6 +262,8 @@ def test_what_is_refused_is_explained(tmp_path):
 def test_seeds_are_counted():
     script = expanded("fsoe 1 plant\np 1 0500\np 2 0100\nt 3\np 1 0300\nt\np 1 0500\nt\np 1 0400\nt 30\nend")
     assert over_seeds(TOOL, EXAMPLE.read_text() + BOUND, script, range(7)) == ([], [Seen({1: 7}, 7, 245)])
+    with pytest.raises(Complaint):
+        over_seeds(TOOL, EXAMPLE.read_text(), expanded("fsoe 1 plant\nx\nend"), range(1))
     for text in (HOSTILE, HOSTILE.replace("seed = 1\n", "")):
         wanted = tomllib.loads(text)
         wanted["plant"]["seed"] = 9
@@ -267,6 +283,16 @@ def test_rates_and_fresh_ids_are_given(tmp_path):
     for words, why in ((["--rates", 1, 0, 0, 10000], "together"), (["--fresh"], "400 ticks fit, and not 401")):
         status, told, complaint = gatepast("plant", EXAMPLE, "-", *words, text="fsoe 1 plant\nt 401\nend")
         assert (status, told) == (2, "") and why in complaint
+
+
+@WITH_LAB
+def test_seeds_with_an_other_entry_are_told(tmp_path):
+    (tmp_path / "plant.toml").write_text(HOSTILE)
+    for first in (46, 47):
+        script = "fsoe 1 plant\np 1 0500\np 2 0100\nt 60\nend"
+        status, told, _ = gatepast("plant", tmp_path / "plant.toml", "-", "--seeds", first, 47, text=script)
+        assert status == 1 and f"\nseeds {first} to 47: 1 with an other entry, the first 47\n" in told
+    assert re.search(r"^other (\d): .*\n  tick [1-9]\d*: in connection \1 a frame passed", told, re.M)
 
 
 def test_presses_are_seen():
