@@ -71,6 +71,7 @@ def test_what_cannot_be_expanded_is_told(tmp_path, script, why):
 
 def test_a_plain_script_is_what_the_program_reads():
     assert gatepast("plant", "--plain", EXAMPLE, "-", text=SCRIPT) == (0, SCRIPT, "")
+    assert [line.text for line in expanded("app a#b # c\n#t\nt# 1")] == ["app a#b", "t# 1"]
     assert len(expanded("repeat 999999999\nrepeat 999999999\ndone\nt 999999999\ndone")) == MOST
 
 
