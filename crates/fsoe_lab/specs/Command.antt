@@ -22,7 +22,8 @@ rates_of lose alter repeat late = None
 -- the rates that words name: four, or none, where all are 0
 abbrev pub rates_said : List (List ℕ) → Option Rates
 rates_said [] = Some (record { lose = 0; alter = 0; repeat = 0; late = 0 })
-rates_said (lose ∷ alter ∷ repeat ∷ late ∷ []) = rates_of (number_said 10000 lose) (number_said 10000 alter) (number_said 10000 repeat) (number_said 10000 late)
+rates_said (lose ∷ alter ∷ repeat ∷ late ∷ []) =
+    rates_of (number_said 10000 lose) (number_said 10000 alter) (number_said 10000 repeat) (number_said 10000 late)
 rates_said words = None
 
 abbrev pub wanted_by : List ℕ → Option Wanted
