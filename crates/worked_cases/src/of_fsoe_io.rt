@@ -1,5 +1,5 @@
 use fsoe_io::{
-    Desk, LoadFault, MemDesk, MemSink, Output, Partial, Source, StdSink, StdSource, SureDesk,
+    Desk, LoadFault, MemDesk, MemSink, Output, Partial, Sink, Source, StdSink, StdSource, SureDesk,
     put_all,
 };
 use std::alloc::{AllocError, Global};
@@ -15,17 +15,18 @@ fn read_by_twos() -> ([Option<usize>; 3], [u8; 2]) {
     ([first, second, source.read(&mut buffer).ok()], read)
 }
 
-/// What comes of putting each of two pieces into a stream with room for four bytes.
-fn put_twice() -> [Result<(), Partial>; 2] {
+/// What comes of putting each of two pieces into a stream with room for four bytes, and then of writing nothing.
+fn put_twice() -> ([Result<(), Partial>; 2], Option<usize>) {
     let mut room = [0; 4];
     let mut sink = StdSink::new(room.as_mut_slice());
-    [put_all(&mut sink, b"abc"), put_all(&mut sink, b"def")]
+    let put = [put_all(&mut sink, b"abc"), put_all(&mut sink, b"def")];
+    (put, sink.write(b"").ok())
 }
 
 #[test]
 fn streams_of_std_are_ends(rt: HostRuntime) {
     assert_eq!(rt; read_by_twos(), ([Some(2), Some(1), Some(0)], *b"ab"));
-    assert_eq!(rt; put_twice(), [Ok(()), Err(Partial { done: 1 })]);
+    assert_eq!(rt; put_twice(), ([Ok(()), Err(Partial { done: 1 })], Some(0)));
 }
 
 /// What a sink has that takes three bytes in a call and fails at the third, after a text was put and another finished.
