@@ -9,12 +9,14 @@
 //! let mut master = Master::new(settings);
 //! let mut out = FrameBuf::new();
 //! loop {
-//!     master.put(&commands);                              // the data to send next: settings().own_len() bytes
-//!     let did = match wait() {
+//!     let event = wait();
+//!     master.put(&commands());                            // the data to send, read now: settings().own_len() bytes
+//!     let did = match event {
 //!         Frame(bytes) => master.deliver(&bytes, &mut out), // any bytes that came, of any number
 //!         Tick => master.tick(&mut out),                    // the watchdog counts these
 //!         Stop => master.reset(&mut out),
 //!     };
+//!     take(master.outputs());                             // the slave's data; zeros in every state but Data
 //!     if did.sent {
 //!         send(out.bytes());
 //!     }
@@ -23,7 +25,6 @@
 //!         Some(Cause::Peer(code)) => report(code),        // the slave sent a Reset frame with this code
 //!         Some(Cause::Local) | None => {}
 //!     }
-//!     take(master.outputs());                             // the slave's data; zeros in every state but Data
 //! }
 //! ```
 //!

@@ -6,12 +6,14 @@
 //! let mut slave = Slave::new(settings);
 //! let mut out = FrameBuf::new();
 //! loop {
-//!     slave.put(&inputs);                               // the data to send next: settings().own_len() bytes
-//!     let did = match wait() {
+//!     let event = wait();
+//!     slave.put(&inputs());                             // the data to send, read now: settings().own_len() bytes
+//!     let did = match event {
 //!         Frame(bytes) => slave.deliver(&bytes, &mut out),  // any bytes that came, of any number
 //!         Tick => slave.tick(&mut out),                     // the watchdog counts these
 //!         Stop => slave.reset(&mut out),
 //!     };
+//!     drive(slave.outputs());                           // before all else; zeros in every state but Data
 //!     if did.sent {
 //!         send(out.bytes());
 //!     }
@@ -20,7 +22,6 @@
 //!         Some(Cause::Peer(code)) => report(code),      // the master sent a Reset frame with this code
 //!         Some(Cause::Local) | None => {}
 //!     }
-//!     drive(slave.outputs());                           // zeros in every state but Data
 //! }
 //! ```
 //!

@@ -1,5 +1,5 @@
-//! The smallest program around a slave: it passes in frames and ticks, sends what the slave writes, and gives the
-//! slave's outputs to the drive. Here the events are a fixed list; in a device they come from the bus and from a timer.
+//! The smallest program around a slave: it passes in frames and ticks, gives the slave's outputs to the drive, and
+//! sends what the slave writes. Here the events are a fixed list; in a device they come from the bus and from a timer.
 //! Here the session id is always 2; a device must give a fresh one before each session.
 #![tactic(auto)]
 
@@ -39,10 +39,11 @@ fn main(rt: HostRuntime) -> io::Result<()> {
             Coming::Frame(frame) => slave.deliver(frame, &mut out),
             Coming::Tick => slave.tick(&mut out),
         };
+        print!(rt; "drive {:?}", slave.outputs())?;
         if did.sent {
-            print!(rt; "send {:?} ", out.bytes())?;
+            print!(rt; " send {:?}", out.bytes())?;
         }
-        println!(rt; "drive {:?}", slave.outputs())?;
+        println!(rt; "")?;
     }
     Ok(())
 }
