@@ -1,6 +1,6 @@
 -- What a line says that stands after the header of images. The causes come in their order: the word, the number of
 -- fields, a number, a slot that doesn't exist, the hexadecimal bytes, a length, a position.
-use Rattle.std.specs.Prelude.{ℕ, ◌+◌, ◌==◌, nat_le, length, List, [], codes, Option, Some, None, Result, Ok, Err, if◌then◌else◌}
+use Rattle.std.specs.Prelude.{ℕ, ◌+◌, ◌==◌, nat_le, length, List, codes, Option, Some, None, Result, Ok, Err, if◌then◌else◌}
 use Rattle.std.specs.Str.{bytes_eq}
 use Rattle.fsoe_base.specs.Lengths.{most_data}
 use Rattle.param_load.specs.Profile.{allows_id}

@@ -16,9 +16,6 @@ loop-i-init c = record {
   room = omega (arith, ap length c.requires.fresh);
 }
 
-pub tick-requires-clause-send : goal.tick-requires-clause-send
-tick-requires-clause-send c = c.loop-i.invariant.send c.loop-i.i _ (omega arith) (slice_get-get_or c.loop-i.seats c.loop-i.i c.index-seats-i.result (omega arith))
-
 pub loop-i-preserved : goal.loop-i-preserved
 loop-i-preserved c =
     let i : ℕ = c.loop-i.i in

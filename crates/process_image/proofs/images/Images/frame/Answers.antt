@@ -3,7 +3,7 @@ use Rattle.process_image.specs.Image.{bytes_at}
 use Rattle.process_image.specs.Sound.{IsSoundSeat}
 use Rattle.process_image.specs.Standing.{ImagesView}
 use Rattle.process_image.proofs.Counts.{seat_there}
-use Rattle.process_image.proofs.Reading.{frame_shown, frame_short}
+use Rattle.process_image.proofs.Reading.{frame_shown}
 use Rattle.process_image.proofs.Zips.{all_at}
 use Rattle.process_image.proofs.images.Images.frame.Goals as goal
 
@@ -14,9 +14,3 @@ returns-clause-shown c =
     rw (← c.self.view_is)
     (frame_shown v (length v.input) (length v.output) c.args.slot (c.from.result - 1) c.index-seat.result.now _ (all_at (IsSoundSeat (length v.input) (length v.output)) v.seats (c.from.result - 1) c.index-seat.result.now c.self.invariant.seats at) (omega arith) at
     (ap (λ (image : List ℕ). bytes_at c.index-seat.result.now.at_out c.index-seat.result.now.len_out image) c.deref.ensures.value))
-
-pub returns-clause-most : goal.returns-clause-most
-returns-clause-most c =
-    let v : ImagesView = record { seats = c.self.inside.seats.items; input = c.self.inside.input.items; output = c.self.inside.output.items } in
-    let at = seat_there _ _ c.args.slot (c.from.result - 1) c.index-seat.result.now c.self.view_is (omega arith) c.requires c.index-seat.ensures in
-    frame_short (length v.input) (length v.output) c.index-seat.result.now _ (all_at (IsSoundSeat (length v.input) (length v.output)) v.seats (c.from.result - 1) c.index-seat.result.now c.self.invariant.seats at)

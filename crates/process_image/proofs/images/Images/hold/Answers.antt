@@ -2,13 +2,8 @@ use Rattle.std.proofs.Common.{◌-◌, length, refl, arith}
 use Rattle.param_load.specs.declared.entry.Move.TheVariants as move
 use Rattle.process_image.proofs.Counts.{seat_there}
 use Rattle.process_image.proofs.One.{hold_follows}
-use Rattle.process_image.proofs.Set.{set_moved, at_rest, set_sound, set_setups}
+use Rattle.process_image.proofs.Set.{set_moved, set_sound, set_setups}
 use Rattle.process_image.proofs.images.Images.hold.Goals as goal
-
-pub hold-requires : goal.hold-requires
-hold-requires c =
-    let at = seat_there _ _ c.args.slot (c.from.result - 1) c.index_mut.result.now c.self.view_is (omega arith) c.requires c.index_mut.ensures.value in
-    at_rest (record { seats = c.self.inside.seats.items; input = c.self.inside.input.items; output = c.self.inside.output.items }) (c.from.result - 1) c.index_mut.result.now c.self.invariant at
 
 pub invariant_of-self : goal.invariant_of-self
 invariant_of-self c =

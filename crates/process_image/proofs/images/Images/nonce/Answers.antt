@@ -7,7 +7,7 @@ use Rattle.process_image.specs.Standing.{setups_of}
 use Rattle.process_image.specs.Places.{numbered}
 use Rattle.process_image.proofs.Counts.{seat_there}
 use Rattle.process_image.proofs.One.{nonce_follows}
-use Rattle.process_image.proofs.Set.{set_moved, named_setup, at_rest, set_sound, set_setups}
+use Rattle.process_image.proofs.Set.{set_moved, named_setup, set_sound, set_setups}
 use Rattle.process_image.proofs.images.Images.nonce.Goals as goal
 
 pub nonce-requires-clause-allowed : goal.nonce-requires-clause-allowed
@@ -15,11 +15,6 @@ nonce-requires-clause-allowed c =
     let at = seat_there _ _ c.args.slot (c.from.result - 1) c.index_mut.result.now c.self.view_is (omega arith) c.requires.slot c.index_mut.ensures.value in
     named_setup (record { seats = c.self.inside.seats.items; input = c.self.inside.input.items; output = c.self.inside.output.items }) c.args.slot (c.from.result - 1) c.index_mut.result.now
     (λ (s : Setup). IsTrue (allows_id (profile_of s) c.args.id)) (omega arith) at (subst (λ v. IfSome (numbered c.args.slot (setups_of v)) (λ (s : Setup). IsTrue (allows_id (profile_of s) c.args.id))) (sym c.self.view_is) c.requires.allowed)
-
-pub nonce-requires-clause-rest : goal.nonce-requires-clause-rest
-nonce-requires-clause-rest c =
-    let at = seat_there _ _ c.args.slot (c.from.result - 1) c.index_mut.result.now c.self.view_is (omega arith) c.requires.slot c.index_mut.ensures.value in
-    at_rest (record { seats = c.self.inside.seats.items; input = c.self.inside.input.items; output = c.self.inside.output.items }) (c.from.result - 1) c.index_mut.result.now c.self.invariant at
 
 pub invariant_of-self : goal.invariant_of-self
 invariant_of-self c =

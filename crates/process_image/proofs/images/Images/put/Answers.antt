@@ -5,7 +5,7 @@ use Rattle.process_image.specs.Standing.{setups_of}
 use Rattle.process_image.specs.Places.{numbered}
 use Rattle.process_image.proofs.Counts.{seat_there}
 use Rattle.process_image.proofs.One.{put_follows}
-use Rattle.process_image.proofs.Set.{set_moved, named_setup, at_rest, set_sound, set_setups}
+use Rattle.process_image.proofs.Set.{set_moved, named_setup, set_sound, set_setups}
 use Rattle.process_image.proofs.images.Images.put.Goals as goal
 
 pub put-requires-clause-len : goal.put-requires-clause-len
@@ -13,11 +13,6 @@ put-requires-clause-len c =
     let at = seat_there _ _ c.args.slot (c.from.result - 1) c.index_mut.result.now c.self.view_is (omega arith) c.requires.slot c.index_mut.ensures.value in
     named_setup (record { seats = c.self.inside.seats.items; input = c.self.inside.input.items; output = c.self.inside.output.items }) c.args.slot (c.from.result - 1) c.index_mut.result.now
     (λ (s : Setup). length c.args.load.now ≡ sends s) (omega arith) at (subst (λ v. IfSome (numbered c.args.slot (setups_of v)) (λ (s : Setup). length c.args.load.now ≡ sends s)) (sym c.self.view_is) c.requires.len)
-
-pub put-requires-clause-rest : goal.put-requires-clause-rest
-put-requires-clause-rest c =
-    let at = seat_there _ _ c.args.slot (c.from.result - 1) c.index_mut.result.now c.self.view_is (omega arith) c.requires.slot c.index_mut.ensures.value in
-    at_rest (record { seats = c.self.inside.seats.items; input = c.self.inside.input.items; output = c.self.inside.output.items }) (c.from.result - 1) c.index_mut.result.now c.self.invariant at
 
 pub invariant_of-self : goal.invariant_of-self
 invariant_of-self c =

@@ -6,20 +6,9 @@ use Rattle.process_image.proofs.Keeping.{written_back}
 use Rattle.process_image.proofs.Looping.{sent_size}
 use Rattle.process_image.proofs.One.{reset_follows}
 use Rattle.process_image.proofs.Reading.{reset_answers}
-use Rattle.process_image.proofs.Set.{at_rest, set_setups, reset_sound}
+use Rattle.process_image.proofs.Set.{set_setups, reset_sound}
 use Rattle.process_image.proofs.Zips.{all_at}
 use Rattle.process_image.proofs.images.Images.reset.Goals as goal
-
-pub reset-did-requires : goal.reset-did-requires
-reset-did-requires c =
-    let at = seat_there _ _ c.args.slot (c.from.result - 1) c.index_mut-seat.result.now c.self.view_is (omega arith) c.requires c.index_mut-seat.ensures.value in
-    at_rest (record { seats = c.self.inside.seats.items; input = c.self.inside.input.items; output = c.self.inside.output.items }) (c.from.result - 1) c.index_mut-seat.result.now c.self.invariant at
-
-pub give-requires : goal.give-requires
-give-requires c =
-    let at = seat_there _ _ c.args.slot (c.from.result - 1) c.index_mut-seat.result.now c.self.view_is (omega arith) c.requires c.index_mut-seat.ensures.value in
-    rw (c.as_mut_slice.ensures.value)
-    (all_at (IsSoundSeat (length c.self.inside.input.items) (length c.self.inside.output.items)) c.self.inside.seats.items (c.from.result - 1) c.index_mut-seat.result.now c.self.invariant.seats at).inside_out
 
 pub invariant_of-self : goal.invariant_of-self
 invariant_of-self c =

@@ -1,13 +1,8 @@
-use Rattle.std.proofs.Common.{length, refl, sym, ap, ◌∙◌}
+use Rattle.std.proofs.Common.{length, refl, ap, ◌∙◌}
 use Rattle.process_image.specs.Steps.{IsSampleStep, told_by}
-use Rattle.process_image.specs.Standing.{slots_in}
-use Rattle.process_image.proofs.Counts.{count_is}
 use Rattle.process_image.proofs.Keeping.{sampled_alike, images_sound, does_setups, written_back}
 use Rattle.process_image.proofs.Telling.{sample_follows, sample_answers}
 use Rattle.process_image.proofs.images.Images.sample.Goals as goal
-
-pub sample_all-requires-clause-sound : goal.sample_all-requires-clause-sound
-sample_all-requires-clause-sound c = rw (c.as_mut_slice.ensures.value, c.as_slice.ensures.value, c.as_mut_slice-2.ensures.value) c.self.invariant.seats
 
 pub invariant_of-self : goal.invariant_of-self
 invariant_of-self c =
@@ -36,6 +31,3 @@ returns-clause-setups c =
     let d = sampled_alike _ _ _ _ _ _ _ _ _ c.sample_all.ensures.does c.as_slice.ensures.value c.as_mut_slice.ensures.value c.as_mut_slice-2.ensures.value in
     rw (← c.self.view_is, seats)
     (does_setups (IsSampleStep c.self.inside.input.items) told_by c.self.inside.seats.items c.self.inside.output.items c.sample_all.new.seats c.sample_all.new.output c.sample_all.new.told (λ x q. q.is) d)
-
-pub sample_all-requires-clause-told : goal.sample_all-requires-clause-told
-sample_all-requires-clause-told c = c.requires ∙ ap slots_in (sym c.self.view_is) ∙ count_is (record { seats = c.self.inside.seats.items; input = c.self.inside.input.items; output = c.self.inside.output.items }) ∙ ap length (sym c.as_mut_slice.ensures.value)

@@ -4,9 +4,6 @@ use Rattle.process_image.proofs.Keeping.{written_back}
 use Rattle.process_image.proofs.Telling.{sample_alike, sample_does, sample_sound}
 use Rattle.process_image.proofs.images.Images.sample_telling.Goals as goal
 
-pub sample_telling-requires-clause-sound : goal.sample_telling-requires-clause-sound
-sample_telling-requires-clause-sound c = rw (c.as_mut_slice.ensures.value, c.as_slice.ensures.value, c.as_mut_slice-2.ensures.value) c.self.invariant.seats
-
 pub invariant_of-self : goal.invariant_of-self
 invariant_of-self c =
     let v : ImagesView = record { seats = c.self.inside.seats.items; input = c.self.inside.input.items; output = c.self.inside.output.items } in

@@ -1,14 +1,8 @@
-use Rattle.std.proofs.Common.{length, refl, sym, ap, ◌∙◌}
+use Rattle.std.proofs.Common.{length, refl, ap, ◌∙◌}
 use Rattle.process_image.specs.Steps.{IsTickStep, did_in}
-use Rattle.process_image.specs.Standing.{slots_in}
-use Rattle.process_image.proofs.Counts.{count_is}
-use Rattle.process_image.proofs.Keeping.{ticked_alike, images_sound, does_setups, written_back, all_may}
+use Rattle.process_image.proofs.Keeping.{ticked_alike, images_sound, does_setups, written_back}
 use Rattle.process_image.proofs.Telling.{tick_follows, tick_answers}
 use Rattle.process_image.proofs.images.Images.tick.Goals as goal
-
-pub tick_all-requires-clause-send : goal.tick_all-requires-clause-send
-tick_all-requires-clause-send c =
-    rw (c.as_mut_slice.ensures.value, c.as_mut_slice-2.ensures.value) (all_may (length c.self.inside.input.items) (length c.self.inside.output.items) c.self.inside.seats.items c.self.invariant.seats)
 
 pub invariant_of-self : goal.invariant_of-self
 invariant_of-self c =
@@ -37,6 +31,3 @@ returns-clause-setups c =
     let d = ticked_alike _ _ _ _ _ _ _ c.tick_all.ensures.does c.as_mut_slice.ensures.value c.as_mut_slice-2.ensures.value in
     rw (← c.self.view_is, seats)
     (does_setups IsTickStep did_in c.self.inside.seats.items c.self.inside.output.items c.tick_all.new.seats c.tick_all.new.output c.tick_all.new.dids (λ x q. q.is) d)
-
-pub tick_all-requires-clause-dids : goal.tick_all-requires-clause-dids
-tick_all-requires-clause-dids c = c.requires ∙ ap slots_in (sym c.self.view_is) ∙ count_is (record { seats = c.self.inside.seats.items; input = c.self.inside.input.items; output = c.self.inside.output.items }) ∙ ap length (sym c.as_mut_slice.ensures.value)

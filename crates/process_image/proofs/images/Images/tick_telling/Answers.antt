@@ -1,12 +1,8 @@
 use Rattle.std.proofs.Common.{length, refl, ap, ◌∙◌}
 use Rattle.process_image.specs.Standing.{ImagesView}
-use Rattle.process_image.proofs.Keeping.{all_may, written_back}
+use Rattle.process_image.proofs.Keeping.{written_back}
 use Rattle.process_image.proofs.Telling.{tick_alike, tick_does, tick_sound}
 use Rattle.process_image.proofs.images.Images.tick_telling.Goals as goal
-
-pub tick_telling-requires-clause-send : goal.tick_telling-requires-clause-send
-tick_telling-requires-clause-send c =
-    rw (c.as_mut_slice.ensures.value, c.as_mut_slice-2.ensures.value) (all_may (length c.self.inside.input.items) (length c.self.inside.output.items) c.self.inside.seats.items c.self.invariant.seats)
 
 pub invariant_of-self : goal.invariant_of-self
 invariant_of-self c =

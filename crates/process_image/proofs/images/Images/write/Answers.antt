@@ -1,13 +1,8 @@
 use Rattle.std.proofs.Common.{ℕ, length, refl, ap, ◌∙◌}
 use Rattle.process_image.specs.Image.{with_bytes}
-use Rattle.process_image.proofs.Keeping.{input_sound, written_back}
+use Rattle.process_image.proofs.Keeping.{written_back}
 use Rattle.process_image.proofs.One.{write_follows}
 use Rattle.process_image.proofs.images.Images.write.Goals as goal
-
-pub invariant_of-self : goal.invariant_of-self
-invariant_of-self c =
-    let back = written_back c.overwrite.new.image c.self.inside.input.items c.self.inside.input.len (cc) (cc) in
-    rw back (input_sound (record { seats = c.self.inside.seats.items; input = c.self.inside.input.items; output = c.self.inside.output.items }) c.overwrite.new.image c.self.invariant (cc))
 
 pub returns-clause-follows : goal.returns-clause-follows
 returns-clause-follows c =
