@@ -97,15 +97,15 @@ impl Channel for RateChannel {
     {
         let word = self.words.next_word();
         let rest = word % 10_000;
-        let altered = u32::from(self.rates.lose) + u32::from(self.rates.alter);
+        let lost_or_altered = u32::from(self.rates.lose) + u32::from(self.rates.alter);
         if rest < u32::from(self.rates.lose) {
             return;
         }
-        if rest < altered {
+        if rest < lost_or_altered {
             self.channel.push(to, turned_frame(word, frame).bytes());
             return;
         }
-        if rest < altered + u32::from(self.rates.repeat) {
+        if rest < lost_or_altered + u32::from(self.rates.repeat) {
             self.channel.push(to, frame);
         }
         self.channel.push(to, frame);
