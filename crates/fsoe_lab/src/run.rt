@@ -1,5 +1,5 @@
 //! The run of a command.
-ghost use Rattle.std.specs.Prelude.{◌≡◌, ◌≢◌, ℕ, List, [], map, string_bytes};
+ghost use Rattle.std.specs.Prelude.{◌≡◌, ◌≢◌, ℕ, List, [], None, map, string_bytes};
 ghost use Rattle.file_run.specs.Outside as outside;
 ghost use Rattle.multi_master.specs.Standing.{app_view};
 ghost use Rattle.plant_file.specs.Handed.{handed};
@@ -15,13 +15,13 @@ use plant_file::run_file;
 use plant_run::Journal;
 use std::alloc::Global;
 
-/// What is written if the arguments name no file.
+/// What is written if the arguments name no plant.
 const USAGE: &[u8] = b"usage: fsoe_lab journal|rates <file> [<lose> <alter> <repeat> <late>]\n";
 
 /// Runs the command of the arguments after the program's name: `rates <file>` runs a plant as `plant <file>` of
-/// `fsoe_tool` does, and `journal <file>` too, but writes its journal in place of its report. `journal` has it then, too.
-/// The rates after the file are those of a channel that the caller hands in. If the arguments are others, it writes the
-/// usage line, with status `Usage`, without the source.
+/// `fsoe_tool` does; `journal <file>` does so too, but writes the plant's journal in place of its report. After either,
+/// the argument `journal` has the journal. The rates after the file are those of a channel that the caller hands in. If
+/// the arguments are others, it writes the usage line, with status `Usage`, without the source and the desk.
 pub fn run<D: Desk, S: Source, K: Sink>(
     alloc: Global,
     words: &[String],
@@ -38,6 +38,7 @@ pub fn run<D: Desk, S: Source, K: Sink>(
         (record { source = outside.told S.left S.faults source.old source.new; sink = outside.told K.written K.faults sink.old sink.new })
         (let file = file_named (map string_bytes words.now) in record { text = D.holds desk.old file; faults_before = D.faults desk.old file; faults_after = D.faults desk.new file })
         (handed (app_view A.rule A.holds A.guards) C.name C.told apps.items channels.old.items channels.new.items journal.new) }
+    ensures unasked { trial_said (map string_bytes words.now) ≡ None → desk.new ≡ desk.old }
     ensures others { (other : List ℕ) → other ≢ file_named (map string_bytes words.now) → D.faults desk.new other ≡ D.faults desk.old other }
 {
     match trial_said(words) {
