@@ -130,8 +130,8 @@ class Chart:
         }
 
 
-def page_of(ran: Ran, bounds: list[tuple[str, str]], counts: list, seeds: list[int] | None) -> str:
-    """The page of a run."""
+def page_of(ran: Ran, script: str, bounds: list[tuple[str, str]], counts: list, seeds: list[int] | None) -> str:
+    """The page of a run, with its script as it was written."""
     chart = Chart(ran)
     lanes = [chart.lane(pair, end) for pair in ran.pairs.values() for end in "ms"]
     told = [chart.bound(number, line, said) for number, (line, said) in enumerate(bounds)]
@@ -149,6 +149,7 @@ def page_of(ran: Ran, bounds: list[tuple[str, str]], counts: list, seeds: list[i
         "bounds": [bound | {"counts": dict(count)} for bound, count in zip(told, counts)] if counts else told,
         "changes": [(max(1, change.step.tick), change.text, change.is_off) for change in ran.changes],
         "texts": list(chart.texts),
+        "lines": script.rstrip("\n").split("\n"),
         "seeds": seeds,
     }
     return TEMPLATE.read_text().replace("DATA", json.dumps(data, separators=(",", ":")).replace("<", "\\u003c"))

@@ -133,9 +133,9 @@ def connections_of(text: str) -> int:
         return 0
 
 
-def prepared(given: argparse.Namespace) -> tuple[str, list[Line]]:
-    """The configuration and the script that are run."""
-    script, text = expanded(text_of(given.script)), text_of(given.configuration)
+def prepared(given: argparse.Namespace, source: str) -> tuple[str, list[Line]]:
+    """The configuration and the lines of the script that are run."""
+    script, text = expanded(source), text_of(given.configuration)
     if given.rates:
         if min(given.rates) < 0 or sum(given.rates) > 10_000:
             raise Complaint("rates go from 0 on, and are at most 10,000 together")
@@ -146,7 +146,8 @@ def prepared(given: argparse.Namespace) -> tuple[str, list[Line]]:
 
 
 def run(given: argparse.Namespace, tool: Tool) -> int:
-    text, script = prepared(given)
+    source = text_of(given.script)
+    text, script = prepared(given, source)
     if given.plain:
         print(plain(script), end="")
         return 0
@@ -170,6 +171,7 @@ def run(given: argparse.Namespace, tool: Tool) -> int:
     elif rates:
         lines += [summary(line, each) for (line, _), each in zip(bounds, done.seen())]
     if given.chart:
-        write_whole(given.chart, page_of(done, bounds, [each.counts for each in seen], given.seeds).encode())
+        page = page_of(done, source, bounds, [each.counts for each in seen], given.seeds)
+        write_whole(given.chart, page.encode())
     print("\n".join(lines))
     return status
