@@ -18,7 +18,7 @@ ghost use Rattle.entry_text.specs.EntryText.{code_text, cause_text, dropped_text
 use fsoe_base::{Cause, Code, Command, Did, Dropped, MOST_DATA, MOST_FRAME, State};
 use fsoe_io::LineText;
 
-/// Appends a word of a reset and its code.
+/// Appends `word`, which says who reset the end, and the code.
 fn push_coded(word: &[u8], code: Code, text: &mut LineText)
     requires word { length word.now ≤ 20 }
     requires room { length text.old ≤ 80 }
@@ -85,8 +85,8 @@ fn push_did(did: &Did, text: &mut LineText)
     }
 }
 
-/// Appends the name of a state between two spaces. Each is a piece by itself, as `push_took`'s are, since a copy whose
-/// length is known is made of few instructions.
+/// Appends the name of a state between two spaces. Each name has a copy of its own, also in `push_took`: a copy whose
+/// length is constant takes few instructions.
 fn push_state(state: State, text: &mut LineText)
     requires { length text.old ≤ 100 }
     ensures text { text.new ≡ text.old ++ (codes " " ++ state_name state ++ codes " ") }

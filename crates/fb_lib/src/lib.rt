@@ -1,5 +1,6 @@
-//! Function blocks of a safety application, which `fb_net` connects to nets. Each is stepped once per cycle with its
-//! inputs, and gives one output. A block has no clock: a cycle says whether it counts as one unit of time.
+//! Function blocks of a safety application. `fb_net` makes nets of connected blocks. Each block is stepped once per
+//! cycle with its inputs, and gives one output. A block has no clock: `step` is told whether the cycle counts as one
+//! unit of time.
 //!
 //! ```rust
 //! use fb_lib::{Block, BlockKind};

@@ -1,6 +1,6 @@
 //! The loop that commands share. It reads the header and the events of an input line by line, and ends the report. A
 //! `Format` says how lines are parsed. A `Machine` says what an event does, and what is written of it. `convert` also
-//! writes the header's lines, so it has its own loop over the functions here.
+//! writes the header's lines. So it has a loop of its own, which calls the functions here.
 //!
 //! ```rust
 //! use file_run::{halt_run, next_line};

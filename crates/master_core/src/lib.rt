@@ -10,7 +10,7 @@
 //! let mut out = FrameBuf::new();
 //! loop {
 //!     let event = wait();
-//!     master.put(&commands());                            // the data to send, read now: settings().own_len() bytes
+//!     master.put(&commands());                            // fresh data to send, settings().own_len() bytes
 //!     let did = match event {
 //!         Frame(bytes) => master.deliver(&bytes, &mut out), // any bytes that came, of any number
 //!         Tick => master.tick(&mut out),                    // the watchdog counts these
@@ -31,9 +31,9 @@
 //! A program whose next data depend on the received frame calls `accept` in place of `deliver`, reads `outputs`, and
 //! calls `put`. If `due()` is then true, it calls `reply`: if that sends a ProcessData frame, the frame carries what
 //! was put. `hold(true)` makes the master send fail-safe data (zeros) in place of what was put, until `hold(false)`.
-//! `nonce` sets the id of all sessions whose first Session frame the master sends after the call. The master never
-//! makes an id itself: call `nonce` with a fresh one before each session. A reset changes neither what was put, nor the
-//! hold, nor the id.
+//! `nonce` sets the session id. A session takes the id that was set last before the master sends its first Session
+//! frame. The master never makes an id itself: call `nonce` with a fresh one before each session. A reset changes
+//! neither what was put, nor the hold, nor the id.
 //!
 //! ```rust
 //! use fsoe_base::{FrameBuf, Lengths};

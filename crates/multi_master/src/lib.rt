@@ -1,7 +1,8 @@
 //! The FSoE masters of up to 64 connections, with one application. From the data that all masters received (SafeInputs
-//! in ETG.5100) it computes the data that all send. It runs once per tick, once when it replaces another application or
-//! `first_cycle` is called, and once for each frame that is taken or ends a session, before the reply is built. Nothing
-//! else passes from one connection to another. The program passes in frames and ticks, and sends what is written:
+//! in ETG.5100) it computes the data that all send. It runs once per tick. It runs once for each frame that is taken or
+//! ends a session, before the reply is built. And it runs once when `change_app` puts it in place of another, and when
+//! `first_cycle` is called. Except for these data, nothing passes from one connection to another. The program passes in
+//! frames and ticks, and sends what is written:
 //!
 //! ```text
 //! let mut multi = MultiMaster::new(settings, app)?;
@@ -23,7 +24,7 @@
 //!         }
 //!     }
 //!     for link in multi.changed() {
-//!         note(*link, multi.offer(*link));        // the offers that this call changed
+//!         note(*link, multi.offer(*link));        // the offers that `deliver` or `tick` changed
 //!     }
 //! }
 //! ```

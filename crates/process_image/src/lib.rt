@@ -1,32 +1,33 @@
 //! Masters and slaves whose frames are at fixed places (slots) of a cyclic process image, which a fieldbus copies in
 //! and out at each of its cycles. A new frame is recognized only by a change of its bytes: `sample` delivers a slot's
-//! contents if and only if they differ from the sample before (zeros before the first). The program writes what came,
-//! samples, and passes on the output image:
+//! contents if and only if they differ from the sample before. The first sample compares with zeros. The program writes
+//! what came, calls `sample`, and passes on the output image:
 //!
 //! ```text
 //! let mut images = Images::new(size_in, size_out, slots)?;
 //! loop {
 //!     images.write(0, &cycle.input());          // or only the part that came
 //!     images.sample(&mut dids);                 // for each end whose slot has changed, what it did
+//!     cycle.give(images.out());                 // returns when the fieldbus has copied it
 //!     if clock.ticked() {
 //!         images.tick(&mut told);
+//!         cycle.give(images.out());
 //!     }
-//!     cycle.give(images.out());
 //! }
 //! ```
 //!
-//! The program has to know these consequences; no call refuses them:
+//! This has consequences that the program has to know:
 //!
-//! - Two equal frames one after the other are seen as one. After a local reset a slave answers the master's Reset(0)
-//!   with the bytes that it sent before, so the master gets nothing and waits. Write other bytes into the master's
-//!   slot, sample, and write the frame again.
+//! - Two equal frames one after the other are seen as one. A slave's Reset frame after a local reset has the same bytes
+//!   as its answer to the master's Reset(0). So the master doesn't see that answer, and waits. Write other bytes into
+//!   the master's slot, sample, and write the answer again.
 //! - Zeros are a frame, too, if the slot had other bytes at the sample before. A bus that fills its image with zeros
 //!   ends each session.
 //! - Bytes of the input image that are overwritten before they were sampled are lost. A frame in the output image is
 //!   lost, too, if its end sends the next one before the image was passed on. Pass it on after each sample and each
 //!   tick.
-//! - A frame that is sampled half written is another frame. It ends the session, unless the end is in state Reset or
-//!   the frame happens to pass all tests.
+//! - A frame of which only a part was written before the sample counts as another frame. It ends the session, unless
+//!   the end is in state Reset or the frame happens to pass all tests.
 //!
 //! ```rust
 //! use fsoe_base::Lengths;

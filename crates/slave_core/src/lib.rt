@@ -1,19 +1,20 @@
 //! The FSoE slave of one connection: its five states, the tests of received frames, its watchdog and its outputs.
-//! `outputs()` are the data received from the master (SafeOutputs in ETG.5100), `put` sets those to send (SafeInputs).
-//! It has no clock and no communication interface. The program passes in frames and ticks, and sends what it writes:
+//! `outputs()` are the data received from the master (SafeOutputs in ETG.5100), `put` sets the data to send
+//! (SafeInputs). It has no clock and no communication interface. The program passes in frames and ticks, and sends what
+//! the slave writes:
 //!
 //! ```text
 //! let mut slave = Slave::new(settings);
 //! let mut out = FrameBuf::new();
 //! loop {
 //!     let event = wait();
-//!     slave.put(&inputs());                             // the data to send, read now: settings().own_len() bytes
+//!     slave.put(&inputs());                             // fresh data to send, settings().own_len() bytes
 //!     let did = match event {
 //!         Frame(bytes) => slave.deliver(&bytes, &mut out),  // any bytes that came, of any number
 //!         Tick => slave.tick(&mut out),                     // the watchdog counts these
 //!         Stop => slave.reset(&mut out),
 //!     };
-//!     drive(slave.outputs());                           // before all else; zeros in every state but Data
+//!     drive(slave.outputs());                           // before a send or a report; zeros in every state but Data
 //!     if did.sent {
 //!         send(out.bytes());
 //!     }
@@ -26,8 +27,9 @@
 //! ```
 //!
 //! `hold(true)` makes the slave send fail-safe data (zeros) in place of what was put, until `hold(false)`. `nonce` sets
-//! the id of all sessions whose first Session frame the slave sends after the call. The slave never makes an id itself:
-//! call `nonce` with a fresh one before each session. A reset changes neither what was put, nor the hold, nor the id.
+//! the session id. A session takes the id that was set last before the slave sends its first Session frame. The slave
+//! never makes an id itself: call `nonce` with a fresh one before each session. A reset changes neither what was put,
+//! nor the hold, nor the id.
 //!
 //! ```rust
 //! use fsoe_base::{FrameBuf, Lengths, State};

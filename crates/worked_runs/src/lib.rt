@@ -1,6 +1,7 @@
 //! Tests of complete runs: a replay, also one whose input or output fails; a pair over a schedule; a plant with its
-//! script. The expected values were found without this code. A plain program judges whether the entries of a run are
-//! fair. Tests of `plant_conf` and `schedule_file` are here too, since the runs need these crates anyway.
+//! script. The expected values were found without this code. The module `fairness` judges whether the entries of a run
+//! are fair; it looks back over them. Tests of `plant_conf` and `schedule_file` are here too, since the runs need these
+//! crates anyway.
 #![tactic(auto)]
 
 #[cfg(test)]
