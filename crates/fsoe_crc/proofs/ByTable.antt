@@ -1,9 +1,12 @@
 -- The CRC by tables of what zero bytes make of a high byte.
-use Rattle.std.proofs.Common.{◌≡◌, ℕ, zero, suc, ◌*◌, ◌/◌, ◌%◌, ◌<◌, List, [], ◌∷◌, ◌++◌, bit_xor, refl, sym, ap, ◌∙◌, arith, lit<, add-zero, append_assoc, append-nil, subst, replicate}
+use Rattle.std.proofs.Common.{◌≡◌, ℕ, zero, suc, ◌+◌, ◌*◌, ◌/◌, ◌%◌, ◌<◌, List, [], ◌∷◌, ◌++◌, bit_xor, bit_and, refl, sym, ap, ◌∙◌, arith, lit<, add-zero, append_assoc, append-nil, subst, replicate}
+use Rattle.std.specs.Int.{w16, swap_bytes}
+use Rattle.std.proofs.lemmas.Nat.{and_mask}
 use Rattle.std.specs.Int.Bits.{xor_zero_r, xor_shifted, xor_lt, xor_comm}
 use Rattle.fsoe_crc.specs.Remainder.{fed_bits, bits_of, fed_bytes, sixteen_zeros, rem, zeros_entry}
 use Rattle.fsoe_crc.proofs.Linear.{byte_xor, byte-below, fed_bytes-append, fed_bytes-below}
 use Rattle.fsoe_crc.proofs.Adjacent.{first_byte, second_byte}
+use Rattle.fsoe_crc.proofs.Swapped.{byte_swapped, pair_swapped}
 
 -- eight zero bits more
 pub eight : ℕ → ℕ
@@ -69,10 +72,14 @@ eight_by_table f hf =
     ∙ xor_comm (zeros_entry 1 (f / 256)) (f * 256 % 0x10000)
 
 -- what the code computes
-pub stepped_by_table : (r b : ℕ) → r < 0x10000 → b < 256 → stepped r b ≡ bit_xor (bit_xor r (b * 256 % 0x10000) * 256 % 0x10000) (zeros_entry 1 (bit_xor r (b * 256 % 0x10000) / 256))
-stepped_by_table r b hr hb =
-    let e : 256 * b ≡ b * 256 % 0x10000 = omega arith in
-    ap (λ x. eight (bit_xor r x)) e ∙ eight_by_table (bit_xor r (b * 256 % 0x10000)) (xor_lt 16 r (b * 256 % 0x10000) hr (omega arith))
+pub stepped_by_table : (r b f : ℕ) → r < 0x10000 → b < 256 → f ≡ bit_xor (swap_bytes w16 r) b → stepped r b ≡ bit_xor (swap_bytes w16 (f / 256)) (zeros_entry 1 (bit_and f 255))
+stepped_by_table r b f hr hb e =
+    let whole : ℕ = bit_xor r (256 * b) in
+    let below : bit_xor r (256 * b) < 0x10000 = xor_lt 16 r (256 * b) hr (omega arith) in
+    let swapped : f ≡ swap_bytes w16 (bit_xor r (256 * b)) = e ∙ byte_swapped r b hr hb in
+    let low : bit_xor r (256 * b) * 256 % 0x10000 ≡ swap_bytes w16 (f / 256) = omega arith in
+    let high : bit_xor r (256 * b) / 256 ≡ f % 256 = omega arith in
+    eight_by_table whole below ∙ ap (λ x. bit_xor x (zeros_entry 1 (whole / 256))) low ∙ ap (λ x. bit_xor (swap_bytes w16 (f / 256)) (zeros_entry 1 x)) (high ∙ sym (and_mask f 8))
 
 -- n zero bytes more
 pub eights : ℕ → ℕ → ℕ
@@ -134,13 +141,19 @@ unfolding eights
 two_then n v = refl
 
 -- what the code computes of two bytes and n zero bytes
-pub rem-pair : (n : ℕ) (bytes : List ℕ) (r a b : ℕ) → r ≡ rem bytes → r < 0x10000 → a < 256 → b < 256
-    → bit_xor (zeros_entry (suc (suc n)) (bit_xor (bit_xor r (256 * a)) b / 256)) (zeros_entry (suc n) (bit_xor (bit_xor r (256 * a)) b % 256)) ≡ rem (bytes ++ a ∷ b ∷ replicate n 0)
-rem-pair n bytes r a b e hr ha hb =
-    let f : ℕ = bit_xor (bit_xor r (256 * a)) b in
+pub rem-pair : (n : ℕ) (bytes : List ℕ) (r a b f : ℕ) → r ≡ rem bytes → r < 0x10000 → a < 256 → b < 256 → f ≡ bit_xor (swap_bytes w16 r) (a + b * 256)
+    → bit_xor (zeros_entry (suc (suc n)) (bit_and f 255)) (zeros_entry (suc n) (f / 256)) ≡ rem (bytes ++ a ∷ b ∷ replicate n 0)
+rem-pair n bytes r a b f e hr ha hb is =
+    let whole : ℕ = bit_xor (bit_xor r (256 * a)) b in
     let below : rem bytes < 0x10000 = subst (λ (x : ℕ). x < 0x10000) e hr in
-    sym (eights_by_tables (suc n) f (xor_lt 16 (bit_xor r (256 * a)) b (xor_lt 16 r (256 * a) hr (omega arith)) (omega arith)))
-    ∙ sym (two_then n f)
+    let fits : bit_xor (bit_xor r (256 * a)) b < 0x10000 = xor_lt 16 (bit_xor r (256 * a)) b (xor_lt 16 r (256 * a) hr (omega arith)) (omega arith) in
+    let swapped : f ≡ swap_bytes w16 (bit_xor (bit_xor r (256 * a)) b) = is ∙ pair_swapped r a b hr ha hb in
+    let low : f / 256 ≡ bit_xor (bit_xor r (256 * a)) b % 256 = omega arith in
+    let high : f % 256 ≡ bit_xor (bit_xor r (256 * a)) b / 256 = omega arith in
+    ap (λ x. bit_xor (zeros_entry (suc (suc n)) x) (zeros_entry (suc n) (f / 256))) (and_mask f 8 ∙ high)
+    ∙ ap (λ x. bit_xor (zeros_entry (suc (suc n)) (whole / 256)) (zeros_entry (suc n) x)) low
+    ∙ sym (eights_by_tables (suc n) whole fits)
+    ∙ sym (two_then n whole)
     ∙ ap (λ x. eights n (eights 2 (bit_xor (bit_xor x (256 * a)) b))) e
     ∙ ap (eights n) (sym (rem-two bytes a b below ha hb))
     ∙ sym (rem-zeros n (bytes ++ a ∷ b ∷ []))

@@ -2,6 +2,7 @@ pub mod Xor
 pub mod Feeding
 pub mod Linear
 pub mod Adjacent
+pub mod Swapped
 pub mod ByTable
 pub mod BitsLemmas
 pub mod TwoParts

@@ -1,14 +1,8 @@
-use Rattle.std.proofs.Common.{ℕ, ◌*◌, ◌%◌, ◌/◌, ◌≡◌, ◌∙◌, ap, arith, bit_xor}
-use Rattle.std.proofs.lemmas.Nat.{and_mask}
-use Rattle.fsoe_crc.specs.Remainder.{zeros_entry}
+use Rattle.std.proofs.Common.{refl, arith}
 use Rattle.fsoe_crc.proofs.ByTable.{rem-pair}
 use Rattle.fsoe_crc.proofs.table.step_pair_and_zeros.Goals as goal
 
 pub returns : goal.returns
 returns c bytes e =
-    let folded : ℕ = bit_xor (bit_xor c.args.value (c.args.first * 256 % 65536)) c.args.second in
-    let shifted : c.args.first * 256 % 65536 ≡ 256 * c.args.first = omega arith in
-    ap (λ x. bit_xor x c.after_four.result) c.after_five.ensures
-    ∙ ap (bit_xor (zeros_entry 5 (folded / 256))) (c.after_four.ensures ∙ ap (zeros_entry 4) (and_mask folded 8))
-    ∙ ap (λ s. bit_xor (zeros_entry 5 (bit_xor (bit_xor c.args.value s) c.args.second / 256)) (zeros_entry 4 (bit_xor (bit_xor c.args.value s) c.args.second % 256))) shifted
-    ∙ rem-pair 3 bytes c.args.value c.args.first c.args.second e (omega arith) (omega arith) (omega arith)
+    rw (c.after_five.ensures, c.after_four.ensures)
+    (rem-pair 3 bytes c.args.value c.args.first c.args.second _ e (omega arith) (omega arith) (omega arith) (rw (c.swap_bytes.ensures, c.from_le_bytes.ensures) refl))
