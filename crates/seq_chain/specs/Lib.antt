@@ -1,4 +1,5 @@
 pub mod Cover
+pub mod Numbered
 pub mod Numbers
 pub mod Sealing
 pub mod Chain

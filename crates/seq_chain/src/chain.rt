@@ -6,8 +6,8 @@ ghost use Rattle.seq_chain.specs.Numbers.{following};
 ghost use Rattle.seq_chain.specs.Session.{crc_noted, chain_sent, frame_sent, fits_next, tested};
 ghost use Rattle.seq_chain.specs.Chain.{fresh, after_taken, turned};
 
-use crate::compare::crcs_are;
-use crate::link::{Link, crc_of, crc_or_zero, following_number, number_with_crcs};
+use crate::cover::{crcs_are, crcs_into};
+use crate::link::{Link, crc_of, crc_or_zero, following_number, number_frame};
 use crate::session_frame::SessionFrame;
 use arrayvec::ArrayVec;
 use fsoe_base::{Command, FrameBuf, Image};
@@ -80,12 +80,13 @@ impl Chain {
     {
         let last = crc_or_zero(self.taken);
         let byte = command.byte();
+        let next = number_frame(self.own, last, conn, byte, load);
         let mut crcs = ArrayVec::new();
-        let number = number_with_crcs(self.own, last, conn, byte, load, &mut crcs);
+        crcs_into(&next, load, &mut crcs);
         fsoe_frame::write(command, load, crcs.as_slice(), conn, out);
         self.own = Some(Link {
-            number,
-            crc: crcs[0],
+            number: next.number,
+            crc: next.first,
         });
     }
 
@@ -136,14 +137,13 @@ impl Chain {
     {
         let last = crc_or_zero(self.own);
         let byte = view.command_byte();
-        let mut crcs = ArrayVec::new();
-        let number = number_with_crcs(self.taken, last, conn, byte, load, &mut crcs);
-        if !crcs_are(view, crcs.as_slice()) {
+        let next = number_frame(self.taken, last, conn, byte, load);
+        if !crcs_are(view, &next, load) {
             return None;
         }
         Some(Link {
-            number,
-            crc: view.crc_at(0),
+            number: next.number,
+            crc: next.first,
         })
     }
 }

@@ -1,43 +1,61 @@
 //! The CRCs of a frame, over what they cover.
 
-ghost use Rattle.std.specs.Prelude.{◌≡◌, ◌<◌, [], ◌∷◌, ◌++◌, ℕ, List, length, replicate, IsTrue};
+ghost use Rattle.std.specs.Prelude.{◌≡◌, ◌<◌, [], ◌∷◌, ◌++◌, ℕ, List, length, replicate, IsTrue, nat_eq};
 ghost use Rattle.fsoe_base.specs.Lengths.{is_length, group_count};
 ghost use Rattle.fsoe_crc.specs.Remainder.{rem};
 ghost use Rattle.fsoe_base.specs.Bytes.{low_high};
-ghost use Rattle.seq_chain.specs.Cover.{common, place, covered, crcs};
+ghost use Rattle.seq_chain.specs.Cover.{place, covered, crcs, crc_0};
+ghost use Rattle.seq_chain.specs.Cover as covers;
+ghost use Rattle.seq_chain.specs.Numbered.{IsNumbered};
+ghost use Rattle.std.specs.Cmp.Lexicographic.{pointwise};
 
+use crate::link::Numbered;
 use arrayvec::ArrayVec;
 use byteorder::{ByteOrder, LittleEndian};
 use fsoe_crc::Register;
+use fsoe_frame::FrameView;
 
 /// The CRCs of a frame, one for each group.
 pub(crate) type Crcs = ArrayVec<u16, 63>;
 
-/// Writes the CRCs of the groups of a load to `out`, whose old contents are lost. The part that they cover in common is
-/// fed once for all of them.
+/// Writes the CRCs of a frame with this load to `out`, whose old contents are lost.
 #[inline(always)]
-pub(crate) fn crcs_into(last: u16, conn: u16, number: u16, command: u8, load: &[u8], out: &mut Crcs)
+pub(crate) fn crcs_into(frame: &Numbered, load: &[u8], out: &mut Crcs)
     requires { IsTrue (is_length (length load.now)) }
-    ensures items { out.new.items ≡ crcs last conn number command load.now }
+    ensures items { (last conn command : ℕ) → IsNumbered frame.now last conn command load.now → out.new.items ≡ crcs last conn frame.now.number command load.now }
     ensures count { length out.new.items ≡ group_count (length load.now) }
 {
     // A new list is a few stores, where `clear` is a call.
     *out = Crcs::new();
-    let common = common_part(last, conn, number, command);
-    if load.len() == 1 {
-        out.push(byte_crc(&common, load[0]));
-        return;
-    }
-    out.push(first_crc(&common, load[0], load[1]));
-    let advanced = common_and_zeros(&common);
+    out.push(frame.first);
+    let advanced = common_and_zeros(&frame.common);
     for group in 1..load.len() / 2 {
         out.push(later_crc(advanced, group, load[2 * group], load[2 * group + 1]));
     }
 }
 
+/// Whether the CRCs of a frame with this load are those that come, one for each group.
+#[inline(always)]
+pub(crate) fn crcs_are(view: &FrameView<'_>, frame: &Numbered, load: &[u8]) -> bool
+    requires valid { IsTrue (is_length (length load.now)) }
+    requires groups { length view.now.crcs ≡ group_count (length load.now) }
+    ensures { (last conn command : ℕ) → IsNumbered frame.now last conn command load.now → result ≡ pointwise nat_eq view.now.crcs (crcs last conn frame.now.number command load.now) }
+{
+    if view.crc_at(0) != frame.first {
+        return false;
+    }
+    let advanced = common_and_zeros(&frame.common);
+    for group in 1..load.len() / 2 {
+        if view.crc_at(group) != later_crc(advanced, group, load[2 * group], load[2 * group + 1]) {
+            return false;
+        }
+    }
+    true
+}
+
 /// The register of the part that all groups of a frame cover first.
-fn common_part(last: u16, conn: u16, number: u16, command: u8) -> Register
-    ensures { result ≡ rem (common last conn number command) }
+pub(crate) fn common_part(last: u16, conn: u16, number: u16, command: u8) -> Register
+    ensures { result ≡ rem (covers.common last conn number command) }
 {
     let mut register = Register::new();
     feed_number(&mut register, last);
@@ -47,22 +65,19 @@ fn common_part(last: u16, conn: u16, number: u16, command: u8) -> Register
     register
 }
 
-/// The CRC of a load of one byte, after the common part.
-fn byte_crc(common: &Register, byte: u8) -> u16
-    ensures { (begun : List ℕ) → common.now ≡ rem begun → result ≡ rem (covered begun 0 (byte ∷ [])) }
+/// The CRC of the first group of a load, after the common part.
+#[inline(always)]
+pub(crate) fn first_crc(common: &Register, load: &[u8]) -> u16
+    requires { IsTrue (is_length (length load.now)) }
+    ensures { (last conn number command : ℕ) → common.now ≡ rem (covers.common last conn number command) → result ≡ crc_0 last conn number command load.now }
 {
     let mut register = common.copy();
-    register.feed_pair(byte, 0);
-    register.feed_pair(0, 0);
-    register.value()
-}
-
-/// The CRC of a first group of two bytes, after the common part.
-fn first_crc(common: &Register, first: u8, second: u8) -> u16
-    ensures { (begun : List ℕ) → common.now ≡ rem begun → result ≡ rem (covered begun 0 (first ∷ second ∷ [])) }
-{
-    let mut register = common.copy();
-    register.feed_pair_and_zeros(first, second);
+    if load.len() == 1 {
+        register.feed_pair(load[0], 0);
+        register.feed_pair(0, 0);
+    } else {
+        register.feed_pair_and_zeros(load[0], load[1]);
+    }
     register.value()
 }
 

@@ -21,7 +21,6 @@ pub use session::{Session, is_repeat, test_session};
 pub use session_frame::{SessionFrame, UnreadFrame};
 
 mod chain;
-mod compare;
 mod cover;
 pub mod laws;
 mod link;

@@ -1,12 +1,13 @@
 //! What one direction of a session stores of its last frame, and the numbers of its frames.
 
 ghost use Rattle.std.specs.Prelude.{◌≡◌, length, IsTrue};
-ghost use Rattle.fsoe_base.specs.Lengths.{is_length, group_count};
-ghost use Rattle.seq_chain.specs.Cover.{crcs};
+ghost use Rattle.fsoe_base.specs.Lengths.{is_length};
+ghost use Rattle.seq_chain.specs.Numbered.{IsNumbered};
 ghost use Rattle.seq_chain.specs.Numbers.{next, following, last_crc, number_of};
 ghost use Rattle.seq_chain.specs.Session.{crc_noted};
 
-use crate::cover::{Crcs, crcs_into};
+use crate::cover::{common_part, first_crc};
+use fsoe_crc::Register;
 
 /// What one direction of a session stores of its last frame. Only a seal or a passed CRC test creates it.
 #[derive(Clone, Copy, Debug, PartialEq, Eq)]
@@ -54,33 +55,42 @@ pub(crate) fn crc_of(before: Option<Link>) -> Option<u16>
     }
 }
 
-/// Returns the number of the frame after `before`, and writes its CRCs to `out`, whose old contents are lost. If its
-/// CRC_0 would equal the one before, the number is incremented once more, and only then the CRCs are made twice.
+/// The number of a frame, and what its CRCs are made of.
+#[derive(Drop)]
+pub(crate) struct Numbered {
+    /// The sequence number.
+    pub(crate) number: u16,
+    /// The register of the part that all groups cover first.
+    pub(crate) common: Register,
+    /// The CRC of the first group.
+    pub(crate) first: u16,
+}
+
+/// Numbers the frame after `before`. If its CRC_0 would equal the one before, the number is incremented once more, and
+/// only then the CRC_0 is made twice.
 #[inline(always)]
-pub(crate) fn number_with_crcs(
+pub(crate) fn number_frame(
     before: Option<Link>,
     last: u16,
     conn: u16,
     command: u8,
     load: &[u8],
-    out: &mut Crcs,
-) -> u16
+) -> Numbered
     requires { IsTrue (is_length (length load.now)) }
-    ensures number { result ≡ number_of last before conn command load.now }
-    ensures items { out.new.items ≡ crcs last conn result command load.now }
-    ensures count { length out.new.items ≡ group_count (length load.now) }
+    ensures number { result.number ≡ number_of last before conn command load.now }
+    ensures frame { IsNumbered result last conn command load.now }
 {
-    let number = following_number(before);
-    crcs_into(last, conn, number, command, load, out);
-    match before {
-        None => number,
-        Some(link) => {
-            if out[0] != link.crc {
-                return number;
-            }
-            let stepped = next_number(number);
-            crcs_into(last, conn, stepped, command, load, out);
-            stepped
-        }
+    let mut number = following_number(before);
+    let mut common = common_part(last, conn, number, command);
+    let mut first = first_crc(&common, load);
+    if crc_of(before) == Some(first) {
+        number = next_number(number);
+        common = common_part(last, conn, number, command);
+        first = first_crc(&common, load);
+    }
+    Numbered {
+        number,
+        common,
+        first,
     }
 }

@@ -2,12 +2,12 @@
 
 ghost use Rattle.std.specs.Prelude.{◌≡◌, length, IsTrue};
 ghost use Rattle.fsoe_base.specs.Command.{command_byte};
-ghost use Rattle.fsoe_base.specs.Lengths.{is_length, group_count};
-ghost use Rattle.seq_chain.specs.Reset.{reset_crcs};
+ghost use Rattle.fsoe_base.specs.Lengths.{is_length};
+ghost use Rattle.seq_chain.specs.Numbered.{IsNumbered};
 ghost use Rattle.seq_chain.specs.Reset as reset;
 
-use crate::compare::crcs_are;
-use crate::cover::{Crcs, crcs_into};
+use crate::cover::{crcs_are, crcs_into};
+use crate::link::{Numbered, number_frame};
 use arrayvec::ArrayVec;
 use fsoe_base::{Code, Command, FrameBuf, Image, MOST_DATA, is_all_zero};
 use fsoe_frame::FrameView;
@@ -24,7 +24,7 @@ pub fn reset_frame(code: Code, l: usize, out: &mut FrameBuf)
     data[0] = code.0;
     let load = &data[..l];
     let mut crcs = ArrayVec::new();
-    crcs_of_reset(load, &mut crcs);
+    crcs_into(&number_reset(load), load, &mut crcs);
     fsoe_frame::write(Command::Reset, load, crcs.as_slice(), 0, out);
 }
 
@@ -39,9 +39,7 @@ pub fn reset_view(view: &FrameView<'_>) -> Result<Code, Code>
     }
     let mut load = Image::new();
     view.load_into(&mut load);
-    let mut crcs = ArrayVec::new();
-    crcs_of_reset(load.bytes(), &mut crcs);
-    if !crcs_are(view, crcs.as_slice()) {
+    if !crcs_are(view, &number_reset(load.bytes()), load.bytes()) {
         return Err(Code::WRONG_CRC);
     }
     if !is_all_zero(&load.bytes()[1..]) {
@@ -50,11 +48,11 @@ pub fn reset_view(view: &FrameView<'_>) -> Result<Code, Code>
     Ok(Code(load.bytes()[0]))
 }
 
-/// The CRCs of a Reset frame with this load.
-fn crcs_of_reset(load: &[u8], out: &mut Crcs)
+/// The number of a Reset frame with this load, which is that of a first frame, and what its CRCs are made of.
+fn number_reset(load: &[u8]) -> Numbered
     requires { IsTrue (is_length (length load.now)) }
-    ensures items { out.new.items ≡ reset_crcs load.now }
-    ensures count { length out.new.items ≡ group_count (length load.now) }
+    ensures number { result.number ≡ 1 }
+    ensures frame { IsNumbered result 0 0 0x2A load.now }
 {
-    crcs_into(0, 0, 1, Command::Reset.byte(), load, out);
+    number_frame(None, 0, 0, Command::Reset.byte(), load)
 }

@@ -1,12 +1,17 @@
-use Rattle.std.proofs.Common.{◌≡◌, ◌*◌, ◌++◌, drop}
+use Rattle.std.proofs.Common.{◌≡◌, ℕ, ◌*◌, ◌≤◌, ◌++◌, drop, length}
 use Rattle.arrayvec.specs.ArrayVec.{array_vec_len}
+use Rattle.fsoe_base.specs.Lengths.{group_count}
 use Rattle.fsoe_frame.specs.Layout.{groups}
-use Rattle.seq_chain.specs.Cover.{crcs_from}
+use Rattle.seq_chain.specs.Cover.{crcs_from, crcs}
+use Rattle.seq_chain.specs.Numbered.{IsNumbered}
 use Rattle.seq_chain.proofs.cover.crcs_into.Given as goal
 
 -- the CRCs so far and those to come are all
 abbrev pub invariant-loop-group : goal.invariant-loop-group
 invariant-loop-group l = record {
-  whole : l.out.items ++ crcs_from l.last l.conn l.number l.command l.group (groups (drop (2 * l.group) l.load)) ≡ crcs_from l.last l.conn l.number l.command 0 (groups l.load);
+  whole :
+      (last conn cmd : ℕ) → IsNumbered l.frame last conn cmd l.load
+      → l.out.items ++ crcs_from last conn l.frame.number cmd l.group (groups (drop (2 * l.group) l.load)) ≡ crcs last conn l.frame.number cmd l.load;
   len : array_vec_len l.out ≡ l.group;
+  most : l.group ≤ group_count (length l.load);
 }
