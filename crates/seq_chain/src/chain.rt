@@ -6,10 +6,9 @@ ghost use Rattle.seq_chain.specs.Numbers.{following};
 ghost use Rattle.seq_chain.specs.Session.{crc_noted, chain_sent, frame_sent, fits_next, tested};
 ghost use Rattle.seq_chain.specs.Chain.{fresh, after_taken, turned};
 
-use crate::cover::{crcs_are, crcs_into};
+use crate::cover::{crcs_are, write_frame};
 use crate::link::{Link, crc_of, crc_or_zero, following_number, number_frame};
 use crate::session_frame::SessionFrame;
-use arrayvec::ArrayVec;
 use fsoe_base::{Command, FrameBuf, Image};
 use fsoe_frame::FrameView;
 
@@ -79,11 +78,8 @@ impl Chain {
         ensures chain { self.new ≡ chain_sent self.old conn command load.now }
     {
         let last = crc_or_zero(self.taken);
-        let byte = command.byte();
-        let next = number_frame(self.own, last, conn, byte, load);
-        let mut crcs = ArrayVec::new();
-        crcs_into(&next, load, &mut crcs);
-        fsoe_frame::write(command, load, crcs.as_slice(), conn, out);
+        let next = number_frame(self.own, last, conn, command.byte(), load);
+        write_frame(&next, command, conn, load, out);
         self.own = Some(Link {
             number: next.number,
             crc: next.first,

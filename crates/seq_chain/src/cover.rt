@@ -1,6 +1,8 @@
 //! The CRCs of a frame, over what they cover.
 
 ghost use Rattle.std.specs.Prelude.{◌≡◌, ◌<◌, [], ◌∷◌, ◌++◌, ℕ, List, length, replicate, IsTrue, nat_eq};
+ghost use Rattle.fsoe_base.specs.Command.{command_byte};
+ghost use Rattle.fsoe_frame.specs.Layout.{layout};
 ghost use Rattle.fsoe_base.specs.Lengths.{is_length, group_count};
 ghost use Rattle.fsoe_crc.specs.Remainder.{rem};
 ghost use Rattle.fsoe_base.specs.Bytes.{low_high};
@@ -12,26 +14,34 @@ ghost use Rattle.std.specs.Cmp.Lexicographic.{pointwise};
 use crate::link::Numbered;
 use arrayvec::ArrayVec;
 use byteorder::{ByteOrder, LittleEndian};
+use fsoe_base::{Command, FrameBuf};
 use fsoe_crc::Register;
 use fsoe_frame::FrameView;
 
-/// The CRCs of a frame, one for each group.
-pub(crate) type Crcs = ArrayVec<u16, 63>;
-
-/// Writes the CRCs of a frame with this load to `out`, whose old contents are lost.
+/// Writes a frame with its CRCs to `out`, whose old contents are lost.
 #[inline(always)]
-pub(crate) fn crcs_into(frame: &Numbered, load: &[u8], out: &mut Crcs)
+pub(crate) fn write_frame(
+    frame: &Numbered,
+    command: Command,
+    conn: u16,
+    load: &[u8],
+    out: &mut FrameBuf,
+)
     requires { IsTrue (is_length (length load.now)) }
-    ensures items { (last conn command : ℕ) → IsNumbered frame.now last conn command load.now → out.new.items ≡ crcs last conn frame.now.number command load.now }
-    ensures count { length out.new.items ≡ group_count (length load.now) }
+    ensures { (last : ℕ) → IsNumbered frame.now last conn (command_byte command) load.now → out.new ≡ layout (command_byte command) load.now (crcs last conn frame.now.number (command_byte command) load.now) conn }
 {
-    // A new list is a few stores, where `clear` is a call.
-    *out = Crcs::new();
-    out.push(frame.first);
+    if load.len() <= 2 {
+        // A list of CRCs would be blanked first.
+        fsoe_frame::write(command, load, &[frame.first], conn, out);
+        return;
+    }
+    let mut crcs: ArrayVec<u16, 63> = ArrayVec::new();
+    crcs.push(frame.first);
     let advanced = common_and_zeros(&frame.common);
     for group in 1..load.len() / 2 {
-        out.push(later_crc(advanced, group, load[2 * group], load[2 * group + 1]));
+        crcs.push(later_crc(advanced, group, load[2 * group], load[2 * group + 1]));
     }
+    fsoe_frame::write(command, load, crcs.as_slice(), conn, out);
 }
 
 /// Whether the CRCs of a frame with this load are those that come, one for each group.

@@ -6,9 +6,8 @@ ghost use Rattle.fsoe_base.specs.Lengths.{is_length};
 ghost use Rattle.seq_chain.specs.Numbered.{IsNumbered};
 ghost use Rattle.seq_chain.specs.Reset as reset;
 
-use crate::cover::{crcs_are, crcs_into};
+use crate::cover::{crcs_are, write_frame};
 use crate::link::{Numbered, number_frame};
-use arrayvec::ArrayVec;
 use fsoe_base::{Code, Command, FrameBuf, Image, MOST_DATA, is_all_zero};
 use fsoe_frame::FrameView;
 
@@ -23,9 +22,7 @@ pub fn reset_frame(code: Code, l: usize, out: &mut FrameBuf)
     let mut data = [0; MOST_DATA];
     data[0] = code.0;
     let load = &data[..l];
-    let mut crcs = ArrayVec::new();
-    crcs_into(&number_reset(load), load, &mut crcs);
-    fsoe_frame::write(Command::Reset, load, crcs.as_slice(), 0, out);
+    write_frame(&number_reset(load), Command::Reset, 0, load, out);
 }
 
 /// Returns the code of a frame whose command is Reset. The first refusal counts: 03h if the connection id isn't 0, 04h

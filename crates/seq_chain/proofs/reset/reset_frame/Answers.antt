@@ -1,4 +1,4 @@
-use Rattle.std.proofs.Common.{◌≡◌, ◌≤◌, ◌∷◌, ◌∙◌, ℕ, zero, suc, List, take, replicate, ap, refl, arith}
+use Rattle.std.proofs.Common.{◌≡◌, ◌≤◌, ◌∷◌, ℕ, zero, suc, List, take, replicate, ap, refl, arith}
 use Rattle.std.proofs.lemmas.List.{take-replicate}
 use Rattle.fsoe_frame.specs.Layout.{layout}
 use Rattle.seq_chain.specs.Reset.{reset_load, reset_crcs}
@@ -10,6 +10,5 @@ load-is code (suc n) h = ap (λ (rest : List ℕ). code ∷ rest) (take-replicat
 
 pub returns : goal.returns
 returns c =
-    c.write.ensures
-    ∙ ap (λ (crcs : List ℕ). layout 42 (take c.args.l (c.args.code.0 ∷ replicate 125 0)) crcs 0) (c.as_slice.ensures.value ∙ rw (c.crcs_into.ensures.items 0 0 42 c.number_reset.ensures.frame, c.number_reset.ensures.number) refl)
-    ∙ ap (λ (load : List ℕ). layout 42 load (reset_crcs load) 0) (load-is c.args.code.0 c.args.l (grind (arith, c.requires)))
+    rw (c.write_frame.ensures 0 c.number_reset.ensures.frame, c.number_reset.ensures.number)
+    (ap (λ (load : List ℕ). layout 42 load (reset_crcs load) 0) (load-is c.args.code.0 c.args.l (grind (arith, c.requires))))

@@ -1,14 +1,13 @@
 use Rattle.std.proofs.Common.{◌∷◌, [], sym, arith, append_assoc}
 use Rattle.seq_chain.specs.Cover.{common}
 use Rattle.seq_chain.proofs.NextGroup.{first_crc, next_crc}
-use Rattle.seq_chain.proofs.cover.crcs_into.Goals as goal
+use Rattle.seq_chain.proofs.cover.write_frame.Goals as goal
 
 pub loop-group-init : goal.loop-group-init
 loop-group-init c = record {
   whole = λ last conn cmd is.
-      rw (c.push.ensures.items, c.new.ensures) (sym (first_crc last conn c.args.frame.now.number cmd c.args.frame.now.first c.args.load.now (grind (arith, c.requires)) is.first_is));
-  len = grind (arith, c.push.ensures.len, c.new.ensures);
-  most = grind (arith, c.requires);
+      rw (c.push.ensures.items, c.new-crcs.ensures) (sym (first_crc last conn c.args.frame.now.number cmd c.args.frame.now.first c.args.load.now (grind (arith, c.requires)) is.first_is));
+  len = grind (arith, c.push.ensures.len, c.new-crcs.ensures);
 }
 
 pub loop-group-preserved : goal.loop-group-preserved
@@ -16,13 +15,9 @@ loop-group-preserved c = record {
   whole = λ last conn cmd is.
       rw (
         c.push-in-loop-group.ensures.items,
-        append_assoc c.loop-group.out.items (c.later_crc.result ∷ []),
+        append_assoc c.loop-group.crcs.items (c.later_crc.result ∷ []),
         ← next_crc last conn c.args.frame.now.number cmd c.loop-group.group c.later_crc.result c.args.load.now (omega arith) (c.later_crc.ensures (common last conn c.args.frame.now.number cmd) (c.common_and_zeros-advanced.ensures (common last conn c.args.frame.now.number cmd) is.common_is)),
       )
       (c.loop-group.invariant.whole last conn cmd is);
   len = omega (arith, c.push-in-loop-group.ensures.len);
-  most = grind (arith, c.requires);
 }
-
-pub returns-clause-count : goal.returns-clause-count
-returns-clause-count c = grind (arith, c.loop-group.invariant.len, c.loop-group.invariant.most, c.requires)
