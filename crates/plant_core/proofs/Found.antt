@@ -20,10 +20,9 @@ use Rattle.reaction_bound.specs.Age.{told_age, worst_of}
 use Rattle.reaction_bound.specs.Ages as ages
 use Rattle.slave_core.specs.Standing.{Shows}
 use Rattle.multi_master.specs.Standing.{ShowsApp}
-use Rattle.plant_model.specs.Acts.{Beginning, calls, is_cut, journal, settings}
+use Rattle.plant_model.specs.Acts.{Beginning, Act, calls, is_cut, journal, settings}
 use Rattle.plant_model.specs.Bound.{is_guarded}
 use Rattle.plant_model.specs.Pair.{link_at, outputs_at, pair, pairs_by}
-use Rattle.plant_model.specs.Turns.{Turn, acts}
 use Rattle.plant_core.specs.Link.{LinkView}
 use Rattle.plant_core.specs.Standing.{TellsStill, EachLink, LinkIs, PlantStands, PlantView, kept_at, ShowsOn, ShowsWorst}
 use Rattle.plant_core.proofs.Linking.{each_at}
@@ -50,44 +49,43 @@ none_after vs (suc place) h = slice_get_past vs place (omega arith)
 -- there is no more kept than there are connections
 none_kept : (P : ℕ → LinkConf → LinkView → Type 0) (k : ℕ) (links : List LinkConf) (vs : List LinkView) (place : ℕ) → EachLink P k links vs → slice_get vs place ≡ None → slice_get links place ≡ None
 none_kept P k [] [] place h e = refl
-none_kept P k [] (v ∷ vs) place h e = absurd h
-none_kept P k (link ∷ links) [] place h e = absurd h
 none_kept P k (link ∷ links) (v ∷ vs) zero h e = absurd (cc e)
 none_kept P k (link ∷ links) (v ∷ vs) (suc place) h e = none_kept P (suc k) links vs place h.1 e
+none_kept P k _ _ place h e = absurd h
 
 -- what is kept of a connection, if there is one
-missing : (b : Beginning) (v : PlantView) (turns : List Turn) (k : ℕ) → PlantStands b v turns → kept_at v.links k ≡ None → link_at b.links k ≡ None
-missing b v turns zero h e = refl
-missing b v turns (suc place) h e = none_kept (LinkIs (λ j. is_cut j (acts turns)) (pairs_by v.journal)) 1 b.links v.links place h.has_done.links e
+missing : (b : Beginning) (v : PlantView) (acts : List Act) (k : ℕ) → PlantStands b v acts → kept_at v.links k ≡ None → link_at b.links k ≡ None
+missing b v acts zero h e = refl
+missing b v acts (suc place) h e = none_kept (LinkIs (λ j. is_cut j acts) (pairs_by v.journal)) 1 b.links v.links place h.has_done.links e
 
-record Found (b : Beginning) (v : PlantView) (turns : List Turn) (k : ℕ) (l : LinkView) : Type 0 where
+record Found (b : Beginning) (v : PlantView) (acts : List Act) (k : ℕ) (l : LinkView) : Type 0 where
   link : LinkConf
   is : link_at b.links k ≡ Some link
-  kept : LinkIs (λ j. is_cut j (acts turns)) (pairs_by v.journal) k link l
+  kept : LinkIs (λ j. is_cut j acts) (pairs_by v.journal) k link l
 
-found : (b : Beginning) (v : PlantView) (turns : List Turn) (k : ℕ) (l : LinkView) → PlantStands b v turns → kept_at v.links k ≡ Some l → Found b v turns k l
-found b v turns zero l h e = absurd (cc e)
-found b v turns (suc place) l h e =
-    let beside = each_at (LinkIs (λ j. is_cut j (acts turns)) (pairs_by v.journal)) 1 b.links v.links place (suc place) l h.has_done.links e (omega arith) in
+found : (b : Beginning) (v : PlantView) (acts : List Act) (k : ℕ) (l : LinkView) → PlantStands b v acts → kept_at v.links k ≡ Some l → Found b v acts k l
+found b v acts zero l h e = absurd (cc e)
+found b v acts (suc place) l h e =
+    let beside = each_at (LinkIs (λ j. is_cut j acts) (pairs_by v.journal)) 1 b.links v.links place (suc place) l h.has_done.links e (omega arith) in
     record { link = beside.link; is = beside.is; kept = beside.holds }
 
 pub worst_shown : (v : PlantView) (k : ℕ) (l : LinkView) (end : End) (shown : Option ℕ) → Some l ≡ kept_at v.links k → ((w : List Entry) → IfSome l.ages (λ a. a ≡ ages.view_of w) → shown ≡ told_age (worst_of end w)) → ShowsWorst v k end shown
 worst_shown v k l end shown at s = record {
-  shows = λ b turns h.
-      let f = found b v turns k l h (sym at) in
+  shows = λ b acts h.
+      let f = found b v acts k l h (sym at) in
       s (pair f.link k v.journal) f.kept.stands.ages
       ∙ sym (ap (λ (o : Option LinkConf). option_map_or (λ link. told_age (worst_of end (pair link k v.journal))) o None) f.is);
 }
 
 pub no_worst : (v : PlantView) (k : ℕ) (end : End) → None ≡ kept_at v.links k → ShowsWorst v k end None
 no_worst v k end at = record {
-  shows = λ b turns h. sym (ap (λ (o : Option LinkConf). option_map_or (λ link. told_age (worst_of end (pair link k v.journal))) o None) (missing b v turns k h (sym at)));
+  shows = λ b acts h. sym (ap (λ (o : Option LinkConf). option_map_or (λ link. told_age (worst_of end (pair link k v.journal))) o None) (missing b v acts k h (sym at)));
 }
 
 pub on_shown : (v : PlantView) (bit : Bit) (l : LinkView) (outputs : List ℕ) (shown : Bool) → Some l ≡ kept_at v.links bit.link → Shows l.slave outputs out → shown ≡ bit_of outputs bit.bit → ShowsOn v bit shown
 on_shown v bit l outputs shown at s e = record {
-  shows = λ b turns h.
-      let f = found b v turns bit.link l h (sym at) in
+  shows = λ b acts h.
+      let f = found b v acts bit.link l h (sym at) in
       e
       ∙ ap (λ (z : List ℕ). bit_of z bit.bit) (s.shows f.link.slave (deeds side.Slave (pair f.link bit.link v.journal)) f.kept.stands.slave)
       ∙ sym (ap (λ (o : Option LinkConf). option_map_or (λ link. bit_of (outputs_at link side.Slave (pair link bit.link v.journal)) bit.bit) o false) f.is);
@@ -95,13 +93,13 @@ on_shown v bit l outputs shown at s e = record {
 
 pub not_on : (v : PlantView) (bit : Bit) → None ≡ kept_at v.links bit.link → ShowsOn v bit false
 not_on v bit at = record {
-  shows = λ b turns h. sym (ap (λ (o : Option LinkConf). option_map_or (λ link. bit_of (outputs_at link side.Slave (pair link bit.link v.journal)) bit.bit) o false) (missing b v turns bit.link h (sym at)));
+  shows = λ b acts h. sym (ap (λ (o : Option LinkConf). option_map_or (λ link. bit_of (outputs_at link side.Slave (pair link bit.link v.journal)) bit.bit) o false) (missing b v acts bit.link h (sym at)));
 }
 
 -- the e-stop of a connection that there isn't is off
 pub still_without : (v : PlantView) (bound : BoundSpec) (guarded : Bool) → kept_at v.links bound.estop.link ≡ None → ShowsApp v.master guarded (λ app. app.guards bound.drive bound.estop) → TellsStill v bound guarded
 still_without v bound guarded none s = record {
-  tells = λ b turns h.
-      s.shows (settings b) b.app (calls b (acts turns)) h.has_done.master
-      ∙ sym (ap (λ (o : Option LinkConf). not (offers_bit bound.estop.bit (option_map_or (λ link. next_offered (of_end side.Slave (pair link bound.estop.link (journal b (acts turns))))) o Unset)) && is_guarded b bound (acts turns)) (missing b v turns bound.estop.link h none));
+  tells = λ b acts h.
+      s.shows (settings b) b.app (calls b acts) h.has_done.master
+      ∙ sym (ap (λ (o : Option LinkConf). not (offers_bit bound.estop.bit (option_map_or (λ link. next_offered (of_end side.Slave (pair link bound.estop.link (journal b acts)))) o Unset)) && is_guarded b bound acts) (missing b v acts bound.estop.link h none));
 }

@@ -17,8 +17,6 @@ pub record Beside (P : LinkConf → Type 0) (links : List LinkConf) (place : ℕ
 pub each_at : (P : ℕ → LinkConf → LinkView → Type 0) (k : ℕ) (links : List LinkConf) (vs : List LinkView) (place n : ℕ) (v : LinkView) → EachLink P k links vs → slice_get vs place ≡ Some v → n ≡ k + place
     → Beside (λ link. P n link v) links place
 each_at P k [] [] place n v h e i = cc
-each_at P k [] (x ∷ vs) place n v h e i = absurd h
-each_at P k (link ∷ links) [] place n v h e i = absurd h
 each_at P k (link ∷ links) (x ∷ vs) zero n v h e i =
     let same : x ≡ v = cc in
     let number : k ≡ n = omega arith in
@@ -26,6 +24,7 @@ each_at P k (link ∷ links) (x ∷ vs) zero n v h e i =
 each_at P k (link ∷ links) (x ∷ vs) (suc place) n v h e i =
     let at = each_at P (suc k) links vs place n v h.1 e (omega arith) in
     record { link = at.link; is = at.is; holds = at.holds }
+each_at P k _ _ place n v h e i = absurd h
 
 -- what is kept of the connection at a place
 pub record Kept (P : LinkView → Type 0) (vs : List LinkView) (place : ℕ) : Type 0 where
@@ -47,18 +46,16 @@ kept_at P k (l ∷ links) (x ∷ vs) (suc place) n link h e i =
 
 pub each_count : (P : ℕ → LinkConf → LinkView → Type 0) (k : ℕ) (links : List LinkConf) (vs : List LinkView) → EachLink P k links vs → length vs ≡ length links
 each_count P k [] [] h = refl
-each_count P k [] (v ∷ vs) h = absurd h
-each_count P k (link ∷ links) [] h = absurd h
 each_count P k (link ∷ links) (v ∷ vs) h = ap suc (each_count P (suc k) links vs h.1)
+each_count P k _ _ h = absurd h
 
 -- what holds of each number from k on, and of each connection, follows
 pub each_from : (P Q : ℕ → LinkConf → LinkView → Type 0) (k : ℕ) (links : List LinkConf) (vs : List LinkView) → EachLink P k links vs
     → ((n : ℕ) (link : LinkConf) (v : LinkView) → k ≤ n → n < k + length links → P n link v → Q n link v) → EachLink Q k links vs
 each_from P Q k [] [] h f = tt
-each_from P Q k [] (v ∷ vs) h f = absurd h
-each_from P Q k (link ∷ links) [] h f = absurd h
 each_from P Q k (link ∷ links) (v ∷ vs) h f =
     (f k link v (omega arith) (omega arith) h.0, each_from P Q (suc k) links vs h.1 (λ n l w from below p. f n l w (omega arith) (omega arith) p))
+each_from P Q k _ _ h f = absurd h
 
 pub each_map : (P Q : ℕ → LinkConf → LinkView → Type 0) (k : ℕ) (links : List LinkConf) (vs : List LinkView) → EachLink P k links vs
     → ((n : ℕ) (link : LinkConf) (v : LinkView) → P n link v → Q n link v) → EachLink Q k links vs
@@ -69,8 +66,6 @@ pub each_set : (P Q : ℕ → LinkConf → LinkView → Type 0) (k : ℕ) (links
     → n ≡ k + place → ((link : LinkConf) → slice_get links place ≡ Some link → P n link old → Q n link new)
     → ((m : ℕ) (link : LinkConf) (v : LinkView) → m ≢ n → P m link v → Q m link v) → EachLink Q k links (slice_set vs place new)
 each_set P Q k [] [] place n old new h e i f others = absurd (cc e)
-each_set P Q k [] (v ∷ vs) place n old new h e i f others = absurd h
-each_set P Q k (link ∷ links) [] place n old new h e i f others = absurd h
 each_set P Q k (link ∷ links) (v ∷ vs) zero n old new h e i f others =
     let same : v ≡ old = cc in
     let number : k ≡ n = omega arith in
@@ -82,3 +77,4 @@ each_set P Q k (link ∷ links) (v ∷ vs) (suc place) n old new h e i f others 
   others k link v (λ z. absurd (omega arith)) h.0,
   each_set P Q (suc k) links vs place n old new h.1 e (omega arith) f others,
 )
+each_set P Q k _ _ place n old new h e i f others = absurd h

@@ -95,10 +95,9 @@ one_shown m n load false rest one h = ap₂ (λ (s : JournalStep) (steps : List 
 
 all_shown : (m : Meant) (n : ℕ) (cs : List Connection) (loads : List (List ℕ)) → ((place k : ℕ) (load : List ℕ) → k ≡ n + place → slice_get loads place ≡ Some load → shown_step m k ≡ step.Offer k load)
     → map (shown_step m) (numbers_of (changed_from n cs loads)) ≡ map offer_step (changed_from n cs loads)
-all_shown m n [] loads f = refl
-all_shown m n (c ∷ cs) [] f = refl
 all_shown m n (c ∷ cs) (load ∷ loads) f =
     one_shown m n load (is_offer load c) (changed_from (suc n) cs loads) (f 0 n load (omega arith) refl) (all_shown m (suc n) cs loads (λ place k l e is. f (suc place) k l (omega arith) is))
+all_shown m n _ _ f = refl
 
 cycle_shown : (m : Meant) (o : Option Answer) (cs : List Connection) → IfSome o (IsSound m) → map (shown_step m) (numbers_of (changed_by o cs)) ≡ map offer_step (changed_by o cs)
 cycle_shown m None cs h = refl

@@ -11,7 +11,6 @@ use Rattle.plant_model.specs.Acts.{is_cut}
 use Rattle.plant_core.specs.Link.{LinkView}
 use Rattle.plant_model.specs.Pair.{pair, has_other, lowest_other, pairs_by}
 use Rattle.plant_core.specs.Standing.{PlantView, EachLink, LinkIs, AllNoted, TellsOther}
-use Rattle.plant_model.specs.Turns.{acts}
 
 -- what is left to look through gives what all gives
 pub record Left (k : ℕ) (confs : List LinkConf) (links : List LinkView) (steps : List JournalStep) (all : Option ℕ) : Type 0 where
@@ -74,11 +73,10 @@ all_left confs links steps h = record { noted = h; lowest = refl }
 
 noted_each : (cut : ℕ → Bool) (k : ℕ) (links : List LinkConf) (vs : List LinkView) (steps : List JournalStep) → EachLink (LinkIs cut (pairs_by steps)) k links vs → AllNoted k links vs steps
 noted_each cut k [] [] steps h = tt
-noted_each cut k [] (v ∷ vs) steps h = absurd h
-noted_each cut k (link ∷ links) [] steps h = absurd h
 noted_each cut k (link ∷ links) (v ∷ vs) steps h = (h.0.stands.monitor, noted_each cut (suc k) links vs steps h.1)
+noted_each cut k _ _ steps h = absurd h
 
 pub other_told : (v : PlantView) (told : Option ℕ) → ((confs : List LinkConf) (steps : List JournalStep) → AllNoted 1 confs v.links steps → told ≡ lowest_other 1 confs steps) → TellsOther v told
 other_told v told h = record {
-  tells = λ b turns s. h b.links v.journal (noted_each (λ j. is_cut j (acts turns)) 1 b.links v.links v.journal s.has_done.links);
+  tells = λ b acts s. h b.links v.journal (noted_each (λ j. is_cut j acts) 1 b.links v.links v.journal s.has_done.links);
 }

@@ -1,9 +1,8 @@
--- The pulls of a tick, a plant's start, and what both make of its turns.
-use Rattle.std.proofs.Common.{◌≡◌, ◌≢◌, ◌≤◌, ◌<◌, ◌⊎◌, inl, inr, ℕ, zero, suc, ◌+◌, ◌-◌, ◌*◌, Bool, false, List, [], ◌∷◌, ◌++◌, map, length, Option, Some, None, if◌then◌else◌, refl, sym, ap, ap₂, subst, ◌∙◌, append_assoc, arith}
+-- The pulls of a tick, a plant's start, and how it goes on by a line of its script.
+use Rattle.std.proofs.Common.{◌≡◌, ◌≢◌, ◌≤◌, ◌<◌, ◌⊎◌, inl, inr, ℕ, zero, suc, ◌+◌, ◌-◌, ◌*◌, Bool, false, List, [], ◌∷◌, ◌++◌, map, All, length, Option, Some, None, if◌then◌else◌, refl, sym, ap, ap₂, subst, ◌∙◌, append_assoc, arith}
 use Rattle.std.proofs.Math.Nat.{suc-mul}
-use Rattle.std.proofs.lemmas.Bool.{lt-ltb, le-ltb}
 use Rattle.std.proofs.lemmas.List.{append-nil}
-use Rattle.std.proofs.lemmas.List.Elements.{All-cons, All-nil}
+use Rattle.std.proofs.lemmas.List.Elements.{All-append, All-cons, All-nil}
 use Rattle.std.proofs.lemmas.Option.{slice_get_past}
 use Rattle.fsoe_base.specs.declared.command.End.{End}
 use Rattle.fsoe_base.specs.declared.command.End.TheVariants as side
@@ -24,19 +23,20 @@ use Rattle.plant_model.specs.declared.event.PlantEvent.{PlantEvent}
 use Rattle.plant_model.specs.declared.event.PlantEvent.TheVariants as event
 use Rattle.plant_model.specs.declared.journal.JournalStep.{JournalStep}
 use Rattle.plant_model.specs.declared.journal.JournalStep.TheVariants as step
-use Rattle.plant_model.specs.Acts.{Beginning, Event, App, Act, Start, Happen, PullFrom, settings, delivery_call, call_of, calls, offers, journal, is_cut, pushes_of, all_pushes, uses_of, uses_after, uses}
+use Rattle.plant_model.specs.Acts.{Beginning, Said, Event, App, Act, Start, Happen, PullFrom, settings, delivery_call, call_of, calls, offers, journal, is_cut, pushes_of, all_pushes, uses_of, uses_after, uses, line_step}
 use Rattle.plant_model.specs.Uses.{Use, Trace}
 use Rattle.plant_model.specs.Gifts.{place_of, sent_uses, each_uses}
-use Rattle.plant_model.specs.Pair.{next_of, pairs_by, pair, link_at}
-use Rattle.plant_core.specs.Doing.{OffersNoted, GoesOn, Delivers, PullsAll, TakesTurn}
+use Rattle.plant_model.specs.Pair.{next_of, pairs_by, pair, link_at, is_tick}
+use Rattle.plant_core.specs.Doing.{OffersNoted, GoesOn, Delivers, Pulls, DoesLine}
 use Rattle.plant_core.specs.Standing.{lengths_kept, PlantView, EachLink, LinkIs, LinksAre, HasDone, Starts, Follows}
-use Rattle.plant_model.specs.Turns.{IsTurn, Turn, pulls, acts}
+use Rattle.plant_model.specs.Past.{SaidFits, said_in}
 use Rattle.plant_model.specs.Fits.{lengths_in, Fits}
 use Rattle.plant_core.specs.Link.{LinkView, LinkStands}
 use Rattle.plant_conf.specs.declared.conf.BoundSpec.{BoundSpec}
 use Rattle.plant_core.specs.Making.{links_made, master_in}
 use Rattle.plant_core.proofs.Acting.{trace_append}
 use Rattle.plant_core.proofs.Made.{made_stand}
+use Rattle.plant_model.proofs.Lines.{line_said}
 use Rattle.plant_model.proofs.Growing.{IsOne, pair_other, sent_in, pushes_each}
 use Rattle.plant_core.proofs.Linking.{each_count, each_from}
 use Rattle.plant_core.proofs.Offering.{offers_send}
@@ -143,76 +143,73 @@ nowhere_delivered old new parcel t far same_master same_links written = record {
   };
 }
 
--- the pulls that gave a parcel
-abbrev pub gave : List Parcel → List Act
-gave pulled = map (λ parcel. PullFrom (Some parcel)) pulled
+pub none_gone : (v : PlantView) (t : Told) → Pulls 64 v v t t
+none_gone v t = record { gifts = []; past = λ done h. h; goes = record { goes = λ b done h. record { has_done = h; channel = refl } } }
 
-pub none_gone : (v : PlantView) (t : Told) → GoesOn v (gave []) v t t
-none_gone v t = record { goes = λ b done h. record { has_done = h; channel = refl } }
-
-pub one_pulled : (old mid new : PlantView) (pulled : List Parcel) (parcel : Parcel) (first before between after : Told) → GoesOn old (gave pulled) mid first before → PullsParcel (Some parcel) before between
-    → Delivers mid parcel new between after → GoesOn old (gave (parcel ∷ pulled)) new first after
-one_pulled old mid new pulled parcel first before between after g p d = goes_on old mid new (gave pulled) (PullFrom (Some parcel) ∷ []) first before after g (d.delivers before p)
-
-pub pulled_all : (old new : PlantView) (pulled : List Parcel) (first last : Told) → length pulled ≡ 64 → GoesOn old (gave pulled) new first last → PullsAll old new first last
-pulled_all old new pulled first last count g = record {
-  pulled = pulled;
-  few = omega arith;
-  goes = subst (λ (b : Bool). GoesOn old ((if b then PullFrom None ∷ [] else []) ++ gave pulled) new first last) (sym (le-ltb (length pulled) 64 (omega arith))) g;
+pub one_pulled : (old mid new : PlantView) (left : ℕ) (parcel : Parcel) (first before between after : Told) → Pulls (suc left) old mid first before → PullsParcel (Some parcel) before between
+    → Delivers mid parcel new between after → Pulls left old new first after
+one_pulled old mid new left parcel first before between after g p d = record {
+  gifts = Some parcel ∷ g.gifts;
+  past = g.past;
+  goes = goes_on old mid new (map PullFrom g.gifts) (PullFrom (Some parcel) ∷ []) first before after g.goes (d.delivers before p);
 }
 
-pub pulled_until : (old new : PlantView) (pulled : List Parcel) (first before last : Told) → length pulled < 64 → GoesOn old (gave pulled) new first before → PullsParcel None before last → PullsAll old new first last
-pulled_until old new pulled first before last count g p = record {
-  pulled = pulled;
-  few = omega arith;
-  goes = subst (λ (b : Bool). GoesOn old ((if b then PullFrom None ∷ [] else []) ++ gave pulled) new first last) (sym (lt-ltb (length pulled) 64 count))
-      (goes_on old new new (gave pulled) (PullFrom None ∷ []) first before last g (none_pulled new before last p));
+pub pulled_until : (old new : PlantView) (left : ℕ) (first before last : Told) → Pulls (suc left) old new first before → PullsParcel None before last → Pulls 0 old new first last
+pulled_until old new left first before last g p = record {
+  gifts = None ∷ g.gifts;
+  past = λ done h. (refl, (left, g.past done h));
+  goes = goes_on old new new (map PullFrom g.gifts) (PullFrom None ∷ []) first before last g.goes (none_pulled new before last p);
 }
 
 -- a tick, and then its pulls
-pub tick_turn : (old mid new : PlantView) (first between last : Told) → GoesOn old (Happen (Event event.Tick) ∷ []) mid first between → PullsAll mid new between last → TakesTurn old (Event event.Tick) new first last
-tick_turn old mid new first between last g p = record {
-  pulled = p.pulled;
-  may = p.few;
-  goes = goes_on old mid new (Happen (Event event.Tick) ∷ []) (pulls p.pulled) first between last g p.goes;
+pub tick_line : (old mid new : PlantView) (first between last : Told) → GoesOn old (Happen (Event event.Tick) ∷ []) mid first between → Pulls 0 mid new between last → DoesLine old (Event event.Tick) new first last
+tick_line old mid new first between last g p = record {
+  gifts = p.gifts;
+  past = λ done h. p.past (Happen (Event event.Tick) ∷ done) (refl, h);
+  goes = goes_on old mid new (Happen (Event event.Tick) ∷ []) (map PullFrom p.gifts) first between last g p.goes;
+}
+
+-- another line
+pub one_act : (old new : PlantView) (said : Said) (first last : Told) → is_tick (line_step said) ≡ false → GoesOn old (Happen said ∷ []) new first last → DoesLine old said new first last
+one_act old new said first last other g = record {
+  gifts = [];
+  past = λ done h. (sym (ap (λ (tick : Bool). if tick then 64 else 0) other), h);
+  goes = g;
 }
 
 -- the lengths of the connections
 pub lengths_are : (cut : ℕ → Bool) (done : ℕ → LinkConf → List Entry) (k : ℕ) (links : List LinkConf) (vs : List LinkView) → EachLink (LinkIs cut done) k links vs → map lengths_in links ≡ lengths_kept vs
 lengths_are cut done k [] [] h = refl
-lengths_are cut done k [] (v ∷ vs) h = absurd h
-lengths_are cut done k (link ∷ links) [] h = absurd h
 lengths_are cut done k (link ∷ links) (v ∷ vs) h =
     ap₂ (λ (l : Lengths) (ls : List Lengths). l ∷ ls) (sym (ap (λ (s : SlaveView). s.kit.settings.lengths) h.0.stands.slave.is)) (lengths_are cut done (suc k) links vs h.1)
+lengths_are cut done k _ _ h = absurd h
 
--- a plant plays its turns
-pub follows_event : (old new : PlantView) (e : PlantEvent) (before after : Told) → Fits (lengths_kept old.links) e → TakesTurn old (Event e) new before after → Follows old (Event e) new before after
-follows_event old new e before after fits t = record {
-  plays = λ b turns s.
-      let turn : Turn = record { said = Event e; pulled = t.pulled } in
-      let d = t.goes.goes b (acts turns) s.has_done in
-      let same = lengths_are (λ k. is_cut k (acts turns)) (pairs_by old.journal) 1 b.links old.links s.has_done.links in
+-- a plant goes on by a line that fits
+pub follows : (old new : PlantView) (said : Said) (before after : Told) → ((links : List LinkConf) → map lengths_in links ≡ lengths_kept old.links → SaidFits links said) → DoesLine old said new before after
+    → Follows old said new before after
+follows old new said before after fits t = record {
+  plays = λ b done s.
+      let d = t.goes.goes b done s.has_done in
+      let same = lengths_are (λ k. is_cut k done) (pairs_by old.journal) 1 b.links old.links s.has_done.links in
       record {
-        pulled = t.pulled;
+        gifts = t.gifts;
         stands = record {
-          turns_are = All-cons (IsTurn b.links) turn turns (record { fits = subst (λ (ls : List Lengths). Fits ls e) (sym same) fits; few = t.may }) s.turns_are;
-          has_done = d.has_done;
+          may = record {
+            past = t.past done s.may.past;
+            fit = subst (All (SaidFits b.links)) (sym (line_said said t.gifts done))
+                (All-append (SaidFits b.links) (said_in done) (said ∷ []) s.may.fit (All-cons (SaidFits b.links) said [] (fits b.links same) (All-nil (SaidFits b.links))));
+          };
+          has_done = subst (HasDone b new) (append_assoc (map PullFrom t.gifts) (Happen said ∷ []) done) d.has_done;
         };
         channel = d.channel;
       };
 }
 
+pub follows_event : (old new : PlantView) (e : PlantEvent) (before after : Told) → Fits (lengths_kept old.links) e → DoesLine old (Event e) new before after → Follows old (Event e) new before after
+follows_event old new e before after fits t = follows old new (Event e) before after (λ links same. subst (λ (ls : List Lengths). Fits ls e) (sym same) fits) t
+
 pub follows_app : (old new : PlantView) (app : AppView) (t : Told) → GoesOn old (Happen (App app) ∷ []) new t t → Follows old (App app) new t t
-follows_app old new app t g = record {
-  plays = λ b turns s.
-      let turn : Turn = record { said = App app; pulled = [] } in
-      let d = g.goes b (acts turns) s.has_done in
-      record {
-        pulled = [];
-        stands = record { turns_are = All-cons (IsTurn b.links) turn turns (record { fits = tt; few = refl }) s.turns_are; has_done = d.has_done };
-        channel = d.channel;
-      };
-}
+follows_app old new app t g = follows old new (App app) t t (λ links same. tt) (one_act old new (App app) t t refl g)
 
 -- what a plant is made of before its start, and what this changes
 pub record StartChange (b : Beginning) (new : PlantView) (before after : Told) : Type 0 where
@@ -231,7 +228,7 @@ starts b new before after c =
     quiet_pushes b.links (λ k. false) [] (offers b Start []) (λ at k link. offers_send (changed (settings b) b.app calls) at link k []) in
     record {
       stands = record {
-        turns_are = All-nil (IsTurn b.links);
+        may = record { past = refl; fit = All-nil (SaidFits b.links) };
         has_done = record {
           master = stands;
           links = subst (λ (js : List JournalStep). LinksAre b.links (λ k. false) (pairs_by js) new.links) (sym c.offers.steps) (c.offers.links b.links (λ k. false) [] (made_stand 1 c.bounds b.links));
@@ -249,6 +246,3 @@ pull_room counter len later cap roomy n same below room few larger e =
     let next : suc left * (n + 1) ≡ left * (n + 1) + (n + 1) = suc-mul left (n + 1) in
     let whole = rw (one, next) at room in
     rw e (omega arith)
-
-pub pull_count : (counter : ℕ) (parcel : Parcel) (pulled : List Parcel) → length pulled ≡ counter → length (parcel ∷ pulled) ≡ counter + 1
-pull_count counter parcel pulled e = omega arith

@@ -15,26 +15,25 @@ use Rattle.slave_core.specs.Standing as slave_core
 use Rattle.multi_master.specs.Standing.{ShowsApp}
 use Rattle.multi_master.proofs.Places.{Placed}
 use Rattle.plant_model.specs.declared.journal.JournalStep.{JournalStep}
-use Rattle.plant_model.specs.Acts.{Beginning, settings, calls, journal, is_cut}
+use Rattle.plant_model.specs.Acts.{Beginning, Act, settings, calls, journal, is_cut}
 use Rattle.plant_model.specs.Bound.{slave_offers, is_off, is_guarded}
 use Rattle.plant_core.specs.Standing.{TellsStill, PlantView, LinkIs, PlantStands}
 use Rattle.plant_core.specs.Link.{LinkView}
 use Rattle.plant_model.specs.Pair.{pair, link_at, pairs_by}
-use Rattle.plant_model.specs.Turns.{Turn, acts}
 use Rattle.plant_model.proofs.KeptOff.{offers_is}
 use Rattle.plant_core.proofs.Linking.{from_one, each_at}
 
 -- what the slave of a connection offers
 offer_told : (v : PlantView) (bound : BoundSpec) (place : ℕ) (l : LinkView) (on : Bool) → Placed v.links bound.estop.link place l
-    → slave_core.Shows l.slave on (λ s e. not (held e) && bit_of (offer s e) bound.estop.bit) → (b : Beginning) (turns : List Turn) → PlantStands b v turns → not on ≡ is_off b bound.estop (acts turns)
-offer_told v bound place l on p s b turns h =
+    → slave_core.Shows l.slave on (λ s e. not (held e) && bit_of (offer s e) bound.estop.bit) → (b : Beginning) (acts : List Act) → PlantStands b v acts → not on ≡ is_off b bound.estop acts
+offer_told v bound place l on p s b acts h =
     let k : ℕ = bound.estop.link in
-    let beside = each_at (LinkIs (λ j. is_cut j (acts turns)) (pairs_by v.journal)) 1 b.links v.links place k l h.has_done.links p.at (from_one k place p.number) in
+    let beside = each_at (LinkIs (λ j. is_cut j acts) (pairs_by v.journal)) 1 b.links v.links place k l h.has_done.links p.at (from_one k place p.number) in
     let found : link_at b.links k ≡ Some beside.link = subst (λ (j : ℕ). link_at b.links j ≡ Some beside.link) (sym p.number) beside.is in
     let shown : on ≡ offers_bit bound.estop.bit (next_offered (of_end side.Slave (pair beside.link k v.journal))) =
     s.shows beside.link.slave (deeds side.Slave (pair beside.link k v.journal)) beside.holds.stands.slave ∙ sym (offers_is (OfSlave beside.link.slave) side.Slave bound.estop.bit (pair beside.link k v.journal)) in
-    let meant : offers_bit bound.estop.bit (slave_offers b k (acts turns)) ≡ offers_bit bound.estop.bit (next_offered (of_end side.Slave (pair beside.link k v.journal))) =
-    ap (λ (o : Option LinkConf). offers_bit bound.estop.bit (option_map_or (λ link. next_offered (of_end side.Slave (pair link k (journal b (acts turns))))) o Unset)) found
+    let meant : offers_bit bound.estop.bit (slave_offers b k acts) ≡ offers_bit bound.estop.bit (next_offered (of_end side.Slave (pair beside.link k v.journal))) =
+    ap (λ (o : Option LinkConf). offers_bit bound.estop.bit (option_map_or (λ link. next_offered (of_end side.Slave (pair link k (journal b acts)))) o Unset)) found
     ∙ ap (λ (js : List JournalStep). offers_bit bound.estop.bit (next_offered (of_end side.Slave (pair beside.link k js)))) (sym h.has_done.journal_is) in
     ap not (shown ∙ sym meant)
 
@@ -42,13 +41,13 @@ offer_told v bound place l on p s b turns h =
 pub still_told : (v : PlantView) (bound : BoundSpec) (place : ℕ) (l : LinkView) (on guarded told : Bool) → Placed v.links bound.estop.link place l
     → slave_core.Shows l.slave on (λ s e. not (held e) && bit_of (offer s e) bound.estop.bit) → ShowsApp v.master guarded (λ app. app.guards bound.drive bound.estop) → told ≡ (not on && guarded) → TellsStill v bound told
 still_told v bound place l on guarded told p s g t = record {
-  tells = λ b turns h.
-      t ∙ ap₂ (λ (x y : Bool). x && y) (offer_told v bound place l on p s b turns h) (g.shows (settings b) b.app (calls b (acts turns)) h.has_done.master);
+  tells = λ b acts h.
+      t ∙ ap₂ (λ (x y : Bool). x && y) (offer_told v bound place l on p s b acts h) (g.shows (settings b) b.app (calls b acts) h.has_done.master);
 }
 
 -- so it is where the slave offers the bit as 1, whatever the application guards
 pub moving_told : (v : PlantView) (bound : BoundSpec) (place : ℕ) (l : LinkView) (on told : Bool) → Placed v.links bound.estop.link place l
     → slave_core.Shows l.slave on (λ s e. not (held e) && bit_of (offer s e) bound.estop.bit) → not on ≡ false → told ≡ false → TellsStill v bound told
 moving_told v bound place l on told p s moving t = record {
-  tells = λ b turns h. t ∙ ap (λ (x : Bool). x && is_guarded b bound (acts turns)) (sym moving ∙ offer_told v bound place l on p s b turns h);
+  tells = λ b acts h. t ∙ ap (λ (x : Bool). x && is_guarded b bound acts) (sym moving ∙ offer_told v bound place l on p s b acts h);
 }

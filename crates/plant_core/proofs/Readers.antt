@@ -21,7 +21,6 @@ use Rattle.plant_core.specs.Link.{LinkView}
 use Rattle.plant_model.specs.Pair as pairs
 use Rattle.plant_model.specs.Pair.{pair, link_at, pairs_by}
 use Rattle.plant_core.specs.Standing.{PlantView, PlantValue, IsPlant, HasLink, LinkIs, PlantStands, ShowsPair}
-use Rattle.plant_model.specs.Turns.{Turn, acts}
 use Rattle.plant_core.proofs.Linking.{from_one, each_at, each_count}
 use Rattle.plant_model.proofs.Masters.{master_with, mastered}
 
@@ -29,8 +28,8 @@ use Rattle.plant_model.proofs.Masters.{master_with, mastered}
 pub slave_shown : {X : Type 0} (v : PlantView) (k place : ℕ) (l : LinkView) (shown : X) (word : Setup → List Deed → X) → Placed v.links k place l → slave_core.Shows l.slave shown word
     → ShowsPair v k shown (λ link w. word (OfSlave link.slave) (deeds side.Slave w))
 slave_shown v k place l shown word p s = record {
-  shows = λ b turns h.
-      let beside = each_at (LinkIs (λ j. is_cut j (acts turns)) (pairs_by v.journal)) 1 b.links v.links place k l h.has_done.links p.at (from_one k place p.number) in
+  shows = λ b acts h.
+      let beside = each_at (LinkIs (λ j. is_cut j acts) (pairs_by v.journal)) 1 b.links v.links place k l h.has_done.links p.at (from_one k place p.number) in
       let found : link_at b.links k ≡ Some beside.link = subst (λ (j : ℕ). link_at b.links j ≡ Some beside.link) (sym p.number) beside.is in
       subst (λ (o : Option LinkConf). IsSomeAnd o (λ link. shown ≡ word (OfSlave link.slave) (deeds side.Slave (pair link k v.journal)))) (sym found)
       (s.shows beside.link.slave (deeds side.Slave (pair beside.link k v.journal)) beside.holds.stands.slave);
@@ -44,13 +43,12 @@ told_by shown word o c is h =
     sym same
 
 master_at : {X : Type 0} (v : PlantView) (place : ℕ) (shown : X) (word : Setup → List Deed → X) → ShowsAt v.master (suc place) shown (λ c. word (setup c) c.deeds) → place < length v.links
-    → (b : Beginning) (turns : List Turn) → PlantStands b v turns → IsSomeAnd (link_at b.links (suc place)) (λ link. shown ≡ word (OfMaster link.master) (deeds side.Master (pair link (suc place) v.journal)))
-master_at v place shown word s lt b turns h =
-    let count = each_count (LinkIs (λ j. is_cut j (acts turns)) (pairs_by v.journal)) 1 b.links v.links h.has_done.links in
+    → (b : Beginning) (acts : List Act) → PlantStands b v acts → IsSomeAnd (link_at b.links (suc place)) (λ link. shown ≡ word (OfMaster link.master) (deeds side.Master (pair link (suc place) v.journal)))
+master_at v place shown word s lt b acts h =
+    let count = each_count (LinkIs (λ j. is_cut j acts) (pairs_by v.journal)) 1 b.links v.links h.has_done.links in
     let link = some_at b.links place (omega arith) in
-    let done : List Act = acts turns in
     subst (λ (o : Option LinkConf). IsSomeAnd o (λ link. shown ≡ word (OfMaster link.master) (deeds side.Master (pair link (suc place) v.journal)))) (sym link.1)
-    (told_by shown word (slice_get (masters b done).connections place) (master_with link.0 (pair link.0 (suc place) (journal b done))) (mastered b done place link.0 link.1) (s.shows (settings b) b.app (calls b done) h.has_done.master)
+    (told_by shown word (slice_get (masters b acts).connections place) (master_with link.0 (pair link.0 (suc place) (journal b acts))) (mastered b acts place link.0 link.1) (s.shows (settings b) b.app (calls b acts) h.has_done.master)
     ∙ ap (λ (js : List JournalStep). word (OfMaster link.0.master) (deeds side.Master (pair link.0 (suc place) js))) (sym h.has_done.journal_is))
 
 master_shown : {X : Type 0} (v : PlantView) (k : ℕ) (shown : X) (word : Setup → List Deed → X) → ShowsAt v.master k shown (λ c. word (setup c) c.deeds) → 1 ≤ k → k ≤ length v.links

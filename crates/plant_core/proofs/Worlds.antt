@@ -13,11 +13,10 @@ use Rattle.multi_master.specs.Connection.{Connection}
 use Rattle.multi_master.specs.Standing.{IsWhere}
 use Rattle.multi_master.proofs.Places.{all_at}
 use Rattle.plant_model.specs.declared.journal.JournalStep.{JournalStep}
-use Rattle.plant_model.specs.Acts.{Beginning, masters, is_cut, journal}
+use Rattle.plant_model.specs.Acts.{Beginning, Act, masters, is_cut, journal}
 use Rattle.plant_model.specs.FairPairs.{PairsAreFair}
 use Rattle.plant_model.specs.Pair.{pair, pairs_by}
 use Rattle.plant_core.specs.Standing.{PlantView, LinkIs, PlantStands}
-use Rattle.plant_model.specs.Turns.{Turn, acts}
 use Rattle.plant_model.proofs.Cycled.{sound_acts}
 use Rattle.plant_model.proofs.Masters.{master_with, mastered}
 use Rattle.plant_core.proofs.Linking.{kept_at}
@@ -32,37 +31,36 @@ use Rattle.plant_model.specs.Acts.{journal}
 -- what stands beside a place of the first list
 zip_at : (cs : List Connection) (ms : List MasterView) (place : ℕ) (c : Connection) → AllZip IsWhere cs ms → slice_get cs place ≡ Some c → (m : MasterView) × IsWhere c m
 zip_at [] [] place c h e = absurd (cc e)
-zip_at [] (m ∷ ms) place c h e = absurd h
-zip_at (a ∷ cs) [] place c h e = absurd h
 zip_at (a ∷ cs) (m ∷ ms) zero c h e = let i : a ≡ c = cc in (m, subst (λ (z : Connection). IsWhere z m) i h.0)
 zip_at (a ∷ cs) (m ∷ ms) (suc place) c h e = zip_at cs ms place c h.1 e
+zip_at _ _ place c h e = absurd h
 
 -- what the master of a pair did is a run
-pub master_runs : (b : Beginning) (v : PlantView) (turns : List Turn) (place : ℕ) (link : LinkConf) → PlantStands b v turns → slice_get b.links place ≡ Some link
+pub master_runs : (b : Beginning) (v : PlantView) (acts : List Act) (place : ℕ) (link : LinkConf) → PlantStands b v acts → slice_get b.links place ≡ Some link
     → IsRun (OfMaster link.master) (deeds side.Master (pair link (suc place) v.journal))
-master_runs b v turns place link h e =
+master_runs b v acts place link h e =
     let done = h.has_done in
-    let c : Connection = master_with link (pair link (suc place) (journal b (acts turns))) in
-    let beside = zip_at (masters b (acts turns)).connections v.master.masters place c done.master.masters (mastered b (acts turns) place link e) in
+    let c : Connection = master_with link (pair link (suc place) (journal b acts)) in
+    let beside = zip_at (masters b acts).connections v.master.masters place c done.master.masters (mastered b acts place link e) in
     subst (λ (js : List JournalStep). IsRun (OfMaster link.master) (deeds side.Master (pair link (suc place) js))) (sym done.journal_is) beside.1.reached
 
-pub worlds : (b : Beginning) (v : PlantView) (turns : List Turn) → PlantStands b v turns → All HasSameLengths b.links → AreWorlds b.links v.journal
-worlds b v turns h same = λ place link e.
-    let kept = kept_at (LinkIs (λ j. is_cut j (acts turns)) (pairs_by v.journal)) 1 b.links v.links place (suc place) link h.has_done.links e (omega arith) in
-    world_of_runs link (suc place) v.journal (all_at HasSameLengths b.links place link same e) (master_runs b v turns place link h e) kept.holds.stands.slave.reached
+pub worlds : (b : Beginning) (v : PlantView) (acts : List Act) → PlantStands b v acts → All HasSameLengths b.links → AreWorlds b.links v.journal
+worlds b v acts h same = λ place link e.
+    let kept = kept_at (LinkIs (λ j. is_cut j acts) (pairs_by v.journal)) 1 b.links v.links place (suc place) link h.has_done.links e (omega arith) in
+    world_of_runs link (suc place) v.journal (all_at HasSameLengths b.links place link same e) (master_runs b v acts place link h e) kept.holds.stands.slave.reached
 
 -- by the journal of its acts
-by_acts : (b : Beginning) (v : PlantView) (turns : List Turn) → PlantStands b v turns → All HasSameLengths b.links → AreWorlds b.links (journal b (acts turns))
-by_acts b v turns h same = subst (λ (steps : List JournalStep). AreWorlds b.links steps) h.has_done.journal_is (worlds b v turns h same)
+by_acts : (b : Beginning) (v : PlantView) (acts : List Act) → PlantStands b v acts → All HasSameLengths b.links → AreWorlds b.links (journal b acts)
+by_acts b v acts h same = subst (λ (steps : List JournalStep). AreWorlds b.links steps) h.has_done.journal_is (worlds b v acts h same)
 
-pub plants_are_fair : (b : Beginning) (v : PlantView) (turns : List Turn) → PlantStands b v turns → All HasSameLengths b.links → PairsAreFair b.links v.journal
-plants_are_fair b v turns h same = worlds_are_fair b.links v.journal (worlds b v turns h same)
+pub plants_are_fair : (b : Beginning) (v : PlantView) (acts : List Act) → PlantStands b v acts → All HasSameLengths b.links → PairsAreFair b.links v.journal
+plants_are_fair b v acts h same = worlds_are_fair b.links v.journal (worlds b v acts h same)
 
-pub sound : (b : Beginning) (v : PlantView) (turns : List Turn) → PlantStands b v turns → AllSound b (acts turns)
-sound b v turns h = sound_acts b (acts turns) h.has_done.master.sound
+pub sound : (b : Beginning) (v : PlantView) (acts : List Act) → PlantStands b v acts → AllSound b acts
+sound b v acts h = sound_acts b acts h.has_done.master.sound
 
-pub reacts : (b : Beginning) (v : PlantView) (turns : List Turn) → PlantStands b v turns → All HasSameLengths b.links → Reacts b (acts turns)
-reacts b v turns h same = worlds_react b (acts turns) (by_acts b v turns h same)
+pub reacts : (b : Beginning) (v : PlantView) (acts : List Act) → PlantStands b v acts → All HasSameLengths b.links → Reacts b acts
+reacts b v acts h same = worlds_react b acts (by_acts b v acts h same)
 
-pub broken_by_other : (b : Beginning) (v : PlantView) (turns : List Turn) → PlantStands b v turns → All HasSameLengths b.links → BrokenByOther b turns
-broken_by_other b v turns h same = worlds_broken b turns (by_acts b v turns h same) (sound b v turns h)
+pub broken_by_other : (b : Beginning) (v : PlantView) (acts : List Act) → PlantStands b v acts → All HasSameLengths b.links → BrokenByOther b acts
+broken_by_other b v acts h same = worlds_broken b acts (by_acts b v acts h same) (sound b v acts h)

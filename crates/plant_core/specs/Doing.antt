@@ -1,6 +1,6 @@
 -- How the parts of a plant do an act, step by step. Contracts of private functions alone rest on these words. Entries
 -- and acts are listed newest first, steps oldest first.
-use Rattle.std.specs.Prelude.{◌≡◌, ◌≤◌, ◌+◌, ◌*◌, nat_lt, ℕ, suc, Bool, true, List, [], ◌∷◌, ◌++◌, map, take, length, slice_get, Option, Some, None, if◌then◌else◌}
+use Rattle.std.specs.Prelude.{◌≡◌, ◌+◌, ◌*◌, nat_lt, ℕ, suc, Bool, true, List, [], ◌∷◌, ◌++◌, map, take, slice_get, Option, Some, None, if◌then◌else◌}
 use Rattle.fsoe_base.specs.declared.command.End.{End}
 use Rattle.fsoe_base.specs.declared.command.End.TheVariants as side
 use Rattle.fsoe_base.specs.declared.did.Did.{Did}
@@ -23,7 +23,7 @@ use Rattle.reaction_bound.specs.Ages.{HasAgeParts}
 use Rattle.plant_core.specs.Link.{LinkView, LinkStands}
 use Rattle.plant_core.specs.Standing.{PlantView, HasDone, LinksAre}
 use Rattle.plant_model.specs.Pair.{pairs_by, next_of}
-use Rattle.plant_model.specs.Turns.{MayPull, pulls, turn_acts}
+use Rattle.plant_model.specs.Past.{IsPast, with_line}
 use Rattle.plant_model.specs.Uses.{Use, Trace}
 use Rattle.plant_model.specs.Gifts.{place_of, sent_uses, each_uses}
 use Rattle.black_channel.specs.declared.channel.Parcel.{Parcel}
@@ -121,14 +121,14 @@ pub record GoesOn (old : PlantView) (more : List Act) (new : PlantView) (before 
 pub record Delivers (old : PlantView) (parcel : Parcel) (new : PlantView) (before after : Told) : Type 0 where
   pub delivers : (first : Told) → PullsParcel (Some parcel) first before → GoesOn old (PullFrom (Some parcel) ∷ []) new first after
 
--- the pulls of a tick
-pub record PullsAll (old new : PlantView) (before after : Told) : Type 0 where
-  pub pulled : List Parcel
-  pub few : length pulled ≤ 64
-  pub goes : GoesOn old (pulls pulled) new before after
+-- pulls of a tick, after which so many more may come
+pub record Pulls (left : ℕ) (old new : PlantView) (before after : Told) : Type 0 where
+  pub gifts : List (Option Parcel)
+  pub past : (done : List Act) → IsPast 64 done → IsPast left (map PullFrom gifts ++ done)
+  pub goes : GoesOn old (map PullFrom gifts) new before after
 
 -- a plant goes on by what is said at a line of the script, and by the pulls then
-pub record TakesTurn (old : PlantView) (said : Said) (new : PlantView) (before after : Told) : Type 0 where
-  pub pulled : List Parcel
-  pub may : MayPull said pulled
-  pub goes : GoesOn old (turn_acts said pulled) new before after
+pub record DoesLine (old : PlantView) (said : Said) (new : PlantView) (before after : Told) : Type 0 where
+  pub gifts : List (Option Parcel)
+  pub past : (done : List Act) → IsPast 0 done → IsPast 0 (with_line said gifts done)
+  pub goes : GoesOn old (with_line said gifts []) new before after

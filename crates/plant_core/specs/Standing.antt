@@ -1,4 +1,4 @@
--- What it means that a plant does what its acts say. Turns are listed newest first.
+-- What it means that a plant does what its acts say. Acts are listed newest first.
 use Rattle.std.specs.Prelude.{◌≡◌, ◌≤◌, ◌*◌, ℕ, zero, suc, Bool, List, [], ◌∷◌, All, IsSomeAnd, Option, None, length, map, slice_get, false, IfSome, IsSome}
 use Rattle.fsoe_base.specs.declared.did.Did.{Did}
 use Rattle.fsoe_base.specs.declared.lengths.Lengths.{Lengths}
@@ -13,9 +13,9 @@ use Rattle.multi_master.specs.Standing.{MultiValue, MultiView, StandsFor}
 use Rattle.multi_master.specs.Standing as multi
 use Rattle.plant_model.specs.declared.journal.JournalStep.{JournalStep}
 use Rattle.plant_model.specs.Acts.{Beginning, Said, Act, Start, settings, calls, journal, is_cut, uses, uses_after}
+use Rattle.plant_model.specs.Past.{MayHaveDone, with_line}
 use Rattle.plant_core.specs.Link.{Fixed, LinkView, LinkStands, fixed_of}
 use Rattle.plant_model.specs.Pair.{pair, link_at, lowest_other, outputs_at, pairs_by}
-use Rattle.plant_model.specs.Turns.{Turn, acts, turn_acts, IsTurn}
 use Rattle.plant_model.specs.Uses.{Trace}
 use Rattle.std.specs.Option.{option_map_or}
 use Rattle.fsoe_base.specs.Image.{bit_of}
@@ -95,30 +95,29 @@ pub record HasDone (b : Beginning) (v : PlantView) (done : List Act) : Type 0 wh
   pub links : LinksAre b.links (λ k. is_cut k done) (pairs_by v.journal) v.links
   pub journal_is : v.journal ≡ journal b done
 
--- a plant that began so stands for these turns
-pub record PlantStands (b : Beginning) (v : PlantView) (turns : List Turn) : Type 0 where
-  pub turns_are : All (IsTurn b.links) turns
-  pub has_done : HasDone b v (acts turns)
+-- a plant that began so has done these acts, and comes to the next line of its script
+pub record PlantStands (b : Beginning) (v : PlantView) (acts : List Act) : Type 0 where
+  pub may : MayHaveDone b.links acts
+  pub has_done : HasDone b v acts
 
 -- a plant that began so has done its start alone, and so its channel was used
 pub record Starts (b : Beginning) (new : PlantView) (before after : Told) : Type 0 where
-  pub stands : PlantStands b new []
+  pub stands : PlantStands b new (Start ∷ [])
   pub channel : Trace (uses b (Start ∷ [])) before after
 
--- a plant goes on by one turn, in which this is said and these parcels are pulled, and its channel by the uses of this
--- turn
-pub record Plays (b : Beginning) (turns : List Turn) (said : Said) (new : PlantView) (before after : Told) : Type 0 where
-  pub pulled : List Parcel
-  pub stands : PlantStands b new (record { said = said; pulled = pulled } ∷ turns)
-  pub channel : Trace (uses_after b (turn_acts said pulled) (acts turns)) before after
+-- a plant goes on by the acts at one line, which says this, and its channel by the uses of these; this is what it gave
+pub record Plays (b : Beginning) (acts : List Act) (said : Said) (new : PlantView) (before after : Told) : Type 0 where
+  pub gifts : List (Option Parcel)
+  pub stands : PlantStands b new (with_line said gifts acts)
+  pub channel : Trace (uses_after b (with_line said gifts []) acts) before after
 
--- a plant that stood for some turns goes on by one in which this is said
+-- a plant that stood for some acts goes on by a line that says this
 pub record Follows (old : PlantView) (said : Said) (new : PlantView) (before after : Told) : Type 0 where
-  pub plays : (b : Beginning) (turns : List Turn) → PlantStands b old turns → Plays b turns said new before after
+  pub plays : (b : Beginning) (acts : List Act) → PlantStands b old acts → Plays b acts said new before after
 
 -- what is shown of a connection is this word of it and of the entries of its pair
 pub record ShowsPair {X : Type 0} (v : PlantView) (k : ℕ) (shown : X) (word : LinkConf → List Entry → X) : Type 0 where
-  pub shows : (b : Beginning) (turns : List Turn) → PlantStands b v turns
+  pub shows : (b : Beginning) (acts : List Act) → PlantStands b v acts
       → IsSomeAnd (link_at b.links k) (λ link. shown ≡ word link (pair link k v.journal))
 
 -- the monitors of these connections, the first of which has number k, have noted the entries of their pairs
@@ -129,11 +128,11 @@ AllNoted k _ _ steps = ⊥
 
 -- the lowest connection whose pair has an other entry is told
 pub record TellsOther (v : PlantView) (told : Option ℕ) : Type 0 where
-  pub tells : (b : Beginning) (turns : List Turn) → PlantStands b v turns → told ≡ lowest_other 1 b.links v.journal
+  pub tells : (b : Beginning) (acts : List Act) → PlantStands b v acts → told ≡ lowest_other 1 b.links v.journal
 
 -- it is told whether a bound is still
 pub record TellsStill (v : PlantView) (bound : BoundSpec) (told : Bool) : Type 0 where
-  pub tells : (b : Beginning) (turns : List Turn) → PlantStands b v turns → told ≡ is_still b bound (acts turns)
+  pub tells : (b : Beginning) (acts : List Act) → PlantStands b v acts → told ≡ is_still b bound acts
 
 -- the ages of the outputs of connection k are told, if there is one
 abbrev pub IsAged : List LinkView → ℕ → Type 0
@@ -141,9 +140,9 @@ IsAged vs k = IfSome (kept_at vs k) (λ v. IsSome v.ages)
 
 -- what is shown of an end at connection k is the greatest age of its outputs
 pub record ShowsWorst (v : PlantView) (k : ℕ) (end : End) (shown : Option ℕ) : Type 0 where
-  pub shows : (b : Beginning) (turns : List Turn) → PlantStands b v turns → shown ≡ worst_at b.links v.journal k end
+  pub shows : (b : Beginning) (acts : List Act) → PlantStands b v acts → shown ≡ worst_at b.links v.journal k end
 
 -- what is shown of a bit of an image is its value at the slave
 pub record ShowsOn (v : PlantView) (bit : Bit) (shown : Bool) : Type 0 where
-  pub shows : (b : Beginning) (turns : List Turn) → PlantStands b v turns
+  pub shows : (b : Beginning) (acts : List Act) → PlantStands b v acts
       → shown ≡ option_map_or (λ link. bit_of (outputs_at link side.Slave (pair link bit.link v.journal)) bit.bit) (link_at b.links bit.link) false

@@ -83,7 +83,7 @@ impl<A: Application> Ends<A> {
     ghost use Rattle.multi_master.specs.Standing as multi;
     ghost use Rattle.multi_master.specs.Standing.{app_view};
     ghost use Rattle.plant_model.specs.Acts.{Event, App, Happen};
-    ghost use Rattle.plant_core.specs.Doing.{GoesOn, Delivers, OffersNoted, PullsAll, TakesTurn, sees};
+    ghost use Rattle.plant_core.specs.Doing.{GoesOn, Delivers, OffersNoted, Pulls, DoesLine, sees};
     ghost use Rattle.plant_core.specs.Standing.{IsPlant, fixed_in, lengths_kept};
     ghost use Rattle.black_channel.specs.Told.{Told};
     ghost use Rattle.plant_model.specs.Fits.{Fits};
@@ -215,7 +215,7 @@ impl<A: Application> Ends<A> {
     fn pull_all<C: Channel>(&mut self, steps: &mut Vec<JournalStep>, channel: &mut C)
         requires ready { IsPlant self.old.master self.old.links.items self.old.dids.items self.old.outs.items (vec_len steps.old) }
         requires room { vec_len steps.old + 64 * (vec_len self.old.links + 1) ≤ vec_capacity steps.old }
-        ensures pulls { let seen = sees A.rule A.holds A.guards in PullsAll (seen self.old.master self.old.links.items steps.old.items) (seen self.new.master self.new.links.items steps.new.items) (C.told channel.old) (C.told channel.new) }
+        ensures pulls { let seen = sees A.rule A.holds A.guards in Pulls 0 (seen self.old.master self.old.links.items steps.old.items) (seen self.new.master self.new.links.items steps.new.items) (C.told channel.old) (C.told channel.new) }
         ensures ready { IsPlant self.new.master self.new.links.items self.new.dids.items self.new.outs.items (vec_len steps.new) }
         ensures fixed { fixed_in self.new.links.items ≡ fixed_in self.old.links.items }
     {
@@ -232,7 +232,7 @@ impl<A: Application> Ends<A> {
     fn tick_and_pull<C: Channel>(&mut self, steps: &mut Vec<JournalStep>, channel: &mut C)
         requires ready { IsPlant self.old.master self.old.links.items self.old.dids.items self.old.outs.items (vec_len steps.old) }
         requires room { vec_len steps.old + 65 * (vec_len self.old.links + 1) ≤ vec_capacity steps.old }
-        ensures turns { let seen = sees A.rule A.holds A.guards in TakesTurn (seen self.old.master self.old.links.items steps.old.items) (Event event.Tick) (seen self.new.master self.new.links.items steps.new.items) (C.told channel.old) (C.told channel.new) }
+        ensures line { let seen = sees A.rule A.holds A.guards in DoesLine (seen self.old.master self.old.links.items steps.old.items) (Event event.Tick) (seen self.new.master self.new.links.items steps.new.items) (C.told channel.old) (C.told channel.new) }
         ensures ready { IsPlant self.new.master self.new.links.items self.new.dids.items self.new.outs.items (vec_len steps.new) }
         ensures fixed { fixed_in self.new.links.items ≡ fixed_in self.old.links.items }
     {
@@ -302,6 +302,7 @@ impl<A: Application> Ends<A> {
     }
 
     /// Does an event of the script; at a tick the channel brings what it does.
+    #[tactic(auto, using(crate::proofs::Pulling::one_act))]
     pub(crate) fn happen<C: Channel>(
         &mut self,
         event: &PlantEvent,
@@ -311,7 +312,7 @@ impl<A: Application> Ends<A> {
         requires fits { Fits (lengths_kept self.old.links.items) event.now }
         requires ready { IsPlant self.old.master self.old.links.items self.old.dids.items self.old.outs.items (vec_len steps.old) }
         requires room { vec_len steps.old + room_for event.now (vec_len self.old.links) ≤ vec_capacity steps.old }
-        ensures turns { let seen = sees A.rule A.holds A.guards in TakesTurn (seen self.old.master self.old.links.items steps.old.items) (Event event.now) (seen self.new.master self.new.links.items steps.new.items) (C.told channel.old) (C.told channel.new) }
+        ensures line { let seen = sees A.rule A.holds A.guards in DoesLine (seen self.old.master self.old.links.items steps.old.items) (Event event.now) (seen self.new.master self.new.links.items steps.new.items) (C.told channel.old) (C.told channel.new) }
         ensures ready { IsPlant self.new.master self.new.links.items self.new.dids.items self.new.outs.items (vec_len steps.new) }
         ensures fixed { fixed_in self.new.links.items ≡ fixed_in self.old.links.items }
     {

@@ -17,7 +17,7 @@ use Rattle.plant_setup.specs.Setup.{IsChosen, net_of, setup_fault}
 use Rattle.plant_setup.specs.declared.fault.SetupFault.{SetupFault}
 use Rattle.multi_master.specs.Calls.{AppView}
 use Rattle.plant_model.specs.NetCycles.{net_app}
-use Rattle.plant_model.specs.Turns.{Named}
+use Rattle.plant_model.specs.Past.{Named}
 use Rattle.plant_model.proofs.ByNet.{answers_by_net}
 use Rattle.plant_model.specs.declared.journal.JournalStep.{JournalStep}
 use Rattle.plant_file.specs.Handed.{Handed, entry_seen, handed}

@@ -4,7 +4,7 @@ use Rattle.std.specs.declared.option.Option.{Option}
 use Rattle.black_channel.specs.Told.{Told}
 use Rattle.fb_net.specs.declared.kind_of.EntryOf.{EntryOf}
 use Rattle.multi_master.specs.Calls.{AppView}
-use Rattle.plant_model.specs.Turns.{Named}
+use Rattle.plant_model.specs.Past.{Named}
 use Rattle.plant_model.specs.declared.journal.JournalStep.{JournalStep}
 
 -- what a desk tells of one name: the text under it, where it tells that, and how often loads of it failed before a run

@@ -23,7 +23,7 @@ use Rattle.black_channel.specs.Told.{Told}
 use Rattle.plant_model.specs.declared.journal.JournalStep.{JournalStep}
 use Rattle.plant_model.specs.Acts.{Act, Beginning}
 use Rattle.plant_model.specs.NetCycles.{AnswersByNet, net_app}
-use Rattle.plant_model.specs.Turns.{Named}
+use Rattle.plant_model.specs.Past.{Named}
 use Rattle.plant_run.specs.Reporting.{Terms}
 use Rattle.plant_file.specs.Handed.{DeskTold, Handed}
 

@@ -83,9 +83,7 @@ cycle_app (Some a) m = refl
 
 app_after : (call : Call) (m : Meant) → (after call m).app ≡ held_by (cycle_in call m) (answering call m)
 app_after (Deliver link bytes) m = cycle_app (cycle_in (Deliver link bytes) m) m
-app_after Tick m = refl
-app_after (Nonce link id) m = refl
-app_after (ChangeApp app) m = refl
+app_after _ m = refl
 
 -- the calls of a net by its cycles
 abbrev net_calls : List MasterSettings → List NetCycle → List net.Call
@@ -102,10 +100,8 @@ record HasHad (settings : List MasterSettings) (begun : AppView) (e : List NetCy
 
 answering_had : (settings : List MasterSettings) (app : AppView) (calls : List Call) (call : Call) (m : Meant) (e : List NetCycle) → HasHad settings (app_begun app calls) e m.app
     → HasHad settings (app_begun app (call ∷ calls)) (cycles_before call e) (answering call m)
-answering_had settings app calls (Deliver link bytes) m e h = h
-answering_had settings app calls Tick m e h = h
-answering_had settings app calls (Nonce link id) m e h = h
 answering_had settings app calls (ChangeApp other) m e h = record { rule = refl; holds = refl }
+answering_had settings app calls _ m e h = h
 
 -- an answer is that of what it began as
 had_answers : (settings : List MasterSettings) (begun app : AppView) (e : List NetCycle) (c : NetCycle) → HasHad settings begun e app

@@ -21,7 +21,7 @@ use Rattle.multi_master.specs.Standing as multi
 use Rattle.plant_model.specs.declared.event.PlantEvent.TheVariants as event
 use Rattle.plant_model.specs.declared.journal.JournalStep.{JournalStep}
 use Rattle.plant_model.specs.declared.journal.JournalStep.TheVariants as step
-use Rattle.plant_model.specs.Acts.{Beginning, Event, App, Act, Start, Happen, PullFrom, settings, delivery_call, call_of, calls, masters, offer_step, journal}
+use Rattle.plant_model.specs.Acts.{Beginning, Event, Act, Happen, PullFrom, settings, delivery_call, call_of, calls, masters, offer_step, journal}
 use Rattle.plant_model.specs.Gifts.{place_of}
 use Rattle.plant_model.specs.Pair.{next_of, pair, link_at}
 use Rattle.plant_model.specs.JournalLaws.{tells_hearing, master_hears, Cycles}
@@ -77,17 +77,9 @@ parcel_cycles b done zero side.Master frame (Some link) e = absurd (cc e)
 parcel_cycles b done (suc place) side.Master frame (Some link) e = heard b done place frame link e
 
 pub cycles : (b : Beginning) (act : Act) (done : List Act) → Cycles b act done
-cycles b Start done = refl
-cycles b (Happen (Event event.Tick)) done = refl
-cycles b (Happen (Event (event.Put link load))) done = refl
-cycles b (Happen (Event (event.Hold link failsafe))) done = refl
-cycles b (Happen (Event (event.Local link))) done = refl
 cycles b (Happen (Event (event.Nonce link side.Master id))) done = refl
-cycles b (Happen (Event (event.Nonce link side.Slave id))) done = refl
-cycles b (Happen (Event (event.Cut link cut))) done = refl
-cycles b (Happen (App app)) done = refl
-cycles b (PullFrom None) done = refl
 cycles b (PullFrom (Some parcel)) done = parcel_cycles b done parcel.to.link parcel.to.end parcel.frame (link_at b.links parcel.to.link) refl
+cycles b _ done = refl
 
 -- calls with sound answers were made by acts with sound answers
 sound-act : (b : Beginning) (acts : List Act) (o : Option Call) → multi.AllSound (settings b) b.app (option_to_list o ++ calls b acts)

@@ -80,11 +80,7 @@ event_for end move.Local = at.Local end
 
 pub event_world : (link : LinkConf) (end : End) (what : Move) (w : List Entry) → world_after link.master link.slave (event_for end what ∷ []) w ≡ next_of end what link w ∷ w
 event_world link end (move.Deliver bytes) w = refl
-event_world link end move.Tick w = refl
-event_world link end (move.Put load) w = refl
-event_world link end (move.Hold failsafe) w = refl
-event_world link end (move.Nonce id) w = refl
-event_world link end move.Local w = refl
+event_world link end _ w = refl
 
 -- what such an event is to its end
 plain_move : (e : Event) → IsPlain e → (m : Move) × ((frames : List (List ℕ)) → move_from frames e ≡ Some m)
@@ -151,10 +147,9 @@ abbrev pub sent_in : End → End → Entry → List ℕ
 sent_in end of x = if same_end end of then x.sent else []
 
 pub frames_next : (end of : End) (what : Move) (link : LinkConf) (w : List Entry) → frames_of end (next_of of what link w ∷ w) ≡ with_frame (sent_in end of (next_of of what link w)) (frames_of end w)
-frames_next side.Master side.Master what link w = refl
 frames_next side.Master side.Slave what link w = refl
 frames_next side.Slave side.Master what link w = refl
-frames_next side.Slave side.Slave what link w = refl
+frames_next _ _ what link w = refl
 
 -- the frames that are new
 new_frame : (frame : List ℕ) (frames : List (List ℕ)) → newer frames (with_frame frame frames) ≡ (if is_empty frame then [] else frame ∷ [])
@@ -167,9 +162,8 @@ new_frame (x ∷ frame) frames =
 
 one_push : (k : ℕ) (end : End) (frame : List ℕ) (cut : Bool) → (if cut then [] else map (push_to k end) (if is_empty frame then [] else frame ∷ [])) ≡ sent_uses (place_of k end) frame cut
 one_push k end [] true = refl
-one_push k end [] false = refl
 one_push k end (x ∷ frame) true = refl
-one_push k end (x ∷ frame) false = refl
+one_push k end _ _ = refl
 
 -- the frames of each connection, one at most, are pushed
 pub pushes_each : (end : End) (k : ℕ) (links : List LinkConf) (cut : ℕ → Bool) (before now : List JournalStep) (frame : ℕ → LinkConf → List ℕ)

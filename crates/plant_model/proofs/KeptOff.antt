@@ -25,7 +25,7 @@ use Rattle.exchange_model.specs.World.{setup_of, deed_in, deeds, SameLengths}
 use Rattle.exchange_model.specs.Schedules.{IsWorld}
 use Rattle.exchange_model.proofs.Fairness.Shown.{due_is_out, receives_is}
 use Rattle.exchange_model.proofs.Worlds.Projection.{told, deeds_are_run}
-use Rattle.multi_master.specs.Calls.{Call, Deliver, Tick, Nonce, ChangeApp, Meant, event_at, cycle_in, with_cycle, after, meant}
+use Rattle.multi_master.specs.Calls.{Call, Deliver, Nonce, Meant, event_at, cycle_in, with_cycle, after, meant}
 use Rattle.multi_master.specs.Connection.{Connection, outputs_at, offer_at}
 use Rattle.multi_master.proofs.Neighbours.{event_keeps}
 use Rattle.plant_model.specs.Acts.{Beginning, Act, settings, call_of, calls, masters, cycle_of, journal}
@@ -50,11 +50,7 @@ put_or s (Some load) = load
 
 after_is : (s : Setup) (m : Move) (before : List ℕ) (o : Option (List ℕ)) → before ≡ put_or s o → offer_after m before ≡ put_or s (put_after m o)
 after_is s (move.Put load) before o h = refl
-after_is s (move.Deliver bytes) before o h = h
-after_is s move.Tick before o h = h
-after_is s (move.Hold failsafe) before o h = h
-after_is s (move.Nonce id) before o h = h
-after_is s move.Local before o h = h
+after_is s _ before o h = h
 
 offer_if : (s : Setup) (which : End) (x : Entry) (w : List Entry) (mine : Bool) → offer s (deeds which w) ≡ put_or s (last_put (of_end which w))
     → offer s (if mine then deed_in x ∷ deeds which w else deeds which w) ≡ put_or s (last_put (if mine then x ∷ of_end which w else of_end which w))
@@ -120,9 +116,8 @@ call_keeps : (m : Meant) (call : Call) → cycle_in call m ≡ None → map offe
 call_keeps m (Deliver link bytes) e =
     ap (λ (o : Option Answer). map offer_at (event_at link (move.Deliver bytes) (with_cycle o m)).connections) e
     ∙ event_keeps offer_at link (move.Deliver bytes) m.connections (λ c. refl)
-call_keeps m Tick e = absurd (cc e)
 call_keeps m (Nonce link id) e = event_keeps offer_at link (move.Nonce id) m.connections (λ c. refl)
-call_keeps m (ChangeApp app) e = absurd (cc e)
+call_keeps m _ e = absurd (cc e)
 
 keeps_by : (b : Beginning) (o : Option Call) (before : List Call) → option_and_then (λ call. cycle_in call (meant (settings b) b.app before)) o ≡ None
     → map offer_at (meant (settings b) b.app (option_to_list o ++ before)).connections ≡ map offer_at (meant (settings b) b.app before).connections

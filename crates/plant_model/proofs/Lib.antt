@@ -12,5 +12,5 @@ pub mod Reacting
 mod Sends
 mod Since
 mod SpareApps
-mod StillTurns
+mod StillTicks
 mod Traces

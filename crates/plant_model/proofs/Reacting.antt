@@ -26,7 +26,7 @@ use Rattle.exchange_model.specs.Schedules.{IsWorld}
 use Rattle.exchange_model.proofs.Offering.Offered.{was_offered}
 use Rattle.exchange_model.proofs.Offering.Older.{older_world, older_clean}
 use Rattle.plant_model.specs.declared.journal.JournalStep.{JournalStep}
-use Rattle.plant_model.specs.Acts.{Beginning, Event, App, Act, Start, Happen, PullFrom, cycle_of, offers, steps_of, journal}
+use Rattle.plant_model.specs.Acts.{Beginning, Event, Act, Happen, cycle_of, offers, steps_of, journal}
 use Rattle.plant_model.specs.Bound.{slave_offers, is_off, inputs_after, offers_after, StaysOff, HasLinks, is_on, Reacts}
 use Rattle.plant_model.specs.Pair.{pair, link_at, is_tick, ticks}
 use Rattle.plant_model.proofs.Cycled.{cycles}
@@ -103,10 +103,8 @@ input_off b bound estop later earlier e q c many =
 
 -- a tick runs a cycle
 no_cycle_no_tick : (b : Beginning) (act : Act) (done : List Act) → cycle_of b act done ≡ None → is_tick_act act ≡ false
-no_cycle_no_tick b Start done e = refl
 no_cycle_no_tick b (Happen (Event event)) done e = sym (cycles b (Happen (Event event)) done) ∙ ap is_some e
-no_cycle_no_tick b (Happen (App app)) done e = refl
-no_cycle_no_tick b (PullFrom gift) done e = refl
+no_cycle_no_tick b _ done e = refl
 
 -- by whether a cycle was run
 by_cycle : (X Y : Type 0) (was o : Option Answer) → was ≡ o → IfSome was (λ a. X → Y) → X → (was ≡ None → Y) → Y

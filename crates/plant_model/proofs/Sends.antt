@@ -13,7 +13,7 @@ use Rattle.plant_conf.specs.declared.conf.LinkConf.{LinkConf}
 use Rattle.end_model.specs.Deed.{Deed, ticked}
 use Rattle.end_model.specs.Phases.{is_data_frame}
 use Rattle.end_model.specs.Readiness.{state_of, reaches_limit}
-use Rattle.end_model.specs.Setup.{Setup, OfMaster, OfSlave}
+use Rattle.end_model.specs.Setup.{Setup, OfMaster}
 use Rattle.fsoe_base.specs.Did.{nothing}
 use Rattle.end_model.specs.Step.{on_expiry, deed_of, step}
 use Rattle.exchange_model.specs.Ends.{same_end, peer, of_end}
@@ -30,11 +30,7 @@ BringsNone _ = Unit {0}
 
 expiry_data : (now : State) (s : Setup) (e : List Deed) → is_data_frame (deed_of s e move.Tick (on_expiry now s)).sent ≡ false
 expiry_data state.Reset (OfMaster ms) e = refl
-expiry_data state.Reset (OfSlave ss) e = refl
-expiry_data state.Session s e = refl
-expiry_data state.Connection s e = refl
-expiry_data state.Parameter s e = refl
-expiry_data state.Data s e = refl
+expiry_data _ s e = refl
 
 tick_data : (s : Setup) (e : List Deed) (b : Bool) → is_data_frame (deed_of s e move.Tick (if b then on_expiry (state_of s e) s else nothing)).sent ≡ false
 tick_data s e true = expiry_data (state_of s e) s e
@@ -44,10 +40,7 @@ tick_data s e false = refl
 pub no_data : (s : Setup) (e : List Deed) (what : Move) → BringsNone what → is_data_frame (step s e what).sent ≡ false
 no_data s e (move.Deliver bytes) h = absurd h
 no_data s e move.Tick h = tick_data s e (reaches_limit s e)
-no_data s e (move.Put load) h = refl
-no_data s e (move.Hold failsafe) h = refl
-no_data s e (move.Nonce id) h = refl
-no_data s e move.Local h = refl
+no_data s e _ h = refl
 
 -- where an end sent a data frame in these entries, after the old ones, this held of those before
 abbrev pub SentWhile : (List Entry → Type 0) → End → List Entry → List Entry → Type 0
@@ -65,10 +58,9 @@ OffersZero which bit w = offers_bit bit (next_offered (of_end which w)) ≡ fals
 
 -- a frame that comes changes no offer
 pub delivered_zero : (which : End) (bit : ℕ) (end : End) (bytes : List ℕ) (link : LinkConf) (w : List Entry) → OffersZero which bit (next_of end (move.Deliver bytes) link w ∷ w) → OffersZero which bit w
-delivered_zero side.Master bit side.Master bytes link w h = h
 delivered_zero side.Master bit side.Slave bytes link w h = h
 delivered_zero side.Slave bit side.Master bytes link w h = h
-delivered_zero side.Slave bit side.Slave bytes link w h = h
+delivered_zero _ bit _ bytes link w h = h
 
 -- ticks of an end in entries that are the same
 most_if : (m n : Move) (one other : Bool) (a b : ℕ) → m ≡ n → one ≡ other → a ≤ b → (if one then ticked m a else a) ≤ (if other then ticked n b else b)

@@ -71,11 +71,7 @@ NoTick _ = Unit {0}
 
 ticked_none : (what : Move) (n : ℕ) → NoTick what → ticked what n ≡ n
 ticked_none move.Tick n h = absurd h
-ticked_none (move.Deliver bytes) n h = refl
-ticked_none (move.Put load) n h = refl
-ticked_none (move.Hold failsafe) n h = refl
-ticked_none (move.Nonce id) n h = refl
-ticked_none move.Local n h = refl
+ticked_none _ n h = refl
 
 ticks_one : (mine : Bool) (what : Move) → NoTick what → (if mine then ticked what 0 else 0) ≡ 0
 ticks_one true what h = ticked_none what 0 h

@@ -2,7 +2,7 @@
 use Rattle.std.proofs.Common.{◌≡◌, ℕ, Bool, true, false, List, [], ◌∷◌, ◌++◌, if◌then◌else◌, refl, sym, ap, subst, ◌∙◌}
 use Rattle.std.specs.Prelude.{Option, Some, None}
 use Rattle.std.specs.Str.{bytes_eq}
-use Rattle.plant_model.specs.Turns.{AppsAreSpare, Named, Taken, passed, said, said_with, take_app}
+use Rattle.plant_model.specs.Past.{AppsAreSpare, Named, Taken, passed, said, said_with, take_app}
 use Rattle.plant_model.specs.declared.event.PlantLine.{PlantLine}
 use Rattle.plant_model.specs.declared.event.PlantLine.TheVariants as line
 
@@ -47,7 +47,6 @@ spare_with (Some taken) spare lines one later =
     (found.before, found.one, found.after, found.whole, found.app_is, subst (λ (z : List Named). AppsAreSpare z (said taken.left lines)) found.left_is (later taken.left))
 
 pub apps_are_spare : (spare : List Named) (lines : List PlantLine) → AppsAreSpare spare (said spare lines)
-apps_are_spare spare [] = tt
 apps_are_spare spare (line.Step event ∷ lines) = apps_are_spare spare lines
 apps_are_spare spare (line.App name ∷ lines) = spare_with (take_app name spare) spare lines (λ t e. takes_one name spare t e) (λ left. apps_are_spare left lines)
-apps_are_spare spare (line.End ∷ lines) = tt
+apps_are_spare spare _ = tt

@@ -38,12 +38,8 @@ pub data Act : Type 0 where
 -- the call of the master that an event of the script makes, if it makes one
 abbrev pub event_call : PlantEvent → Option Call
 event_call event.Tick = Some Tick
-event_call (event.Put link load) = None
-event_call (event.Hold link failsafe) = None
-event_call (event.Local link) = None
 event_call (event.Nonce link side.Master id) = Some (Nonce link id)
-event_call (event.Nonce link side.Slave id) = None
-event_call (event.Cut link cut) = None
+event_call _ = None
 
 -- the call that a parcel makes: a delivery, where it goes to the master of a connection that exists
 abbrev pub delivery_call : Option LinkConf → End → ℕ → List ℕ → Option Call
@@ -111,10 +107,8 @@ cut_after k _ before = before
 -- whether connection k is cut after these acts: the newest event that cuts it or doesn't tells
 abbrev pub is_cut : ℕ → List Act → Bool
 is_cut k [] = false
-is_cut k (Start ∷ acts) = is_cut k acts
 is_cut k (Happen (Event event) ∷ acts) = cut_after k event (is_cut k acts)
-is_cut k (Happen (App app) ∷ acts) = is_cut k acts
-is_cut k (PullFrom gift ∷ acts) = is_cut k acts
+is_cut k (_ ∷ acts) = is_cut k acts
 
 -- of the frames sent by now those that weren't sent before, the first of which comes first; both lists are newest
 -- first. In an act an end sends one frame at most

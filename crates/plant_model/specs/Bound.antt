@@ -18,7 +18,6 @@ use Rattle.multi_master.specs.Connection as connection
 use Rattle.plant_model.specs.declared.journal.JournalStep.{JournalStep}
 use Rattle.plant_model.specs.Acts.{Beginning, Act, masters, cycle_of, journal}
 use Rattle.plant_model.specs.Pair.{pair, link_at, outputs_at, ticks}
-use Rattle.plant_model.specs.Turns.{acts}
 
 -- what the slave of connection k offers after these acts; a connection that there isn't offers nothing
 abbrev pub slave_offers : Beginning → ℕ → List Act → Offered

@@ -1,7 +1,7 @@
 -- The lines of a plant's report about the bounds that it watches. A moment of a plant is its start, or the end of a
 -- line of its script; it is still for a bound where the e-stop is off and the application that runs guards the drive by
 -- it. A tick of the script is late where the drive is on after it, and as many ticks as the bound's limit came, itself
--- counted, after the first of the still moments that reach it without a break. Turns are listed newest first.
+-- counted, after the first of the still moments that reach it without a break. Acts are listed newest first.
 use Rattle.std.specs.Prelude.{ℕ, Bool, false, List, [], ◌∷◌, ◌++◌, codes, decimal, Option, Some, None, if◌then◌else◌}
 use Rattle.std.specs.Option.{option_map_or}
 use Rattle.fsoe_base.specs.declared.command.End.{End}
@@ -12,10 +12,9 @@ use Rattle.plant_conf.specs.declared.conf.LinkConf.{LinkConf}
 use Rattle.reaction_bound.specs.Age.{told_age, worst_of}
 use Rattle.reaction_bound.specs.Reaction as reaction
 use Rattle.plant_model.specs.declared.journal.JournalStep.{JournalStep}
-use Rattle.plant_model.specs.Acts.{Act, Beginning, journal, line_step}
+use Rattle.plant_model.specs.Acts.{Act, Happen, PullFrom, Beginning, journal, line_step}
 use Rattle.plant_model.specs.Bound.{is_on, is_still, limit}
 use Rattle.plant_model.specs.Pair.{is_tick, link_at, pair}
-use Rattle.plant_model.specs.Turns.{Turn, acts}
 
 -- the limit of a bound, in ticks, 0 where there isn't one of its connections
 abbrev pub limit_by : Option LinkConf → Option LinkConf → ℕ
@@ -35,14 +34,24 @@ abbrev pub heard : Beginning → BoundSpec → Bool → List Act → List reacti
 heard b bound tick done before =
     reaction.Quiet (is_still b bound done) ∷ (if tick then reaction.Tick (is_driven b bound done) ∷ before else before)
 
--- what it heard of a bound at the start of a plant and in these turns, newest first
-abbrev pub heard_of : Beginning → BoundSpec → List Turn → List reaction.Heard
-heard_of b bound [] = heard b bound false (acts []) []
-heard_of b bound (turn ∷ turns) = heard b bound (is_tick (line_step turn.said)) (acts (turn ∷ turns)) (heard_of b bound turns)
+-- whether the newest line of the script in these acts is a tick
+abbrev pub is_ticking : List Act → Bool
+is_ticking (Happen said ∷ acts) = is_tick (line_step said)
+is_ticking (PullFrom gift ∷ acts) = is_ticking acts
+is_ticking _ = false
+
+-- what it heard of a bound before the newest line in these acts, newest first; and with that line, or with the start
+abbrev pub heard_before : Beginning → BoundSpec → List Act → List reaction.Heard
+heard_before b bound (Happen said ∷ acts) = heard b bound (is_ticking acts) acts (heard_before b bound acts)
+heard_before b bound (PullFrom gift ∷ acts) = heard_before b bound acts
+heard_before b bound _ = []
+
+abbrev pub heard_of : Beginning → BoundSpec → List Act → List reaction.Heard
+heard_of b bound acts = heard b bound (is_ticking acts) acts (heard_before b bound acts)
 
 -- the least number of a late tick, if there is one; ticks are counted as in the lines of ticks
-abbrev pub broken_at : Beginning → BoundSpec → List Turn → Option ℕ
-broken_at b bound turns = reaction.broken_of (limit_of b.links bound) (heard_of b bound turns)
+abbrev pub broken_at : Beginning → BoundSpec → List Act → Option ℕ
+broken_at b bound acts = reaction.broken_of (limit_of b.links bound) (heard_of b bound acts)
 
 -- the greatest age of an end's outputs at connection k by a journal, after any entry of its pair, if there was one
 abbrev pub worst_at : List LinkConf → List JournalStep → ℕ → End → Option ℕ
@@ -70,11 +79,11 @@ line_by links steps bound broken =
     ++ codes " worst " ++ age_text (worst_at links steps bound.estop.link side.Master)
     ++ codes " " ++ age_text (worst_at links steps bound.drive.link side.Slave) ++ codes " " ++ broken_text broken ++ codes "\n"
 
--- the line of a bound over these turns
-abbrev pub bound_line : Beginning → List Turn → BoundSpec → List ℕ
-bound_line b turns bound = line_by b.links (journal b (acts turns)) bound (broken_at b bound turns)
+-- the line of a bound over these acts
+abbrev pub bound_line : Beginning → List Act → BoundSpec → List ℕ
+bound_line b acts bound = line_by b.links (journal b acts) bound (broken_at b bound acts)
 
 -- the lines of these bounds
-abbrev pub bound_lines : Beginning → List Turn → List BoundSpec → List ℕ
-bound_lines b turns [] = []
-bound_lines b turns (bound ∷ bounds) = bound_line b turns bound ++ bound_lines b turns bounds
+abbrev pub bound_lines : Beginning → List Act → List BoundSpec → List ℕ
+bound_lines b acts [] = []
+bound_lines b acts (bound ∷ bounds) = bound_line b acts bound ++ bound_lines b acts bounds

@@ -25,16 +25,14 @@ each_uses uses k (link ∷ links) = uses k link ++ each_uses uses (suc k) links
 -- the parcels that were pushed
 abbrev pub pushes : List Use → List Parcel
 pushes [] = []
-pushes (Begin seed ∷ uses) = pushes uses
 pushes (Push parcel ∷ uses) = parcel ∷ pushes uses
-pushes (Pull gift ∷ uses) = pushes uses
+pushes (_ ∷ uses) = pushes uses
 
 -- the parcels that were given
 abbrev pub gifts : List Use → List Parcel
 gifts [] = []
-gifts (Begin seed ∷ uses) = gifts uses
-gifts (Push parcel ∷ uses) = gifts uses
 gifts (Pull gift ∷ uses) = option_to_list gift ++ gifts uses
+gifts (_ ∷ uses) = gifts uses
 
 -- one more where nothing was given
 abbrev pub counted : Option Parcel → ℕ → ℕ
@@ -44,9 +42,8 @@ counted (Some parcel) n = n
 -- the number of pulls that gave nothing
 abbrev pub empty_pulls : List Use → ℕ
 empty_pulls [] = 0
-empty_pulls (Begin seed ∷ uses) = empty_pulls uses
-empty_pulls (Push parcel ∷ uses) = empty_pulls uses
 empty_pulls (Pull gift ∷ uses) = counted gift (empty_pulls uses)
+empty_pulls (_ ∷ uses) = empty_pulls uses
 
 -- what is held after these uses, by the rules of its form
 abbrev pub held_after : List Use → Holds → Holds

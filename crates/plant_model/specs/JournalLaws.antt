@@ -55,10 +55,8 @@ PullsFit room (step.Pulled parcel ∷ steps) = (0 < room) × PullsFit (room - 1)
 -- the parcels that were pulled
 abbrev pub pulled_in : List JournalStep → List Parcel
 pulled_in [] = []
-pulled_in (step.Script event ∷ steps) = pulled_in steps
-pulled_in (step.App ∷ steps) = pulled_in steps
-pulled_in (step.Offer link load ∷ steps) = pulled_in steps
 pulled_in (step.Pulled parcel ∷ steps) = parcel ∷ pulled_in steps
+pulled_in (_ ∷ steps) = pulled_in steps
 
 -- one more where so many parcels, and not none, may still come
 abbrev pub one_if_left : ℕ → ℕ → ℕ
@@ -79,5 +77,4 @@ abbrev pub line_steps : List JournalStep → List JournalStep
 line_steps [] = []
 line_steps (step.Script event ∷ steps) = step.Script event ∷ line_steps steps
 line_steps (step.App ∷ steps) = step.App ∷ line_steps steps
-line_steps (step.Offer link load ∷ steps) = line_steps steps
-line_steps (step.Pulled parcel ∷ steps) = line_steps steps
+line_steps (_ ∷ steps) = line_steps steps

@@ -8,9 +8,9 @@ pub mod Gifts
 pub mod JournalLaws
 pub mod NetCycles
 pub mod Pair
+pub mod Past
 pub mod PlantReport
 pub mod Promises
-pub mod Turns
 pub mod Uses
 pub mod WorkedActs
 pub mod WorkedPlant

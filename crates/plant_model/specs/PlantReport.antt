@@ -36,8 +36,7 @@ tick_lines links journal = codes "tick " ++ decimal (ticks journal) ++ codes "\n
 abbrev pub is_line : JournalStep → Bool
 is_line (step.Script event) = true
 is_line step.App = true
-is_line (step.Offer link load) = false
-is_line (step.Pulled parcel) = false
+is_line _ = false
 
 -- whether the last line of the script in a journal is a tick, where it was so before these steps
 abbrev pub in_tick : Bool → List JournalStep → Bool

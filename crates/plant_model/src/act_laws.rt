@@ -1,12 +1,12 @@
 //! What holds of the acts of a plant. The calls do nothing: each law is a contract.
 
-ghost use Rattle.std.specs.Prelude.{◌≡◌, List, All, map};
+ghost use Rattle.std.specs.Prelude.{◌≡◌, List, map};
 ghost use Rattle.fb_net.specs.NetView.{NetView};
 ghost use Rattle.fb_net.specs.Standing.{IsNewNet};
 ghost use Rattle.plant_model.specs.Acts.{Beginning, Act, journal, uses, line_step};
 ghost use Rattle.plant_model.specs.NetCycles.{AnswersByNet};
 ghost use Rattle.plant_model.specs.JournalLaws.{MastersAgree, Cycles, PullsFit, line_steps, pulled_in, short_ticks};
-ghost use Rattle.plant_model.specs.Turns.{IsTurn, AppsAreSpare, Named, Turn, acts, said, said_by_turns};
+ghost use Rattle.plant_model.specs.Past.{AppsAreSpare, IsPast, Named, said, said_in};
 ghost use Rattle.plant_model.specs.Gifts.{gifts, empty_pulls};
 ghost use Rattle.plant_model.specs.declared.event.PlantLine.{PlantLine};
 ghost use Rattle.plant_model.specs.WorkedActs.{FirstActs, CutActs};
@@ -20,13 +20,13 @@ pub fn masters()
 /// Between a tick and the next line of the script at most 64 parcels were pulled, and none elsewhere.
 #[tactic(auto, using(crate::proofs::Lines::pulls_fit))]
 pub fn pulls()
-    ensures { (b : Beginning) (turns : List Turn) → All (IsTurn b.links) turns → PullsFit 0 (journal b (acts turns)) }
+    ensures { (b : Beginning) (acts : List Act) → IsPast 0 acts → PullsFit 0 (journal b acts) }
 {}
 
 /// The lines of the script in a journal are the parsed ones, in order.
 #[tactic(auto, using(crate::proofs::Lines::lines_are_said))]
 pub fn lines()
-    ensures { (b : Beginning) (turns : List Turn) → line_steps (journal b (acts turns)) ≡ map line_step (said_by_turns turns) }
+    ensures { (b : Beginning) (acts : List Act) → line_steps (journal b acts) ≡ map line_step (said_in acts) }
 {}
 
 /// The applications that a script takes are among those of the caller, each an entry that no earlier line took.
@@ -53,7 +53,7 @@ pub fn nets()
 #[tactic(auto, using(crate::proofs::Given::given, crate::proofs::Given::empties))]
 pub fn given()
     ensures gifts { (b : Beginning) (acts : List Act) → gifts (uses b acts) ≡ pulled_in (journal b acts) }
-    ensures empties { (b : Beginning) (turns : List Turn) → empty_pulls (uses b (acts turns)) ≡ short_ticks 0 (journal b (acts turns)) }
+    ensures empties { (b : Beginning) (acts : List Act) → IsPast 0 acts → empty_pulls (uses b acts) ≡ short_ticks 0 (journal b acts) }
 {}
 
 /// Worked acts: the journal, and what happened to the channel.

@@ -9,10 +9,9 @@ use Rattle.plant_conf.specs.declared.conf.LinkConf.{LinkConf}
 use Rattle.reaction_bound.specs.Kept.{ReactionView, view_of}
 use Rattle.reaction_bound.specs.Reaction.{broken_of}
 use Rattle.reaction_bound.specs.Reaction as reaction
-use Rattle.plant_model.specs.Acts.{Beginning}
+use Rattle.plant_model.specs.Acts.{Beginning, Act}
 use Rattle.plant_model.specs.BoundLines.{age_text, bit_text, broken_text, limit_of, line_by, heard_of}
 use Rattle.plant_core.specs.Standing.{PlantStands, PlantView, ShowsWorst}
-use Rattle.plant_model.specs.Turns.{Turn}
 use Rattle.plant_run.specs.Watching.{ShowsBound, bounds_waiting, lines_by, reactions_after}
 use Rattle.plant_run.proofs.LinkLines.{drop_at, some_is}
 
@@ -25,28 +24,28 @@ line_with bound most master slave broken =
 pub bound_shown : (v : PlantView) (bound : BoundSpec) (most : ℕ) (master slave broken : Option ℕ) (text : List ℕ) → ShowsWorst v bound.estop.link side.Master master → ShowsWorst v bound.drive.link side.Slave slave
     → text ≡ line_with bound most master slave broken → ShowsBound v bound most broken text
 bound_shown v bound most master slave broken text m s is = record {
-  shows = λ b turns h limit.
+  shows = λ b acts h limit.
       is
       ∙ ap (λ (z : ℕ). line_with bound z master slave broken) limit
-      ∙ ap₂ (λ (x y : Option ℕ). line_with bound (limit_of b.links bound) x y broken) (m.shows b turns h) (s.shows b turns h);
+      ∙ ap₂ (λ (x y : Option ℕ). line_with bound (limit_of b.links bound) x y broken) (m.shows b acts h) (s.shows b acts h);
 }
 
 -- the line of the next bound is the first part of what waits, and the rest waits on
-pub bound_part : (b : Beginning) (turns : List Turn) (v : PlantView) (conf : ConfView) (reactions : List ReactionView) (place next : ℕ) (bound : BoundSpec) (r : ReactionView) (most : ℕ) (broken : Option ℕ) (text : List ℕ) → PlantStands b v turns → conf.links ≡ b.links
-    → reactions ≡ reactions_after b turns conf.bounds → slice_get conf.bounds place ≡ Some bound → slice_get reactions place ≡ Some r → ShowsBound v bound most broken text → most ≡ limit_of conf.links bound
+pub bound_part : (b : Beginning) (acts : List Act) (v : PlantView) (conf : ConfView) (reactions : List ReactionView) (place next : ℕ) (bound : BoundSpec) (r : ReactionView) (most : ℕ) (broken : Option ℕ) (text : List ℕ) → PlantStands b v acts → conf.links ≡ b.links
+    → reactions ≡ reactions_after b acts conf.bounds → slice_get conf.bounds place ≡ Some bound → slice_get reactions place ≡ Some r → ShowsBound v bound most broken text → most ≡ limit_of conf.links bound
     → ((limit : ℕ) (heard : List reaction.Heard) → r ≡ view_of limit heard → broken ≡ broken_of limit heard) → next ≡ suc place
     → bounds_waiting place conf.links conf.bounds reactions v.journal ≡ text ++ bounds_waiting next conf.links conf.bounds reactions v.journal
-bound_part b turns v conf reactions place next bound r most broken text h links watched at there shows limit tells number =
+bound_part b acts v conf reactions place next bound r most broken text h links watched at there shows limit tells number =
     let bounds : List BoundSpec = conf.bounds in
     let limit_is : most ≡ limit_of b.links bound = limit ∙ ap (λ (z : List LinkConf). limit_of z bound) links in
-    let one : ReactionView = view_of (limit_of b.links bound) (heard_of b bound turns) in
+    let one : ReactionView = view_of (limit_of b.links bound) (heard_of b bound acts) in
     let found : slice_get reactions place ≡ Some one =
     ap (λ (z : List ReactionView). slice_get z place) watched
-    ∙ slice_get-map (λ (x : BoundSpec). view_of (limit_of b.links x) (heard_of b x turns)) bounds place
-    ∙ ap (option_map (λ (x : BoundSpec). view_of (limit_of b.links x) (heard_of b x turns))) at in
+    ∙ slice_get-map (λ (x : BoundSpec). view_of (limit_of b.links x) (heard_of b x acts)) bounds place
+    ∙ ap (option_map (λ (x : BoundSpec). view_of (limit_of b.links x) (heard_of b x acts))) at in
     let is : r ≡ one = some_is r one (sym there ∙ found) in
-    let same : r.broken ≡ broken = ap (λ (z : ReactionView). z.broken) is ∙ sym (tells (limit_of b.links bound) (heard_of b bound turns) is) in
+    let same : r.broken ≡ broken = ap (λ (z : ReactionView). z.broken) is ∙ sym (tells (limit_of b.links bound) (heard_of b bound acts) is) in
     rw (links, number)
     (ap₂ (λ (bs : List BoundSpec) (rs : List ReactionView). lines_by b.links v.journal bs rs) (drop_at bounds place bound at) (drop_at reactions place r there)
     ∙ ap (λ (z : List ℕ). z ++ bounds_waiting (suc place) b.links bounds reactions v.journal)
-    (ap (λ (z : Option ℕ). line_by b.links v.journal bound z) same ∙ sym (shows.shows b turns h limit_is)))
+    (ap (λ (z : Option ℕ). line_by b.links v.journal bound z) same ∙ sym (shows.shows b acts h limit_is)))

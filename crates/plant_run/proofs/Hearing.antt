@@ -2,7 +2,7 @@
 use Rattle.std.proofs.Common.{◌≡◌, ◌≤◌, ◌<◌, ◌+◌, ◌^◌, ◌==◌, ◌||◌, ℕ, zero, suc, Bool, true, false, List, [], ◌∷◌, All, length, slice_get, Option, Some, None, if◌then◌else◌, refl, sym, ap, subst, ◌∙◌, arith}
 use Rattle.std.specs.Prelude.{IfSome, IsSome, option_map}
 use Rattle.std.proofs.lemmas.Bool.{eq-eqb}
-use Rattle.std.proofs.lemmas.List.{length-map}
+use Rattle.std.proofs.lemmas.List.{length-map, length_push}
 use Rattle.std.proofs.lemmas.List.Elements.{All-cons, All-nil}
 use Rattle.std.proofs.lemmas.Option.{slice_get-map}
 use Rattle.black_channel.specs.Told.{Told}
@@ -13,8 +13,9 @@ use Rattle.fb_net.specs.declared.kind_of.KindOf.{KindOf}
 use Rattle.multi_master.specs.Calls.{AppView}
 use Rattle.reaction_bound.specs.Kept.{ReactionView, view_of}
 use Rattle.reaction_bound.specs.Reaction as reaction
-use Rattle.plant_model.specs.Acts.{Act, Beginning, line_step}
-use Rattle.plant_model.specs.BoundLines.{is_driven, limit_of, heard_of}
+use Rattle.plant_model.specs.Acts.{Act, Beginning, Start, Happen, PullFrom, line_step}
+use Rattle.plant_model.specs.BoundLines.{is_driven, is_ticking, limit_of, heard_before, heard_of}
+use Rattle.plant_model.specs.Past.{said_in}
 use Rattle.plant_run.specs.Given.{GivenStands}
 use Rattle.plant_core.specs.Link.{Fixed, LinkView, fixed_of, new_link}
 use Rattle.plant_core.specs.Making.{is_named, links_made}
@@ -22,7 +23,6 @@ use Rattle.plant_model.specs.Pair.{is_tick}
 use Rattle.plant_run.specs.Reporting.{Terms}
 use Rattle.plant_run.specs.Script.{ScriptHeading}
 use Rattle.plant_core.specs.Standing.{PlantStands, PlantView, fixed_in, IsAged}
-use Rattle.plant_model.specs.Turns.{Turn, acts}
 use Rattle.plant_run.specs.Watching.{AreAged, CanHear, HasRoom, HearsLine, reactions_after, reactions_by}
 use Rattle.plant_model.specs.declared.event.PlantLine.{PlantLine}
 
@@ -30,20 +30,21 @@ if_ticks : (tick on : Bool) (before : List reaction.Heard) → reaction.ticks (i
 if_ticks true on before = omega arith
 if_ticks false on before = omega arith
 
--- no more ticks are said than there are turns
-said_ticks : (b : Beginning) (bound : BoundSpec) (turns : List Turn) → reaction.ticks (heard_of b bound turns) ≤ length turns
-said_ticks b bound [] = omega arith
-said_ticks b bound (turn ∷ turns) =
-    let rest = said_ticks b bound turns in
-    let done : List Act = acts (turn ∷ turns) in
-    let one = if_ticks (is_tick (line_step turn.said)) (is_driven b bound done) (heard_of b bound turns) in
-    omega (arith, rest, one)
+-- no more ticks are heard than there are lines
+said_ticks : (b : Beginning) (bound : BoundSpec) (acts : List Act) (on : Bool) → reaction.ticks (if is_ticking acts then reaction.Tick on ∷ heard_before b bound acts else heard_before b bound acts) ≤ length (said_in acts)
+said_ticks b bound [] on = omega arith
+said_ticks b bound (Start ∷ acts) on = omega arith
+said_ticks b bound (Happen said ∷ acts) on =
+    let rest = said_ticks b bound acts (is_driven b bound acts) in
+    let one = if_ticks (is_tick (line_step said)) on (heard_of b bound acts) in
+    omega (arith, rest, one, length_push (said_in acts) said)
+said_ticks b bound (PullFrom gift ∷ acts) on = said_ticks b bound acts on
 
-pub rooms : (b : Beginning) (turns : List Turn) (bounds : List BoundSpec) → length turns + 1 < 2 ^ 64 → All HasRoom (reactions_after b turns bounds)
-rooms b turns [] h = All-nil HasRoom
-rooms b turns (bound ∷ bounds) h =
-    let few = said_ticks b bound turns in
-    All-cons HasRoom (view_of (limit_of b.links bound) (heard_of b bound turns)) (reactions_after b turns bounds) (omega (arith, few, h)) (rooms b turns bounds h)
+pub rooms : (b : Beginning) (acts : List Act) (bounds : List BoundSpec) → length (said_in acts) + 1 < 2 ^ 64 → All HasRoom (reactions_after b acts bounds)
+rooms b acts [] h = All-nil HasRoom
+rooms b acts (bound ∷ bounds) h =
+    let few = said_ticks b bound acts (is_driven b bound acts) in
+    All-cons HasRoom (view_of (limit_of b.links bound) (heard_of b bound acts)) (reactions_after b acts bounds) (omega (arith, few, h)) (rooms b acts bounds h)
 
 -- a plant that runs can tell its reactions of a line more
 pub can_hear : {H : Type 0} (view : KindOf H → AppView) (t : Terms) (v : PlantView) (reactions : List ReactionView) (left : List (EntryOf H)) (before after : Told) (count : ℕ) (h : ScriptHeading) (log : List PlantLine) (text : List ℕ) (bounds : List BoundSpec)
@@ -51,8 +52,8 @@ pub can_hear : {H : Type 0} (view : KindOf H → AppView) (t : Terms) (v : Plant
 can_hear view t v reactions left before after count h log text bounds k few same =
     subst (λ (z : List BoundSpec). CanHear reactions z) same
     (record {
-      count = ap length k.watched ∙ length-map t.bounds (λ bound. view_of (limit_of t.begins.links bound) (heard_of t.begins bound k.runs.turns));
-      room = subst (λ (z : List ReactionView). All HasRoom z) (sym k.watched) (rooms t.begins k.runs.turns t.bounds (let whole = k.runs.whole in omega (arith, whole, few)));
+      count = ap length k.watched ∙ length-map t.bounds (λ bound. view_of (limit_of t.begins.links bound) (heard_of t.begins bound k.runs.acts));
+      room = subst (λ (z : List ReactionView). All HasRoom z) (sym k.watched) (rooms t.begins k.runs.acts t.bounds (let whole = k.runs.whole in omega (arith, whole, few)));
     })
 
 -- a bound names its connections
@@ -117,5 +118,5 @@ pub fresh_hear : (links : List LinkConf) (bounds : List BoundSpec) (rs : List Re
 fresh_hear links bounds rs e = rw e (record { count = length-map bounds (λ bound. view_of (limit_of links bound) []); room = fresh_rooms links bounds })
 
 -- the start of a plant is heard first
-pub first_heard : (b : Beginning) (v : PlantView) (bounds : List BoundSpec) (old new : List ReactionView) → PlantStands b v [] → HearsLine v bounds false old new → old ≡ reactions_by b.links (λ bound. []) bounds → new ≡ reactions_after b [] bounds
-first_heard b v bounds old new h heard is = heard.hears b [] (λ bound. []) h is
+pub first_heard : (b : Beginning) (v : PlantView) (bounds : List BoundSpec) (old new : List ReactionView) → PlantStands b v (Start ∷ []) → HearsLine v bounds false old new → old ≡ reactions_by b.links (λ bound. []) bounds → new ≡ reactions_after b (Start ∷ []) bounds
+first_heard b v bounds old new h heard is = heard.hears b (Start ∷ []) (λ bound. []) h is

@@ -2,10 +2,10 @@ mod BoundParts
 mod Hearing
 mod LinkLines
 mod Names
+mod NextLine
 mod RanPlant
 mod ScriptFits
 mod Scripted
 mod TakenApps
 mod TicksText
-mod Turned
 mod Watched

@@ -8,7 +8,7 @@ use Rattle.fsoe_base.specs.declared.command.State.{State}
 use Rattle.param_load.specs.declared.entry.Entry.{Entry}
 use Rattle.plant_conf.specs.declared.conf.LinkConf.{LinkConf}
 use Rattle.plant_model.specs.declared.journal.JournalStep.{JournalStep}
-use Rattle.plant_model.specs.Acts.{Beginning}
+use Rattle.plant_model.specs.Acts.{Beginning, Act}
 use Rattle.black_channel.specs.Told.{Told}
 use Rattle.fb_net.specs.declared.kind_of.EntryOf.{EntryOf}
 use Rattle.fb_net.specs.declared.kind_of.KindOf.{KindOf}
@@ -21,7 +21,6 @@ use Rattle.plant_model.specs.Pair.{link_at, outputs_at, pair, state_at}
 use Rattle.plant_model.specs.PlantReport.{link_line, link_lines}
 use Rattle.plant_run.specs.Reporting.{Terms}
 use Rattle.plant_core.specs.Standing.{PlantStands, PlantView, ShowsPair}
-use Rattle.plant_model.specs.Turns.{Turn}
 use Rattle.plant_core.specs.Making.{links_made}
 use Rattle.plant_core.proofs.Acting.{same_count}
 use Rattle.plant_core.proofs.Made.{made_count}
@@ -45,8 +44,8 @@ line_by (Some l) k w ms ss mo so text a b c d is = line_is l k (w l) ms ss mo so
 pub line_shown : (v : PlantView) (k : ℕ) (ms ss : State) (mo so text : List ℕ) → ShowsPair v k ms (λ l w. state_at l side.Master w) → ShowsPair v k mo (λ l w. outputs_at l side.Master w) → ShowsPair v k ss (λ l w. state_at l side.Slave w)
     → ShowsPair v k so (λ l w. outputs_at l side.Slave w) → text ≡ ((decimal k ++ end_by ms mo) ++ end_by ss so) ++ codes "\n" → ShowsPair v k text (λ l w. link_line l k w)
 line_shown v k ms ss mo so text a b c d is = record {
-  shows = λ begins turns h.
-      line_by (link_at begins.links k) k (λ l. pair l k v.journal) ms ss mo so text (a.shows begins turns h) (b.shows begins turns h) (c.shows begins turns h) (d.shows begins turns h) is;
+  shows = λ begins acts h.
+      line_by (link_at begins.links k) k (λ l. pair l k v.journal) ms ss mo so text (a.shows begins acts h) (b.shows begins acts h) (c.shows begins acts h) (d.shows begins acts h) is;
 }
 
 pub some_is : {X : Type 0} (x y : X) → Some x ≡ Some y → x ≡ y
@@ -75,12 +74,12 @@ pub none_after : (links : List LinkConf) (place : ℕ) (steps : List JournalStep
 none_after links place steps e = ap (λ (z : List LinkConf). link_lines (suc place) z steps) (none_dropped links place e)
 
 -- the next part of what waits, where a line more does
-pub part_shown : (b : Beginning) (turns : List Turn) (v : PlantView) (next : ℕ) (links : List LinkConf) (text : List ℕ) → PlantStands b v turns → links ≡ b.links → 0 < next → ShowsPair v next text (λ conf w. link_line conf next w)
+pub part_shown : (b : Beginning) (acts : List Act) (v : PlantView) (next : ℕ) (links : List LinkConf) (text : List ℕ) → PlantStands b v acts → links ≡ b.links → 0 < next → ShowsPair v next text (λ conf w. link_line conf next w)
     → waiting next links v.journal ≡ text ++ waiting (next + 1) links v.journal
-part_shown b turns v zero links text stands same above shows = absurd (omega (arith, above))
-part_shown b turns v (suc place) links text stands same above shows =
+part_shown b acts v zero links text stands same above shows = absurd (omega (arith, above))
+part_shown b acts v (suc place) links text stands same above shows =
     let number : suc (suc place) ≡ suc place + 1 = omega arith in
-    rw same (next_line (slice_get b.links place) b.links place text v.journal refl (shows.shows b turns stands) ∙ ap (λ (n : ℕ). text ++ waiting n b.links v.journal) number)
+    rw same (next_line (slice_get b.links place) b.links place text v.journal refl (shows.shows b acts stands) ∙ ap (λ (n : ℕ). text ++ waiting n b.links v.journal) number)
 
 -- none waits after the last
 pub links_done : {H : Type 0} (view : KindOf H → AppView) (t : Terms) (v : PlantView) (reactions : List ReactionView) (left : List (EntryOf H)) (before after : Told) (count : ℕ) (h : ScriptHeading) (log : List PlantLine) (text : List ℕ) (next most : ℕ) (links : List LinkConf)

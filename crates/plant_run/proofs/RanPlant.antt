@@ -1,5 +1,5 @@
 -- What a run over a script leaves is what a plant did.
-use Rattle.std.proofs.Common.{◌≡◌, ℕ, List, [], Option, Some, None, sym, ap, subst, ◌∙◌, inl, inr}
+use Rattle.std.proofs.Common.{◌≡◌, ℕ, List, [], Option, Some, None, refl, sym, ap, subst, ◌∙◌, inl, inr}
 use Rattle.std.specs.Prelude.{IfSome}
 use Rattle.std.proofs.lemmas.List.{append-nil}
 use Rattle.std.specs.List.{IsDistinct}
@@ -16,7 +16,7 @@ use Rattle.file_run.specs.Running.{Leaves}
 use Rattle.file_run.specs.Outside.{Outside}
 use Rattle.file_run.specs.Ran.{RanOver}
 use Rattle.file_run.specs.Reporting.{Reporting}
-use Rattle.plant_model.specs.Acts.{journal}
+use Rattle.plant_model.specs.Acts.{Act, journal}
 use Rattle.plant_model.specs.FairPairs.{PairsAreFair}
 use Rattle.plant_model.specs.Pair.{link_at}
 use Rattle.plant_run.specs.Ran.{IsReportOf, RanPlant}
@@ -27,7 +27,7 @@ use Rattle.fb_net.specs.declared.kind_of.KindOf.{KindOf}
 use Rattle.multi_master.specs.Calls.{AppView}
 use Rattle.plant_run.specs.Script.{ScriptHeading}
 use Rattle.plant_core.specs.Standing.{PlantView}
-use Rattle.plant_model.specs.Turns.{Turn, acts, said, said_by_turns}
+use Rattle.plant_model.specs.Past.{said, said_in}
 use Rattle.plant_run.specs.Watching.{reactions_after}
 use Rattle.plant_model.specs.declared.event.PlantLine.{PlantLine}
 use Rattle.plant_core.proofs.Worlds.{broken_by_other, plants_are_fair, reacts, sound}
@@ -51,13 +51,8 @@ may_fail t one two f d whole told may =
 leaves_as : (t : Terms) (one two : Closing) → Closer one two → (d : Done ScriptHeading PlantLine) (s : Status) (ended : Ended) (o : Outside) → LeavesAs (plant_reporting t) one d s ended o → LeavesAs (plant_reporting t) two d s ended o
 leaves_as t one two f d status.Ok ended o l = record { input = l.input; report = l.report; closed = f d.heading d.log l.report ended l.closed; wrote = l.wrote }
 leaves_as t one two f d status.Other ended o l = record { input = l.input; report = l.report; closed = f d.heading d.log l.report ended l.closed; wrote = l.wrote }
-leaves_as t one two f d status.Line ended o l = l
-leaves_as t one two f d status.Read ended o l = l
 leaves_as t one two f d status.Write ended o l = record { whole = l.whole; within = may_fail t one two f d l.whole o.source.before l.within; wrote = l.wrote; last = l.last }
-leaves_as t one two f d status.Memory ended o l = l
-leaves_as t one two f d status.Usage ended o l = l
-leaves_as t one two f d status.Config ended o l = l
-leaves_as t one two f d status.Desk ended o l = l
+leaves_as t one two f d _ ended o l = l
 
 -- a plant stood for these lines
 pub record Stood {H : Type 0} (view : KindOf H → AppView) (t : Terms) (v : PlantView) (reactions : List ReactionView) (left : List (EntryOf H)) (before after : Told) (h : ScriptHeading) (log : List PlantLine) (text : List ℕ) : Type 0 where
@@ -78,34 +73,34 @@ none_is_fair links = λ k. fair_if_none (link_at links k)
 
 pub ran_plant : {H : Type 0} (view : KindOf H → AppView) (t : Terms) (v : PlantView) (ended : Ended) (o : Outside) (before after : Told) (reactions : List ReactionView) (left : List (EntryOf H)) (unbegun : Type 0) (stands : ScriptHeading → List PlantLine → List ℕ → Type 0) (closes : Closing) → RanOver (plant_reporting t) ended o
     → Leaves unbegun (plant_reporting t) stands closes ended o → (unbegun → (after ≡ before) × (v.journal ≡ [])) → ((h : ScriptHeading) (log : List PlantLine) (text : List ℕ) → stands h log text → Stood view t v reactions left before after h log text)
-    → ((turns : List Turn) → v.journal ≡ journal t.begins (acts turns) → reactions ≡ reactions_after t.begins turns t.bounds → Closer closes (IsReportOf t turns v.journal)) → RanPlant t ended o before after v.journal
+    → ((acts : List Act) → v.journal ≡ journal t.begins acts → reactions ≡ reactions_after t.begins acts t.bounds → Closer closes (IsReportOf t acts v.journal)) → RanPlant t ended o before after v.journal
 ran_plant view t v ended o before after reactions left unbegun stands closes ran leaves nothing stood closed =
     elim leaves [
       | inl none ↦
           let was = nothing none.0 in
-          record { run = ran; turns = None; did = record { journal_is = was.1; left = none.1 }; channel = was.0; fair = subst (PairsAreFair t.begins.links) (sym was.1) (none_is_fair t.begins.links) }
+          record { run = ran; acts = []; did = inl (record { none = refl; left = none.1 }); journal_is = was.1; channel = sym was.0; fair = subst (PairsAreFair t.begins.links) (sym was.1) (none_is_fair t.begins.links) }
       | inr did ↦
           let d = did.done in
           let k = (stood d.heading d.log d.text did.stood).given in
           let s = k.runs in
           record {
             run = ran;
-            turns = Some s.turns;
-            did = record {
-              turns_are = s.stands.turns_are;
-              journal_is = s.stands.has_done.journal_is;
+            acts = s.acts;
+            did = inr (record {
+              may = s.stands.may;
               done = d;
-              said_are = sym (ap (said t.spare) (sym (append-nil d.log)) ∙ s.says [] ∙ append-nil (said_by_turns s.turns));
+              said_are = sym (ap (said t.spare) (sym (append-nil d.log)) ∙ s.says [] ∙ append-nil (said_in s.acts));
               whole = s.whole;
-              sound = sound t.begins v s.turns s.stands;
-              reacts = reacts t.begins v s.turns s.stands k.same_lengths;
-              broken = broken_by_other t.begins v s.turns s.stands k.same_lengths;
+              sound = sound t.begins v s.acts s.stands;
+              reacts = reacts t.begins v s.acts s.stands k.same_lengths;
+              broken = broken_by_other t.begins v s.acts s.stands k.same_lengths;
               text_is = s.text_is;
               begun = did.begun;
-              ends = leaves_as t closes (IsReportOf t s.turns v.journal) (closed s.turns s.stands.has_done.journal_is k.watched) d ended.status ended o did.ends;
-            };
+              ends = leaves_as t closes (IsReportOf t s.acts v.journal) (closed s.acts s.stands.has_done.journal_is k.watched) d ended.status ended o did.ends;
+            });
+            journal_is = s.stands.has_done.journal_is;
             channel = k.channel;
-            fair = plants_are_fair t.begins v s.turns s.stands k.same_lengths;
+            fair = plants_are_fair t.begins v s.acts s.stands k.same_lengths;
           }
     ]
 

@@ -1,20 +1,19 @@
 -- What a plant reports of its script, as far as it ran.
-use Rattle.std.proofs.Common.{◌≡◌, ℕ, ◌+◌, Bool, List, [], ◌∷◌, ◌++◌, length, map, All, if◌then◌else◌, refl, sym, ap, subst, ◌∙◌, append_assoc, arith, eq-eqb}
-use Rattle.std.specs.Prelude.{None}
+use Rattle.std.proofs.Common.{◌≡◌, ℕ, ◌+◌, Bool, true, false, List, [], ◌∷◌, ◌++◌, length, map, if◌then◌else◌, refl, sym, ap, subst, ◌∙◌, append_assoc, arith, eq-eqb}
+use Rattle.std.specs.Prelude.{Option, None}
 use Rattle.std.proofs.lemmas.Bool.{ne_eqb}
 use Rattle.std.proofs.lemmas.List.{append-nil, length-append}
-use Rattle.std.proofs.lemmas.List.Elements.{All-cons, All-head, All-nil, All-tail}
 use Rattle.fsoe_io.specs.declared.status.Ended.{Ended}
-use Rattle.schedule_file.specs.Input.{InputCause, NoApp, Stop, AtEnd, Refused, input_read}
+use Rattle.schedule_file.specs.Input.{NoApp, Stop, AtEnd, Refused, input_read}
 use Rattle.file_run.specs.Report.{refused_line}
-use Rattle.file_run.specs.Reporting.{IsPrefix, ReportsSoFar, input_stopped, refused_at}
-use Rattle.file_run.specs.Machine.{EndsReport, EndsUnmet, input_headless}
+use Rattle.file_run.specs.Reporting.{IsPrefix, ReportsSoFar, input_stopped}
+use Rattle.file_run.specs.Machine.{EndsReport, EndsUnmet}
 use Rattle.plant_conf.specs.declared.conf.LinkConf.{LinkConf}
-use Rattle.plant_model.specs.declared.event.PlantEvent.TheVariants as event
+use Rattle.black_channel.specs.declared.channel.Parcel.{Parcel}
 use Rattle.plant_model.specs.declared.event.PlantLine.{PlantLine}
 use Rattle.plant_model.specs.declared.event.PlantLine.TheVariants as line
 use Rattle.plant_model.specs.declared.journal.JournalStep.{JournalStep}
-use Rattle.plant_model.specs.Acts.{Beginning, Said, Event, App, journal, line_step}
+use Rattle.plant_model.specs.Acts.{Beginning, Act, Said, Start, journal, line_step}
 use Rattle.plant_model.specs.BoundLines.{bound_lines}
 use Rattle.plant_model.specs.Fits.{lengths_in}
 use Rattle.plant_model.specs.Pair.{is_tick}
@@ -22,66 +21,48 @@ use Rattle.plant_model.specs.PlantReport.{last_lines, report_end, report_text, t
 use Rattle.plant_run.specs.Reporting.{PlantReports, Terms, journal_after, plant_reporting, run_stop}
 use Rattle.plant_run.specs.Running.{RunCloses, RunStands}
 use Rattle.plant_run.specs.Script.{Script, ScriptHeading, script_format}
-use Rattle.plant_model.specs.Turns.{IsTurn, MayPull, Named, Turn, acts, said, said_by_turns, take_app}
+use Rattle.plant_model.specs.Past.{IsPast, Named, said, said_in, take_app, with_line}
+use Rattle.plant_model.proofs.Lines.{line_said}
 use Rattle.plant_core.specs.Standing.{PlantView}
-use Rattle.plant_run.proofs.TicksText.{after_turn, text_after}
+use Rattle.plant_run.proofs.TicksText.{after_line, text_after}
 
--- turns in which nothing was pulled
-quiet_pull : (what : Said) → MayPull what []
-quiet_pull (Event event.Tick) = omega arith
-quiet_pull (Event (event.Put link load)) = refl
-quiet_pull (Event (event.Hold link failsafe)) = refl
-quiet_pull (Event (event.Local link)) = refl
-quiet_pull (Event (event.Nonce link end id)) = refl
-quiet_pull (Event (event.Cut link cut)) = refl
-quiet_pull (App app) = refl
+-- lines at which nothing was pulled
+abbrev nothing : Said → List (Option Parcel)
+nothing one = if is_tick (line_step one) then None ∷ [] else []
 
-quiet : List Said → List Turn → List Turn
-quiet [] turns = turns
-quiet (one ∷ more) turns = quiet more (record { said = one; pulled = [] } ∷ turns)
+quiet : List Said → List Act → List Act
+quiet [] acts = acts
+quiet (one ∷ more) acts = quiet more (with_line one (nothing one) acts)
 
-quiet_said : (more : List Said) (turns : List Turn) → said_by_turns (quiet more turns) ≡ said_by_turns turns ++ more
+quiet_said : (more : List Said) (acts : List Act) → said_in (quiet more acts) ≡ said_in acts ++ more
 unfolding quiet
-quiet_said [] turns = sym (append-nil (said_by_turns turns))
-quiet_said (one ∷ more) turns = quiet_said more (record { said = one; pulled = [] } ∷ turns) ∙ append_assoc (said_by_turns turns) (one ∷ []) more
+quiet_said [] acts = sym (append-nil (said_in acts))
+quiet_said (one ∷ more) acts =
+    quiet_said more (with_line one (nothing one) acts) ∙ ap (λ (z : List Said). z ++ more) (line_said one (nothing one) acts) ∙ append_assoc (said_in acts) (one ∷ []) more
 
--- as much was pulled as may be
-abbrev PullOf : Turn → Type 0
-PullOf turn = MayPull turn.said turn.pulled
+-- there may be such acts
+one_past : (one : Said) (acts : List Act) (tick : Bool) → is_tick (line_step one) ≡ tick → IsPast 0 acts → IsPast 0 (with_line one (if tick then None ∷ [] else []) acts)
+one_past one acts true e h = (refl, (63, (sym (ap (λ (tick : Bool). if tick then 64 else 0) e), h)))
+one_past one acts false e h = (sym (ap (λ (tick : Bool). if tick then 64 else 0) e), h)
 
-quiet_pulls : (more : List Said) (turns : List Turn) → All PullOf turns → All PullOf (quiet more turns)
+quiet_past : (more : List Said) (acts : List Act) → IsPast 0 acts → IsPast 0 (quiet more acts)
 unfolding quiet
-quiet_pulls [] turns h = h
-quiet_pulls (one ∷ more) turns h =
-    let turn : Turn = record { said = one; pulled = [] } in
-    quiet_pulls more (turn ∷ turns) (All-cons PullOf turn turns (quiet_pull one) h)
+quiet_past [] acts h = h
+quiet_past (one ∷ more) acts h = quiet_past more (with_line one (nothing one) acts) (one_past one acts (is_tick (line_step one)) refl h)
 
-turns_pull : (links : List LinkConf) (turns : List Turn) → All (IsTurn links) turns → All PullOf turns
-turns_pull links [] h = All-nil PullOf
-turns_pull links (turn ∷ turns) h = All-cons PullOf turn turns (All-head (IsTurn links) turn turns h).few (turns_pull links turns (All-tail (IsTurn links) turn turns h))
-
-count_quiet : (more : List Said) (turns : List Turn) → length (quiet more turns) ≡ length turns + length more
+-- the lines of the ticks begin those of further acts
+quiet_begins : (b : Beginning) (more : List Said) (acts : List Act) → IsPrefix (ticks_text b.links (journal b acts)) (ticks_text b.links (journal b (quiet more acts)))
 unfolding quiet
-count_quiet [] turns = omega arith
-count_quiet (one ∷ more) turns = let rest = count_quiet more (record { said = one; pulled = [] } ∷ turns) in omega (arith, rest)
-
-count_said : (turns : List Turn) → length (said_by_turns turns) ≡ length turns
-count_said [] = refl
-count_said (turn ∷ turns) = let rest = count_said turns in omega (arith, rest, length-append (said_by_turns turns) (turn.said ∷ []))
-
--- the lines of the ticks begin those of further turns
-quiet_begins : (b : Beginning) (more : List Said) (turns : List Turn) → IsPrefix (ticks_text b.links (journal b (acts turns))) (ticks_text b.links (journal b (acts (quiet more turns))))
-unfolding quiet
-quiet_begins b [] turns = ([], sym (append-nil (ticks_text b.links (journal b (acts turns)))))
-quiet_begins b (one ∷ more) turns =
-    let turn : Turn = record { said = one; pulled = [] } in
-    let old : List JournalStep = journal b (acts turns) in
-    let new : List JournalStep = journal b (acts (turn ∷ turns)) in
+quiet_begins b [] acts = ([], sym (append-nil (ticks_text b.links (journal b acts))))
+quiet_begins b (one ∷ more) acts =
+    let next : List Act = with_line one (nothing one) acts in
+    let old : List JournalStep = journal b acts in
+    let new : List JournalStep = journal b next in
     let tick : List ℕ = if is_tick (line_step one) then tick_lines b.links new else [] in
-    let rest = quiet_begins b more (turn ∷ turns) in (
+    let rest = quiet_begins b more next in (
       tick ++ rest.0,
       rest.1
-          ∙ ap (λ (z : List ℕ). z ++ rest.0) (text_after b.links one old new (after_turn b one [] (acts turns)))
+          ∙ ap (λ (z : List ℕ). z ++ rest.0) (text_after b.links one old new (after_line b one (nothing one) acts))
           ∙ append_assoc (ticks_text b.links old) tick rest.0,
     )
 
@@ -96,34 +77,29 @@ stops_before happened script fewer = ap (λ (whole : Bool). if whole then script
 -- each script has a report
 some_report : (t : Terms) (script : Script) → (report : List ℕ) × (ended : Ended) × PlantReports t script ended report
 some_report t script =
-    let turns : List Turn = quiet (said t.spare script.events) [] in
-    let stop : Stop = run_stop (length turns) script in
-    let steps : List JournalStep = journal_after t.begins script.heading turns in (
-      report_text t.begins.links steps (bound_lines t.begins turns t.bounds) stop,
+    let acts : List Act = quiet (said t.spare script.events) (Start ∷ []) in
+    let stop : Stop = run_stop (length (said_in acts)) script in
+    let steps : List JournalStep = journal_after t.begins script.heading acts in (
+      report_text t.begins.links steps (bound_lines t.begins acts t.bounds) stop,
       report_end t.begins.links steps stop,
-      (turns, record { said_are = quiet_said (said t.spare script.events) []; pulled = quiet_pulls (said t.spare script.events) [] (All-nil PullOf) }, refl, refl),
+      (acts, quiet_past (said t.spare script.events) (Start ∷ []) refl, quiet_said (said t.spare script.events) (Start ∷ []), refl, refl),
     )
 
 pub some_plant_report : (t : Terms) (bytes : List ℕ) → (report : List ℕ) × (ended : Ended) × PlantReports t (input_read (script_format (map lengths_in t.begins.links)) bytes) ended report
 some_plant_report t bytes = some_report t (input_read (script_format (map lengths_in t.begins.links)) bytes)
 
-pub headless_plant : (t : Terms) (number : ℕ) (why : InputCause) → PlantReports t (input_headless (Refused number why)) (refused_at number) (refused_line number why)
-headless_plant t number why = ([], record { said_are = refl; pulled = All-nil PullOf }, refl, refl)
-
 -- what stands for some lines reports them with this end
 reports_stopped : (t : Terms) (v : PlantView) (left : List Named) (h : ScriptHeading) (log : List PlantLine) (text : List ℕ) (lines : ℕ) (stop : Stop) (k : RunStands t v left h log text)
-    → PlantReports t (input_stopped h lines log stop) (report_end t.begins.links v.journal stop) (text ++ last_lines t.begins.links v.journal (bound_lines t.begins k.turns t.bounds) stop)
+    → PlantReports t (input_stopped h lines log stop) (report_end t.begins.links v.journal stop) (text ++ last_lines t.begins.links v.journal (bound_lines t.begins k.acts t.bounds) stop)
 reports_stopped t v left h log text lines stop k =
     let links : List LinkConf = t.begins.links in
-    let steps : List JournalStep = journal t.begins (acts k.turns) in
+    let steps : List JournalStep = journal t.begins k.acts in
     let same : v.journal ≡ steps = k.stands.has_done.journal_is in
-    let bound_text : List ℕ = bound_lines t.begins k.turns t.bounds in
-    let stops : run_stop (length k.turns) (input_stopped h lines log stop) ≡ stop = stops_with (length k.turns) (input_stopped h lines log stop) k.whole in (
-      k.turns,
-      record {
-        said_are = sym (ap (said t.spare) (sym (append-nil log)) ∙ k.says [] ∙ append-nil (said_by_turns k.turns));
-        pulled = turns_pull links k.turns k.stands.turns_are;
-      },
+    let bound_text : List ℕ = bound_lines t.begins k.acts t.bounds in
+    let stops : run_stop (length (said_in k.acts)) (input_stopped h lines log stop) ≡ stop = stops_with (length (said_in k.acts)) (input_stopped h lines log stop) k.whole in (
+      k.acts,
+      k.stands.may.past,
+      sym (ap (said t.spare) (sym (append-nil log)) ∙ k.says [] ∙ append-nil (said_in k.acts)),
       ap (λ (z : List ℕ). z ++ last_lines links v.journal bound_text stop) k.text_is
           ∙ ap (λ (j : List JournalStep). report_text links j bound_text stop) same
           ∙ ap (report_text links steps bound_text) (sym stops),
@@ -136,26 +112,24 @@ plant_so_far t v left h log text k = record {
   begins = λ lines more stop.
       let script : Script = input_stopped h lines (log ++ more) stop in
       let links : List LinkConf = t.begins.links in
-      let turns : List Turn = quiet (said left more) k.turns in
-      let steps : List JournalStep = journal t.begins (acts turns) in
-      let bound_text : List ℕ = bound_lines t.begins turns t.bounds in
-      let last : List ℕ = last_lines links steps bound_text (run_stop (length turns) script) in
-      let begun = quiet_begins t.begins (said left more) k.turns in (
-        report_text links steps bound_text (run_stop (length turns) script),
-        report_end links steps (run_stop (length turns) script),
+      let acts : List Act = quiet (said left more) k.acts in
+      let steps : List JournalStep = journal t.begins acts in
+      let bound_text : List ℕ = bound_lines t.begins acts t.bounds in
+      let last : List ℕ = last_lines links steps bound_text (run_stop (length (said_in acts)) script) in
+      let begun = quiet_begins t.begins (said left more) k.acts in (
+        report_text links steps bound_text (run_stop (length (said_in acts)) script),
+        report_end links steps (run_stop (length (said_in acts)) script),
         (
-          turns,
-          record {
-            said_are = quiet_said (said left more) k.turns ∙ sym (k.says more);
-            pulled = quiet_pulls (said left more) k.turns (turns_pull links k.turns k.stands.turns_are);
-          },
+          acts,
+          quiet_past (said left more) k.acts k.stands.may.past,
+          quiet_said (said left more) k.acts ∙ sym (k.says more),
           refl,
           refl,
         ),
         (
           begun.0 ++ last,
           ap (λ (z : List ℕ). z ++ last) begun.1
-              ∙ append_assoc (ticks_text links (journal t.begins (acts k.turns))) begun.0 last
+              ∙ append_assoc (ticks_text links (journal t.begins k.acts)) begun.0 last
               ∙ ap (λ (z : List ℕ). z ++ (begun.0 ++ last)) (sym (k.text_is ∙ ap (ticks_text links) k.stands.has_done.journal_is)),
         ),
       );
@@ -168,25 +142,18 @@ pub plant_unmet : (t : Terms) (v : PlantView) (left : List Named) (h : ScriptHea
 plant_unmet t v left h log text name none k = λ lines more stop.
     let links : List LinkConf = t.begins.links in
     let script : Script = input_stopped h lines ((log ++ line.App name ∷ []) ++ more) stop in
-    let steps : List JournalStep = journal t.begins (acts k.turns) in
+    let steps : List JournalStep = journal t.begins k.acts in
     let longer : (log ++ line.App name ∷ []) ++ more ≡ log ++ line.App name ∷ more = append_assoc log (line.App name ∷ []) more in
-    let nothing : said left (line.App name ∷ more) ≡ [] = rw none refl in
-    let fewer : length k.turns ≡ length script.events → ⊥ =
+    let unsaid : said left (line.App name ∷ more) ≡ [] = rw none refl in
+    let fewer : length (said_in k.acts) ≡ length script.events → ⊥ =
     λ same. let all = ap (length {A = PlantLine}) longer in omega (arith, same, all, k.whole, length-append log (line.App name ∷ more)) in
-    let stops : run_stop (length k.turns) script ≡ Refused (lines + length log + 1) NoApp =
-    stops_before (length k.turns) script fewer ∙ ap (λ (n : ℕ). Refused (lines + n + 1) NoApp) k.whole in (
-      k.turns,
-      record {
-        said_are = sym (
-            ap (said t.spare) longer
-            ∙ k.says (line.App name ∷ more)
-            ∙ ap (λ (z : List Said). said_by_turns k.turns ++ z) nothing
-            ∙ append-nil (said_by_turns k.turns)
-            );
-        pulled = turns_pull links k.turns k.stands.turns_are;
-      },
+    let stops : run_stop (length (said_in k.acts)) script ≡ Refused (lines + length log + 1) NoApp =
+    stops_before (length (said_in k.acts)) script fewer ∙ ap (λ (n : ℕ). Refused (lines + n + 1) NoApp) k.whole in (
+      k.acts,
+      k.stands.may.past,
+      sym (ap (said t.spare) longer ∙ k.says (line.App name ∷ more) ∙ ap (λ (z : List Said). said_in k.acts ++ z) unsaid ∙ append-nil (said_in k.acts)),
       ap (λ (z : List ℕ). z ++ refused_line (lines + length log + 1) NoApp) (k.text_is ∙ ap (ticks_text links) k.stands.has_done.journal_is)
-          ∙ ap (report_text links steps (bound_lines t.begins k.turns t.bounds)) (sym stops),
+          ∙ ap (report_text links steps (bound_lines t.begins k.acts t.bounds)) (sym stops),
       ap (report_end links steps) (sym stops),
     )
 

@@ -9,7 +9,7 @@ use Rattle.fb_net.specs.declared.kind_of.KindOf.TheVariants as kind
 use Rattle.multi_master.specs.Calls.{AppView}
 use Rattle.plant_setup.specs.Names.{IsTaken, place_of}
 use Rattle.plant_run.specs.Given.{named}
-use Rattle.plant_model.specs.Turns.{Taken, passed, take_app}
+use Rattle.plant_model.specs.Past.{Taken, passed, take_app}
 
 -- what is left of these, of which one was taken
 abbrev taken_of : {H : Type 0} → (KindOf H → AppView) → List (EntryOf H) → EntryOf H → Option Taken

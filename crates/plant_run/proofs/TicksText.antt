@@ -1,17 +1,16 @@
--- The lines of the ticks of a journal that grows by a turn.
-use Rattle.std.proofs.Common.{◌≡◌, ℕ, Bool, true, false, List, [], ◌∷◌, ◌++◌, length, map, nat_lt, Option, Some, None, if◌then◌else◌, refl, sym, ap, subst, ◌∙◌, append_assoc}
+-- The lines of the ticks of a journal that grows by a line of the script.
+use Rattle.std.proofs.Common.{◌≡◌, ℕ, Bool, true, false, List, [], ◌∷◌, ◌++◌, Option, Some, None, if◌then◌else◌, refl, sym, ap, ◌∙◌, append_assoc}
 use Rattle.std.proofs.lemmas.List.{append-nil}
 use Rattle.black_channel.specs.declared.channel.Parcel.{Parcel}
 use Rattle.plant_conf.specs.declared.conf.LinkConf.{LinkConf}
-use Rattle.plant_model.specs.declared.event.PlantEvent.TheVariants as event
 use Rattle.plant_model.specs.declared.journal.JournalStep.{JournalStep}
 use Rattle.plant_model.specs.declared.journal.JournalStep.TheVariants as step
 use Rattle.plant_model.specs.Acts.{Beginning, Said, Event, App, Act, Happen, PullFrom, offers, journal, line_step}
 use Rattle.plant_model.specs.Pair.{is_tick}
 use Rattle.plant_model.specs.PlantReport.{in_tick, is_line, lines_due, lines_from, tick_lines, ticks_text}
 use Rattle.plant_model.specs.JournalLaws.{line_steps}
-use Rattle.plant_model.specs.Turns.{pulls_at, turn_acts}
-use Rattle.plant_model.proofs.Lines.{lines_append, no_lines_by, one_more}
+use Rattle.plant_model.specs.Past.{with_line}
+use Rattle.plant_model.proofs.Lines.{lines_append, no_lines_by, no_lines_pulled}
 
 -- the lines go on after a line of the script
 lines_split : (links : List LinkConf) (before a b : List JournalStep) (one : JournalStep) → is_line one ≡ true
@@ -28,12 +27,11 @@ lines_split links before (x ∷ a) b one is =
 -- steps that are no lines of the script come before the lines of their tick
 pub lines_quiet : (links : List LinkConf) (before rest : List JournalStep) → line_steps rest ≡ [] → lines_from links before rest ≡ lines_due links (before ++ rest)
 lines_quiet links before [] none = ap (lines_due links) (sym (append-nil before))
-lines_quiet links before (step.Script e ∷ rest) none = cc
-lines_quiet links before (step.App ∷ rest) none = cc
 lines_quiet links before (step.Offer link load ∷ rest) none =
     lines_quiet links (before ++ step.Offer link load ∷ []) rest none ∙ ap (lines_due links) (append_assoc before (step.Offer link load ∷ []) rest)
 lines_quiet links before (step.Pulled parcel ∷ rest) none =
     lines_quiet links (before ++ step.Pulled parcel ∷ []) rest none ∙ ap (lines_due links) (append_assoc before (step.Pulled parcel ∷ []) rest)
+lines_quiet links before _ none = cc
 
 in_tick_append : (before : Bool) (a b : List JournalStep) → in_tick before (a ++ b) ≡ in_tick (in_tick before a) b
 in_tick_append before [] b = refl
@@ -41,10 +39,9 @@ in_tick_append before (x ∷ a) b = in_tick_append (if is_line x then is_tick x 
 
 pub in_tick_quiet : (before : Bool) (rest : List JournalStep) → line_steps rest ≡ [] → in_tick before rest ≡ before
 in_tick_quiet before [] none = refl
-in_tick_quiet before (step.Script e ∷ rest) none = cc
-in_tick_quiet before (step.App ∷ rest) none = cc
 in_tick_quiet before (step.Offer link load ∷ rest) none = in_tick_quiet before rest none
 in_tick_quiet before (step.Pulled parcel ∷ rest) none = in_tick_quiet before rest none
+in_tick_quiet before _ none = cc
 
 -- a journal is another one, a line of the script, and steps that are none
 pub record After (said : Said) (old new : List JournalStep) : Type 0 where
@@ -78,43 +75,14 @@ after_more b said old None done a = record {
   none = a.none;
 }
 after_more b said old (Some parcel) done a =
-    let changed : List JournalStep = offers b (PullFrom (Some parcel)) done in
-    let more : List JournalStep = changed ++ step.Pulled parcel ∷ [] in
+    let more : List JournalStep = offers b (PullFrom (Some parcel)) done ++ step.Pulled parcel ∷ [] in
     record {
       rest = a.rest ++ more;
       is = ap (λ (z : List JournalStep). z ++ more) a.is ∙ append_assoc old (line_step said ∷ a.rest) more;
-      none =
-          lines_append a.rest more
-          ∙ ap (λ (z : List JournalStep). z ++ line_steps more) a.none
-          ∙ lines_append changed (step.Pulled parcel ∷ [])
-          ∙ append-nil (line_steps changed)
-          ∙ no_lines_by b (PullFrom (Some parcel)) done;
+      none = lines_append a.rest more ∙ ap (λ (z : List JournalStep). z ++ line_steps more) a.none ∙ no_lines_pulled b parcel done;
     }
 
-after_gifts : (b : Beginning) (said : Said) (old : List JournalStep) (parcels : List Parcel) (done : List Act) → After said old (journal b done) → After said old (journal b (map (λ parcel. PullFrom (Some parcel)) parcels ++ done))
-after_gifts b said old [] done a = a
-after_gifts b said old (parcel ∷ parcels) done a = after_more b said old (Some parcel) (map (λ parcel. PullFrom (Some parcel)) parcels ++ done) (after_gifts b said old parcels done a)
-
-after_pulls : (b : Beginning) (said : Said) (old : List JournalStep) (parcels : List Parcel) (done : List Act) (short : Bool) → After said old (journal b done)
-    → After said old (journal b (((if short then PullFrom None ∷ [] else []) ++ map (λ parcel. PullFrom (Some parcel)) parcels) ++ done))
-after_pulls b said old parcels done false a = after_gifts b said old parcels done a
-after_pulls b said old parcels done true a = after_more b said old None (map (λ parcel. PullFrom (Some parcel)) parcels ++ done) (after_gifts b said old parcels done a)
-
-after_pulls_at : (b : Beginning) (said : Said) (old : List JournalStep) (parcels : List Parcel) (done : List Act) → After said old (journal b done) → After said old (journal b (pulls_at said parcels ++ done))
-after_pulls_at b (Event event.Tick) old parcels done a = after_pulls b (Event event.Tick) old parcels done (nat_lt (length parcels) 64) a
-after_pulls_at b (Event (event.Put link load)) old parcels done a = a
-after_pulls_at b (Event (event.Hold link failsafe)) old parcels done a = a
-after_pulls_at b (Event (event.Local link)) old parcels done a = a
-after_pulls_at b (Event (event.Nonce link end id)) old parcels done a = a
-after_pulls_at b (Event (event.Cut link cut)) old parcels done a = a
-after_pulls_at b (App app) old parcels done a = a
-
-after_line : (b : Beginning) (said : Said) (done : List Act) → After said (journal b done) (journal b (Happen said ∷ done))
-after_line b (Event e) done = record { rest = offers b (Happen (Event e)) done; is = refl; none = no_lines_by b (Happen (Event e)) done }
-after_line b (App app) done = record { rest = offers b (Happen (App app)) done; is = refl; none = no_lines_by b (Happen (App app)) done }
-
--- a turn
-pub after_turn : (b : Beginning) (said : Said) (parcels : List Parcel) (done : List Act) → After said (journal b done) (journal b (turn_acts said parcels ++ done))
-after_turn b said parcels done =
-    subst (λ (acts : List Act). After said (journal b done) (journal b acts)) (sym (one_more (pulls_at said parcels) said done))
-    (after_pulls_at b said (journal b done) parcels (Happen said ∷ done) (after_line b said done))
+-- the acts at a line
+pub after_line : (b : Beginning) (said : Said) (gifts : List (Option Parcel)) (done : List Act) → After said (journal b done) (journal b (with_line said gifts done))
+after_line b said [] done = record { rest = offers b (Happen said) done; is = refl; none = no_lines_by b (Happen said) done }
+after_line b said (gift ∷ gifts) done = after_more b said (journal b done) gift (with_line said gifts done) (after_line b said gifts done)

@@ -16,7 +16,6 @@ use Rattle.plant_core.specs.Standing.{TellsStill, PlantStands, PlantView, ShowsO
 use Rattle.plant_model.specs.Bound.{is_on}
 use Rattle.plant_model.specs.BoundLines.{heard, is_driven, limit_by, limit_of}
 use Rattle.plant_model.specs.Pair.{link_at}
-use Rattle.plant_model.specs.Turns.{Turn, acts}
 use Rattle.plant_run.specs.Watching.{HearsLine, HearsOne, reactions_by}
 
 limit_cases : (o p : Option LinkConf) (a b : Option ℕ) → a ≡ option_map (λ (l : LinkConf). l.master.watchdog) o → b ≡ option_map (λ (l : LinkConf). l.master.watchdog) p → (m n : ℕ) → a ≡ Some m → b ≡ Some n → 2 * m + 2 * n ≡ limit_by o p
@@ -49,9 +48,9 @@ pub limit_less : (links : List LinkConf) (bound : BoundSpec) → None ≡ option
 limit_less links bound e = none_second (link_at links bound.estop.link) (link_at links bound.drive.link) e
 
 -- what is shown of the drive's bit says whether the drive is on
-driven : (b : Beginning) (v : PlantView) (turns : List Turn) (bound : BoundSpec) (on : Bool) → PlantStands b v turns → ShowsOn v bound.drive on → on ≡ is_driven b bound (acts turns)
-driven b v turns bound on h s =
-    s.shows b turns h
+driven : (b : Beginning) (v : PlantView) (acts : List Act) (bound : BoundSpec) (on : Bool) → PlantStands b v acts → ShowsOn v bound.drive on → on ≡ is_driven b bound acts
+driven b v acts bound on h s =
+    s.shows b acts h
     ∙ ap (λ (j : List JournalStep). option_map_or (λ drive. is_on bound drive j) (link_at b.links bound.drive.link) false) h.has_done.journal_is
 
 pub tick_heard : (v : PlantView) (bound : BoundSpec) (tick : Bool) (old mid new : ReactionView) (on still : Bool) → ShowsOn v bound.drive on → Hears old (Tick on) mid → TellsStill v bound still → Hears mid (Quiet still) new → tick ≡ true
@@ -59,17 +58,17 @@ pub tick_heard : (v : PlantView) (bound : BoundSpec) (tick : Bool) (old mid new 
 tick_heard v bound tick old mid new on still s ticks tells quiet e =
     subst (λ (z : Bool). HearsOne v bound z old new) (sym e)
     (record {
-      hears = λ b turns before h is.
+      hears = λ b acts before h is.
           quiet.hears (limit_of b.links bound) (Tick on ∷ before) (ticks.hears (limit_of b.links bound) before is)
-          ∙ ap₂ (λ (q o : Bool). view_of (limit_of b.links bound) (Quiet q ∷ Tick o ∷ before)) (tells.tells b turns h) (driven b v turns bound on h s);
+          ∙ ap₂ (λ (q o : Bool). view_of (limit_of b.links bound) (Quiet q ∷ Tick o ∷ before)) (tells.tells b acts h) (driven b v acts bound on h s);
     })
 
 pub other_heard : (v : PlantView) (bound : BoundSpec) (tick : Bool) (old new : ReactionView) (still : Bool) → TellsStill v bound still → Hears old (Quiet still) new → tick ≡ false → HearsOne v bound tick old new
 other_heard v bound tick old new still tells quiet e =
     subst (λ (z : Bool). HearsOne v bound z old new) (sym e)
     (record {
-      hears = λ b turns before h is.
-          quiet.hears (limit_of b.links bound) before is ∙ ap (λ (q : Bool). view_of (limit_of b.links bound) (Quiet q ∷ before)) (tells.tells b turns h);
+      hears = λ b acts before h is.
+          quiet.hears (limit_of b.links bound) before is ∙ ap (λ (q : Bool). view_of (limit_of b.links bound) (Quiet q ∷ before)) (tells.tells b acts h);
     })
 
 -- what a reaction of a bound was told with a line
@@ -80,28 +79,28 @@ told_with b tick done before bound = view_of (limit_of b.links bound) (heard b b
 pub record HeardTo (i : ℕ) (v : PlantView) (bounds : List BoundSpec) (tick : Bool) (initial now : List ReactionView) : Type 0 where
   pub count : length now ≡ length bounds
   pub rest : Untouched i initial now
-  pub heard_so : (b : Beginning) (turns : List Turn) (before : BoundSpec → List reaction.Heard) → PlantStands b v turns → initial ≡ reactions_by b.links before bounds
-      → map (told_with b tick (acts turns) before) (take i bounds) ≡ take i now
+  pub heard_so : (b : Beginning) (acts : List Act) (before : BoundSpec → List reaction.Heard) → PlantStands b v acts → initial ≡ reactions_by b.links before bounds
+      → map (told_with b tick acts before) (take i bounds) ≡ take i now
 
 pub heard_more : (i : ℕ) (v : PlantView) (bounds : List BoundSpec) (tick : Bool) (initial now : List ReactionView) (bound : BoundSpec) (r new : ReactionView) → HeardTo i v bounds tick initial now
     → slice_get bounds i ≡ Some bound → slice_get now i ≡ Some r → HearsOne v bound tick r new → HeardTo (i + 1) v bounds tick initial (slice_set now i new)
 heard_more i v bounds tick initial now bound r new inv at there hears = record {
   count = length-set now i new ∙ inv.count;
   rest = untouched_more i initial now (slice_set now i new) new inv.rest refl;
-  heard_so = λ b turns before h is.
-      let f : BoundSpec → ReactionView = told_with b tick (acts turns) before in
+  heard_so = λ b acts before h is.
+      let f : BoundSpec → ReactionView = told_with b tick acts before in
       let g : BoundSpec → ReactionView = λ bound. view_of (limit_of b.links bound) (before bound) in
       let mine : Some r ≡ Some (g bound) =
       sym there ∙ inv.rest i (omega arith) ∙ ap (λ (z : List ReactionView). slice_get z i) is ∙ slice_get-map g bounds i ∙ ap (option_map g) at
       in
       ap (map f) (next_taken bounds i bound at)
-      ∙ written_more f (take i bounds) bound now (slice_set now i new) i (inv.heard_so b turns before h is) (slice_get_within now i r there)
-      (ap (slice_set now i) (hears.hears b turns (before bound) h (cc mine)));
+      ∙ written_more f (take i bounds) bound now (slice_set now i new) i (inv.heard_so b acts before h is) (slice_get_within now i r there)
+      (ap (slice_set now i) (hears.hears b acts (before bound) h (cc mine)));
 }
 
 pub heard_all : (i : ℕ) (v : PlantView) (bounds : List BoundSpec) (tick : Bool) (initial now : List ReactionView) → length bounds ≤ i → HeardTo i v bounds tick initial now → HearsLine v bounds tick initial now
 heard_all i v bounds tick initial now past inv = record {
-  hears = λ b turns before h is.
+  hears = λ b acts before h is.
       let count = inv.count in
-      sym (ap (map (told_with b tick (acts turns) before)) (sym (take_all i bounds past)) ∙ inv.heard_so b turns before h is ∙ take_all i now (omega arith));
+      sym (ap (map (told_with b tick acts before)) (sym (take_all i bounds past)) ∙ inv.heard_so b acts before h is ∙ take_all i now (omega arith));
 }

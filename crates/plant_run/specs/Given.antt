@@ -1,4 +1,4 @@
--- What a plant is run with, and what it means that it runs. Turns are listed newest first, the lines of a script oldest
+-- What a plant is run with, and what it means that it runs. Acts are listed newest first, the lines of a script oldest
 -- first.
 use Rattle.std.specs.Prelude.{◌≡◌, ◌≤◌, ◌-◌, ℕ, zero, suc, All, List, [], drop, length, map, string_bytes}
 use Rattle.black_channel.specs.Told.{Told}
@@ -18,7 +18,7 @@ use Rattle.fsoe_io.specs.declared.status.Ended.{Ended}
 use Rattle.plant_run.specs.Running.{RunCloses, RunStands}
 use Rattle.plant_run.specs.Script.{ScriptHeading}
 use Rattle.plant_core.specs.Standing.{PlantView, fixed_in}
-use Rattle.plant_model.specs.Turns.{Named, acts}
+use Rattle.plant_model.specs.Past.{Named}
 use Rattle.plant_model.specs.Uses.{Trace}
 use Rattle.plant_run.specs.Watching.{bounds_waiting, reactions_after}
 use Rattle.plant_model.specs.declared.event.PlantLine.{PlantLine}
@@ -64,9 +64,9 @@ rest_left (rest.Bounds next) = 16 - next
 -- these are left, its channel was used as that says, it had so many ticks, and these are the reactions of its bounds
 pub record GivenStands {H : Type 0} (view : KindOf H → AppView) (t : Terms) (v : PlantView) (reactions : List ReactionView) (left : List (EntryOf H)) (before after : Told) (count : ℕ) (h : ScriptHeading) (log : List PlantLine) (text : List ℕ) : Type 0 where
   pub runs : RunStands t v (map (named view) left) h log text
-  pub channel : Trace (uses t.begins (acts runs.turns)) before after
+  pub channel : Trace (uses t.begins runs.acts) before after
   pub fixed : fixed_in v.links ≡ fixed_in (links_made 1 t.bounds t.begins.links)
-  pub watched : reactions ≡ reactions_after t.begins runs.turns t.bounds
+  pub watched : reactions ≡ reactions_after t.begins runs.acts t.bounds
   pub same_lengths : All HasSameLengths t.begins.links
   pub counted : count ≡ ticks v.journal
   pub few : count ≤ length log
@@ -74,4 +74,4 @@ pub record GivenStands {H : Type 0} (view : KindOf H → AppView) (t : Terms) (v
 -- it did all lines of a script, of whose report this is the text, and the run ends so
 pub record GivenCloses {H : Type 0} (view : KindOf H → AppView) (t : Terms) (v : PlantView) (reactions : List ReactionView) (left : List (EntryOf H)) (h : ScriptHeading) (log : List PlantLine) (text : List ℕ) (ended : Ended) : Type 0 where
   pub closes : RunCloses t v (map (named view) left) h log text ended
-  pub watched : reactions ≡ reactions_after t.begins closes.stands.turns t.bounds
+  pub watched : reactions ≡ reactions_after t.begins closes.stands.acts t.bounds

@@ -1,13 +1,13 @@
--- How a run of a plant over its script ended, what it wrote, and what its channel and its journal tell. Turns are
+-- How a run of a plant over its script ended, what it wrote, and what its channel and its journal tell. Acts are
 -- listed newest first, steps and the lines of a script oldest first.
-use Rattle.std.specs.Prelude.{◌≡◌, List, [], All, Option, Some, None, length, ℕ}
+use Rattle.std.specs.Prelude.{◌≡◌, ◌⊎◌, List, [], length, ℕ}
 use Rattle.fsoe_io.specs.declared.status.Ended.{Ended}
 use Rattle.black_channel.specs.Told as channel
 use Rattle.schedule_file.specs.Input.{AtEnd}
 use Rattle.file_run.specs.Left.{Done, IsBegun, LeavesAs, LeavesUnbegun}
 use Rattle.file_run.specs.Outside.{Outside}
 use Rattle.file_run.specs.Ran.{RanOver}
-use Rattle.plant_model.specs.Acts.{journal, uses}
+use Rattle.plant_model.specs.Acts.{Act, journal, uses}
 use Rattle.plant_model.specs.Bound.{Reacts}
 use Rattle.plant_model.specs.Broken.{BrokenByOther}
 use Rattle.plant_model.specs.BoundLines.{bound_lines}
@@ -16,54 +16,44 @@ use Rattle.plant_model.specs.PlantReport.{report_end, report_text, ticks_text}
 use Rattle.plant_model.specs.Promises.{AllSound}
 use Rattle.plant_run.specs.Reporting.{Terms, plant_reporting}
 use Rattle.plant_run.specs.Script.{ScriptHeading}
-use Rattle.plant_model.specs.Turns.{IsTurn, Turn, acts, said, said_by_turns}
+use Rattle.plant_model.specs.Past.{MayHaveDone, said, said_in}
 use Rattle.plant_model.specs.Uses.{Trace}
 use Rattle.plant_model.specs.declared.event.PlantLine.{PlantLine}
 use Rattle.plant_model.specs.declared.journal.JournalStep.{JournalStep}
 
--- this is the whole report of a plant with these turns and this journal, and a run that writes it ends so
-abbrev pub IsReportOf : Terms → List Turn → List JournalStep → ScriptHeading → List PlantLine → List ℕ → Ended → Type 0
-IsReportOf t turns steps h log text ended =
-    (text ≡ report_text t.begins.links steps (bound_lines t.begins turns t.bounds) AtEnd) × (ended ≡ report_end t.begins.links steps AtEnd)
+-- this is the whole report of a plant with these acts and this journal, and a run that writes it ends so
+abbrev pub IsReportOf : Terms → List Act → List JournalStep → ScriptHeading → List PlantLine → List ℕ → Ended → Type 0
+IsReportOf t acts steps h log text ended =
+    (text ≡ report_text t.begins.links steps (bound_lines t.begins acts t.bounds) AtEnd) × (ended ≡ report_end t.begins.links steps AtEnd)
 
--- these turns were done, one for each of the first lines after the script's title; what was written is the report of
--- the journal as far as the run came; the answer of each act that ran a cycle is sound; and drives react in time, so that
--- a bound is broken only where a pair has an other entry
-pub record DidTurns (t : Terms) (turns : List Turn) (steps : List JournalStep) (ended : Ended) (o : Outside) : Type 0 where
-  pub turns_are : All (IsTurn t.begins.links) turns
-  pub journal_is : steps ≡ journal t.begins (acts turns)
+-- these acts were done, at the first lines after the script's title; what was written is the report of the journal as
+-- far as the run came; the answer of each act that ran a cycle is sound; and drives react in time, so that a bound is
+-- broken only where a pair has an other entry
+pub record DidLines (t : Terms) (acts : List Act) (steps : List JournalStep) (ended : Ended) (o : Outside) : Type 0 where
+  pub may : MayHaveDone t.begins.links acts
   pub done : Done ScriptHeading PlantLine
-  pub said_are : said_by_turns turns ≡ said t.spare done.log
-  pub whole : length turns ≡ length done.log
-  pub sound : AllSound t.begins (acts turns)
-  pub reacts : Reacts t.begins (acts turns)
-  pub broken : BrokenByOther t.begins turns
+  pub said_are : said_in acts ≡ said t.spare done.log
+  pub whole : length (said_in acts) ≡ length done.log
+  pub sound : AllSound t.begins acts
+  pub reacts : Reacts t.begins acts
+  pub broken : BrokenByOther t.begins acts
   pub text_is : done.text ≡ ticks_text t.begins.links steps
   pub begun : IsBegun (plant_reporting t).format done o.source.before
-  pub ends : LeavesAs (plant_reporting t) (IsReportOf t turns steps) done ended.status ended o
+  pub ends : LeavesAs (plant_reporting t) (IsReportOf t acts steps) done ended.status ended o
 
 -- no plant began: the script's first line didn't come or is refused, or there was no memory to begin with. No more was
 -- to be written than the line of that refusal
-pub record DidNothing (t : Terms) (steps : List JournalStep) (ended : Ended) (o : Outside) : Type 0 where
-  pub journal_is : steps ≡ []
+pub record DidNothing (t : Terms) (acts : List Act) (ended : Ended) (o : Outside) : Type 0 where
+  pub none : acts ≡ []
   pub left : LeavesUnbegun (plant_reporting t) ended o
 
--- what was done: nothing, or the start and these turns
-abbrev pub WasDone : Terms → Option (List Turn) → List JournalStep → Ended → Outside → Type 0
-WasDone t None steps ended o = DidNothing t steps ended o
-WasDone t (Some turns) steps ended o = DidTurns t turns steps ended o
-
--- how the channel was used by that
-abbrev pub Used : Terms → Option (List Turn) → channel.Told → channel.Told → Type 0
-Used t None before after = after ≡ before
-Used t (Some turns) before after = Trace (uses t.begins (acts turns)) before after
-
 -- a plant ran over a script: it reported it, of which `run` alone fixes no states, since a channel may give anything;
--- one and the same turns stand in its journal, in what its channel tells, and in what was written; and its pairs are
+-- one and the same acts stand in its journal, in what its channel tells, and in what was written; and its pairs are
 -- fair
 pub record RanPlant (t : Terms) (ended : Ended) (o : Outside) (before after : channel.Told) (steps : List JournalStep) : Type 0 where
   pub run : RanOver (plant_reporting t) ended o
-  pub turns : Option (List Turn)
-  pub did : WasDone t turns steps ended o
-  pub channel : Used t turns before after
+  pub acts : List Act
+  pub did : DidNothing t acts ended o ⊎ DidLines t acts steps ended o
+  pub journal_is : steps ≡ journal t.begins acts
+  pub channel : Trace (uses t.begins acts) before after
   pub fair : PairsAreFair t.begins.links steps

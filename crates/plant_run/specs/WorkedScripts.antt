@@ -5,7 +5,7 @@ use Rattle.schedule_file.specs.declared.line_cause.LineCause.TheVariants as caus
 use Rattle.plant_model.specs.Fits.{lengths_in}
 use Rattle.plant_run.specs.Reporting.{run_stop}
 use Rattle.plant_run.specs.Script.{Script, script_format}
-use Rattle.plant_model.specs.Turns.{Named, said}
+use Rattle.plant_model.specs.Past.{Named, said}
 use Rattle.plant_model.specs.WorkedActs.{driving}
 use Rattle.plant_model.specs.WorkedPlant.{both_links}
 use Rattle.plant_model.specs.declared.event.PlantEvent.TheVariants as event

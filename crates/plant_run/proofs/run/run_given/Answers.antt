@@ -1,6 +1,6 @@
 use Rattle.std.proofs.Common.{ap, ◌∙◌}
 use Rattle.plant_run.proofs.RanPlant.{left_so, ran_plant}
-use Rattle.plant_run.proofs.Turned.{reported}
+use Rattle.plant_run.proofs.NextLine.{reported}
 use Rattle.plant_run.proofs.run.run_given.Goals as goal
 
 pub returns-clause-channel_stays : goal.returns-clause-channel_stays
@@ -14,4 +14,4 @@ returns-clause-ran g c =
     ran_plant _ _ _ c.run_over.result _ _ _ _ _ _ _ _ c.run_over.ensures.ran c.run_over.ensures.leaves
     (λ same. (ap (λ given. g.C.Channel.told given.channel.now) same, ap (λ given. given.plant.now.journal) same ∙ c.requires))
     (λ h log text stands. record { count = _; given = stands.1.2 })
-    (λ turns journal_is watched h log text ended closes. reported _ _ _ _ _ h log text ended turns journal_is watched closes)
+    (λ acts journal_is watched h log text ended closes. reported _ _ _ _ _ h log text ended acts journal_is watched closes)

@@ -8,7 +8,7 @@ use Rattle.plant_run.proofs.Watched.{heard_all, heard_more}
 use Rattle.plant_run.proofs.watching.hear_each.Goals as goal
 
 pub loop-i-init : goal.loop-i-init
-loop-i-init g c = record { count = c.requires.count; rest = λ k late. refl; heard_so = λ b turns before h is. refl }
+loop-i-init g c = record { count = c.requires.count; rest = λ k late. refl; heard_so = λ b acts before h is. refl }
 
 pub hear_one-requires : goal.hear_one-requires
 hear_one-requires g c =

@@ -1,22 +1,24 @@
-use Rattle.std.proofs.Common.{◌≡◌, [], ◌∷◌, length, vec_len, vec_capacity, refl, sym, ◌∙◌, arith}
+use Rattle.std.proofs.Common.{◌≡◌, ◌+◌, ◌-◌, suc, length, vec_len, vec_capacity, refl, sym, ◌∙◌, arith}
 use Rattle.black_channel.specs.declared.channel.Parcel.{Parcel}
 use Rattle.plant_core.proofs.Acting.{same_count}
-use Rattle.plant_core.proofs.Pulling.{none_gone, one_pulled, pulled_until, pull_room, pull_count}
+use Rattle.plant_core.proofs.Pulling.{none_gone, one_pulled, pulled_until, pull_room}
 use Rattle.plant_core.proofs.ends.Ends.pull_all.Goals as goal
 
 pub loop-init : goal.loop-init
-loop-init g c = record { ready = c.requires.ready; fixed = refl; room = c.requires.room; gone = ([], refl, none_gone _ _) }
+loop-init g c = record { ready = c.requires.ready; fixed = refl; room = c.requires.room; gone = none_gone _ _ }
 
 pub returns-in_default-clause-pulls : goal.returns-in_default-clause-pulls
 returns-in_default-clause-pulls g c =
-    let gone = c.loop.invariant.gone in
     let pulls = rw c.in_default.is at c.pull.ensures.pulls in
-    pulled_until _ _ gone.0 _ _ _ (omega (arith, gone.1, c.loop-test.true)) gone.2 pulls
+    let one : 64 - c.loop.counter ≡ suc (64 - (c.loop.counter + 1)) = omega (arith, c.loop-test.true) in
+    let gone = rw one at c.loop.invariant.gone in
+    pulled_until _ _ _ _ _ _ gone pulls
 
 pub loop-preserved : goal.loop-preserved
 loop-preserved g c =
-    let gone = c.loop.invariant.gone in
     let pulls = rw c.in-Some.is at c.pull.ensures.pulls in
+    let one : 64 - c.loop.counter ≡ suc (64 - (c.loop.counter + 1)) = omega (arith, c.loop-test.true) in
+    let gone = rw one at c.loop.invariant.gone in
     let parcel : Parcel = record { to = c.in-Some.to; frame = c.pull.new.out } in
     let old = c.loop.self.links in
     let new = c.deliver.new.self.links in
@@ -26,5 +28,5 @@ loop-preserved g c =
       ready = c.deliver.ensures.ready;
       fixed = c.deliver.ensures.fixed ∙ c.loop.invariant.fixed;
       room = pull_room c.loop.counter (vec_len c.loop.steps) (vec_len c.deliver.new.steps) (vec_capacity c.loop.steps) (vec_capacity c.deliver.new.steps) (vec_len old) (vec_len new) c.loop-test.true c.loop.invariant.room c.deliver.ensures.few c.deliver.ensures.capacity same;
-      gone = (parcel ∷ gone.0, pull_count c.loop.counter parcel gone.0 gone.1, one_pulled _ _ _ gone.0 parcel _ _ _ _ gone.2 pulls c.deliver.ensures.delivers);
+      gone = one_pulled _ _ _ _ parcel _ _ _ _ gone pulls c.deliver.ensures.delivers;
     }

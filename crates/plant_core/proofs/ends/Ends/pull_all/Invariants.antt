@@ -1,8 +1,6 @@
-use Rattle.std.proofs.Common.{◌≡◌, ◌≤◌, ◌+◌, ◌-◌, ◌*◌, List, length, vec_len, vec_capacity}
-use Rattle.black_channel.specs.declared.channel.Parcel.{Parcel}
-use Rattle.plant_core.specs.Doing.{GoesOn, sees}
+use Rattle.std.proofs.Common.{◌≡◌, ◌≤◌, ◌+◌, ◌-◌, ◌*◌, vec_len, vec_capacity}
+use Rattle.plant_core.specs.Doing.{Pulls, sees}
 use Rattle.plant_core.specs.Standing.{IsPlant, fixed_in}
-use Rattle.plant_core.proofs.Pulling.{gave}
 use Rattle.plant_core.proofs.ends.Ends.pull_all.Given as goal
 
 abbrev pub invariant-loop : goal.invariant-loop
@@ -12,6 +10,5 @@ invariant-loop g l =
       ready : IsPlant l.self.master l.self.links.items l.self.dids.items l.self.outs.items (vec_len l.steps);
       fixed : fixed_in l.self.links.items ≡ fixed_in l.initial.self.links.items;
       room : vec_len l.steps + (64 - l.counter) * (vec_len l.self.links + 1) ≤ vec_capacity l.steps;
-      gone : (pulled : List Parcel) × (length pulled ≡ l.counter)
-          × GoesOn (seen l.initial.self.master l.initial.self.links.items l.initial.steps.items) (gave pulled) (seen l.self.master l.self.links.items l.steps.items) (g.C.Channel.told l.initial.channel) (g.C.Channel.told l.channel);
+      gone : Pulls (64 - l.counter) (seen l.initial.self.master l.initial.self.links.items l.initial.steps.items) (seen l.self.master l.self.links.items l.steps.items) (g.C.Channel.told l.initial.channel) (g.C.Channel.told l.channel);
     }

@@ -1,6 +1,6 @@
 use Rattle.std.proofs.Common.{refl}
 use Rattle.plant_run.proofs.Hearing.{first_heard, fresh_hear}
-use Rattle.plant_run.proofs.Turned.{begun}
+use Rattle.plant_run.proofs.NextLine.{begun}
 use Rattle.plant_run.proofs.machine.TellingMachine.begin.Goals as goal
 
 pub hear-requires : goal.hear-requires

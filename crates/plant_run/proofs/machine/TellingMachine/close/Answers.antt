@@ -1,6 +1,6 @@
 use Rattle.std.proofs.Common.{List, ℕ, ◌++◌, ap, ◌∙◌}
 use Rattle.file_run.specs.Report.{other_line}
-use Rattle.plant_run.proofs.Turned.{closed, other_ends}
+use Rattle.plant_run.proofs.NextLine.{closed, other_ends}
 use Rattle.plant_run.proofs.machine.TellingMachine.close.Goals as goal
 
 pub returns-clause-ends : goal.returns-clause-ends

@@ -4,7 +4,7 @@ use Rattle.plant_run.specs.Given.{waiting}
 use Rattle.plant_model.specs.declared.event.PlantLine.TheVariants as line
 use Rattle.plant_model.specs.declared.event.PlantEvent.TheVariants as event
 use Rattle.plant_run.proofs.Hearing.{can_hear, heard_same}
-use Rattle.plant_run.proofs.Turned.{app_stopped, goes_step, nothing_at, nothing_written, same_count, step_fits, takes_app}
+use Rattle.plant_run.proofs.NextLine.{app_stopped, goes_step, nothing_at, nothing_written, same_count, step_fits, takes_app}
 use Rattle.plant_run.proofs.machine.TellingMachine.report.Goals as goal
 
 pub step-requires : goal.step-requires

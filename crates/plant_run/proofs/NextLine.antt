@@ -1,9 +1,10 @@
 -- A plant that runs goes on by a line of its script.
-use Rattle.std.proofs.Common.{◌≡◌, ℕ, ◌+◌, ◌≤◌, Bool, true, false, cond, suc, List, [], ◌∷◌, ◌++◌, map, All, if◌then◌else◌, refl, sym, ap, ap₂, subst, ◌∙◌, append_assoc, arith, inl, inr}
+use Rattle.std.proofs.Common.{◌≡◌, ℕ, ◌+◌, ◌≤◌, Bool, true, false, cond, suc, List, [], ◌∷◌, ◌++◌, length, map, All, if◌then◌else◌, refl, sym, ap, ap₂, subst, ◌∙◌, append_assoc, arith, inl, inr}
 use Rattle.std.specs.Prelude.{◌⊎◌, Option, Some, None, codes, decimal, string_bytes}
 use Rattle.std.proofs.lemmas.List.{append-nil, length_push}
 use Rattle.std.proofs.lemmas.List.Sums.{sum_by-append, sum_by-cons}
 use Rattle.black_channel.specs.Told.{Told}
+use Rattle.black_channel.specs.declared.channel.Parcel.{Parcel}
 use Rattle.fb_net.specs.declared.kind_of.EntryOf.{EntryOf}
 use Rattle.fb_net.specs.declared.kind_of.KindOf.{KindOf}
 use Rattle.fb_net.specs.declared.kind_of.KindOf.TheVariants as kind
@@ -30,7 +31,7 @@ use Rattle.plant_model.specs.declared.event.PlantLine.{PlantLine}
 use Rattle.plant_model.specs.declared.event.PlantLine.TheVariants as line
 use Rattle.plant_model.specs.declared.journal.JournalStep.{JournalStep}
 use Rattle.plant_model.specs.declared.journal.JournalStep.TheVariants as step
-use Rattle.plant_model.specs.Acts.{Beginning, Said, Event, App, Act, Start, journal, offers, uses, uses_after, line_step}
+use Rattle.plant_model.specs.Acts.{Beginning, Said, Event, App, Act, Start, Happen, PullFrom, journal, offers, uses, uses_after, line_step}
 use Rattle.plant_model.specs.Fits.{lengths_in, Fits}
 use Rattle.plant_run.specs.Given.{GivenCloses, GivenStands, named, rest_in, terms_of, waiting}
 use Rattle.plant_model.specs.Pair.{has_other, is_tick, lowest_other, ticks}
@@ -38,30 +39,29 @@ use Rattle.plant_model.specs.PlantReport.{last_lines, tick_lines, ticks_text}
 use Rattle.plant_model.specs.JournalLaws.{line_steps}
 use Rattle.plant_run.specs.Ran.{IsReportOf}
 use Rattle.plant_run.specs.Reporting.{Terms, plant_reporting}
-use Rattle.plant_model.specs.BoundLines.{bound_line, bound_lines, heard_of}
+use Rattle.plant_model.specs.BoundLines.{bound_line, bound_lines, heard, heard_before, heard_of, is_ticking}
 use Rattle.plant_core.specs.Making.{links_made}
 use Rattle.plant_run.specs.Running.{RunStands, LineFits}
 use Rattle.plant_run.specs.Script.{ScriptHeading, happening, script_format}
 use Rattle.plant_core.specs.Standing.{Follows, Plays, PlantStands, PlantView, Starts, TellsOther, fixed_in, lengths_kept}
-use Rattle.plant_model.specs.Turns.{Named, Taken, Turn, acts, said, said_by_turns, said_with, turn_acts}
+use Rattle.plant_model.specs.Past.{Named, Taken, said, said_in, said_with, with_line}
 use Rattle.plant_model.specs.Uses.{Trace, Use}
-use Rattle.plant_run.specs.Watching.{HearsLine, lines_by, reactions_after}
+use Rattle.plant_run.specs.Watching.{HearsLine, lines_by, reactions_after, reactions_by}
 use Rattle.plant_core.proofs.Acting.{trace_append}
-use Rattle.plant_model.proofs.Lines.{no_lines_by}
+use Rattle.plant_model.proofs.Lines.{line_said, no_lines_by}
 use Rattle.plant_core.proofs.Made.{lengths_made}
 use Rattle.plant_core.proofs.Pulling.{more_uses}
 use Rattle.plant_run.proofs.ScriptFits.{line_fits}
 use Rattle.plant_run.proofs.Scripted.{plant_unmet}
 use Rattle.plant_run.proofs.TakenApps.{app_missing, app_taken}
-use Rattle.plant_run.proofs.TicksText.{After, after_turn, in_tick_quiet, lines_quiet, text_after}
+use Rattle.plant_run.proofs.TicksText.{After, after_line, in_tick_quiet, lines_quiet, text_after}
 
 -- steps that are no lines of the script are no ticks
 ticks_quiet : (rest : List JournalStep) → line_steps rest ≡ [] → ticks rest ≡ 0
 ticks_quiet [] none = refl
-ticks_quiet (step.Script e ∷ rest) none = cc
-ticks_quiet (step.App ∷ rest) none = cc
 ticks_quiet (step.Offer link load ∷ rest) none = ticks_quiet rest none
 ticks_quiet (step.Pulled parcel ∷ rest) none = ticks_quiet rest none
+ticks_quiet _ none = cc
 
 -- one tick more, where the line is one
 abbrev pub one_if : Bool → ℕ
@@ -78,26 +78,27 @@ ticks_after one old new a =
     let first = sum_by-cons (λ x. one_if (is_tick x)) (line_step one) a.rest in
     omega (arith, none, all, first)
 
--- the journal of a plant that played a turn is the one before, the line, and steps that are none
-played : (t : Terms) (old new : PlantView) (left : List Named) (h : ScriptHeading) (log : List PlantLine) (text : List ℕ) (one : Said) (before after : Told) (k : RunStands t old left h log text) → (p : Plays t.begins k.turns one new before after)
+-- the journal of a plant that went on by a line is the one before, the line, and steps that are none
+played : (t : Terms) (old new : PlantView) (left : List Named) (h : ScriptHeading) (log : List PlantLine) (text : List ℕ) (one : Said) (before after : Told) (k : RunStands t old left h log text) → (p : Plays t.begins k.acts one new before after)
     → After one old.journal new.journal
 played t old new left h log text one before after k p =
     subst (λ (j : List JournalStep). After one j new.journal) (sym k.stands.has_done.journal_is)
-    (subst (After one (journal t.begins (acts k.turns))) (sym p.stands.has_done.journal_is) (after_turn t.begins one p.pulled (acts k.turns)))
+    (subst (After one (journal t.begins k.acts)) (sym p.stands.has_done.journal_is) (after_line t.begins one p.gifts k.acts))
 
 -- it stands for the line too, whatever is left of the applications, with the lines of the tick if it is one
-turned : (t : Terms) (old new : PlantView) (left next : List Named) (h : ScriptHeading) (log : List PlantLine) (text piece : List ℕ) (event : PlantLine) (one : Said) (before after : Told) (k : RunStands t old left h log text)
-    → Plays t.begins k.turns one new before after → ((more : List PlantLine) → said left (event ∷ more) ≡ one ∷ said next more)
+line_stands : (t : Terms) (old new : PlantView) (left next : List Named) (h : ScriptHeading) (log : List PlantLine) (text piece : List ℕ) (event : PlantLine) (one : Said) (before after : Told) (k : RunStands t old left h log text)
+    → Plays t.begins k.acts one new before after → ((more : List PlantLine) → said left (event ∷ more) ≡ one ∷ said next more)
     → piece ≡ (if is_tick (line_step one) then tick_lines t.begins.links new.journal else []) → RunStands t new next h (log ++ event ∷ []) (text ++ piece)
-turned t old new left next h log text piece event one before after k p says is = record {
-  turns = record { said = one; pulled = p.pulled } ∷ k.turns;
+line_stands t old new left next h log text piece event one before after k p says is = record {
+  acts = with_line one p.gifts k.acts;
   stands = p.stands;
-  whole = omega (arith, k.whole, length_push log event);
+  whole = omega (arith, k.whole, length_push log event, ap (length {A = Said}) (line_said one p.gifts k.acts), length_push (said_in k.acts) one);
   says = λ more.
       ap (said t.spare) (append_assoc log (event ∷ []) more)
       ∙ k.says (event ∷ more)
-      ∙ ap (λ (z : List Said). said_by_turns k.turns ++ z) (says more)
-      ∙ sym (append_assoc (said_by_turns k.turns) (one ∷ []) (said next more));
+      ∙ ap (λ (z : List Said). said_in k.acts ++ z) (says more)
+      ∙ sym (append_assoc (said_in k.acts) (one ∷ []) (said next more))
+      ∙ ap (λ (z : List Said). z ++ said next more) (sym (line_said one p.gifts k.acts));
   lengths_are = k.lengths_are;
   text_is =
       ap₂ (λ (x y : List ℕ). x ++ y) k.text_is is
@@ -105,13 +106,19 @@ turned t old new left next h log text piece event one before after k p says is =
 }
 
 -- its channel was used by that too
-used : (b : Beginning) (turns : List Turn) (one : Said) (new : PlantView) (before mid after : Told) → Trace (uses b (acts turns)) before mid → (p : Plays b turns one new mid after)
-    → Trace (uses b (acts (record { said = one; pulled = p.pulled } ∷ turns))) before after
-used b turns one new before mid after h p =
-    let more : List Act = turn_acts one p.pulled in
-    let whole = more_uses b more (acts turns) [] ∙ ap (λ (done : List Act). uses_after b (acts turns) [] ++ uses_after b more done) (append-nil (acts turns)) in
+used : (b : Beginning) (acts : List Act) (one : Said) (new : PlantView) (before mid after : Told) → Trace (uses b acts) before mid → (p : Plays b acts one new mid after)
+    → Trace (uses b (with_line one p.gifts acts)) before after
+used b acts one new before mid after h p =
+    let more : List Act = with_line one p.gifts [] in
+    let whole = ap (uses b) (sym (append_assoc (map PullFrom p.gifts) (Happen one ∷ []) acts)) ∙ more_uses b more acts [] ∙ ap (λ (done : List Act). uses_after b acts [] ++ uses_after b more done) (append-nil acts) in
     subst (λ (all : List Use). Trace all before after) (sym whole)
-    (trace_append (uses b (acts turns)) (uses_after b (turn_acts one p.pulled) (acts turns)) before mid after h p.channel)
+    (trace_append (uses b acts) (uses_after b more acts) before mid after h p.channel)
+
+-- what is heard of bounds with a line
+line_heard : (b : Beginning) (one : Said) (gifts : List (Option Parcel)) (done now : List Act) (bounds : List BoundSpec) → let new : List Act = with_line one gifts done in
+    reactions_by b.links (λ bound. heard b bound (is_tick (line_step one)) now (heard_of b bound done)) bounds ≡ reactions_by b.links (λ bound. heard b bound (is_ticking new) now (heard_before b bound new)) bounds
+line_heard b one [] done now bounds = refl
+line_heard b one (gift ∷ gifts) done now bounds = line_heard b one gifts done now bounds
 
 -- what is written at a line: the lines of a tick, the first of which numbers it; else nothing
 abbrev pub written_at : Said → ℕ → List LinkConf → List JournalStep → List ℕ
@@ -126,29 +133,29 @@ pub goes_on : {H : Type 0} (view : KindOf H → AppView) (t : Terms) (old new : 
     → GivenStands view t old old_reactions left before mid count h log text → Follows old one new mid after → fixed_in new.links ≡ fixed_in old.links → HearsLine new t.bounds (is_tick (line_step one)) old_reactions new_reactions
     → ((more : List PlantLine) → said (map (named view) left) (event ∷ more) ≡ one ∷ said (map (named view) next) more) → now ≡ count + one_if (is_tick (line_step one)) → piece ≡ written_at one now t.begins.links new.journal
     → GivenStands view t new new_reactions next before after now h (log ++ event ∷ []) (text ++ piece)
-unfolding turned
+unfolding line_stands
 goes_on view t old new old_reactions new_reactions left next before mid after count now h log text piece event one k follows same hears says counts is =
-    let p = follows.plays t.begins k.runs.turns k.runs.stands in
+    let p = follows.plays t.begins k.runs.acts k.runs.stands in
     let after_line = played t old new (map (named view) left) h log text one mid after k.runs p in
     let counted : now ≡ ticks new.journal = let more = ticks_after one old.journal new.journal after_line in let before = k.counted in omega (arith, more, before, counts) in
     record {
-      runs = turned t old new (map (named view) left) (map (named view) next) h log text piece event one mid after k.runs p says
+      runs = line_stands t old new (map (named view) left) (map (named view) next) h log text piece event one mid after k.runs p says
           (written_if (is_tick (line_step one)) _ (tick_lines t.begins.links new.journal) piece (ap (λ (n : ℕ). (codes "tick " ++ decimal n ++ codes "\n") ++ waiting 1 t.begins.links new.journal) counted) is);
-      channel = used t.begins k.runs.turns one new before mid after k.channel p;
+      channel = used t.begins k.runs.acts one new before mid after k.channel p;
       fixed = same ∙ k.fixed;
-      watched = hears.hears t.begins (record { said = one; pulled = p.pulled } ∷ k.runs.turns) (λ bound. heard_of t.begins bound k.runs.turns) p.stands k.watched;
+      watched = hears.hears t.begins (with_line one p.gifts k.runs.acts) (λ bound. heard_of t.begins bound k.runs.acts) p.stands k.watched ∙ line_heard t.begins one p.gifts k.runs.acts (with_line one p.gifts k.runs.acts) t.bounds;
       same_lengths = k.same_lengths;
       counted = counted;
       few = let most = k.few in let one_more = one_most (is_tick (line_step one)) in omega (arith, most, counts, one_more, length_push log event);
     }
 
 -- a plant that has begun runs
-started : (t : Terms) (v : PlantView) (h : ScriptHeading) → PlantStands t.begins v [] → h.lengths ≡ map lengths_in t.begins.links → RunStands t v t.spare h [] []
+started : (t : Terms) (v : PlantView) (h : ScriptHeading) → PlantStands t.begins v (Start ∷ []) → h.lengths ≡ map lengths_in t.begins.links → RunStands t v t.spare h [] []
 started t v h stands lengths_are =
     let changed : List JournalStep = offers t.begins Start [] in
     let none : line_steps changed ≡ [] = no_lines_by t.begins Start [] in
     record {
-      turns = [];
+      acts = Start ∷ [];
       stands = stands;
       whole = refl;
       says = λ more. refl;
@@ -162,7 +169,7 @@ started t v h stands lengths_are =
     }
 
 pub begun : {H : Type 0} (view : KindOf H → AppView) (conf : ConfView) (app : KindOf H) (spare : List (EntryOf H)) (v : PlantView) (reactions : List ReactionView) (before after : Told) (h : ScriptHeading) → let t : Terms = terms_of view conf app spare in
-    Starts t.begins v before after → fixed_in v.links ≡ fixed_in (links_made 1 t.bounds t.begins.links) → reactions ≡ reactions_after t.begins [] t.bounds → All HasSameLengths t.begins.links → h.lengths ≡ map lengths_in t.begins.links
+    Starts t.begins v before after → fixed_in v.links ≡ fixed_in (links_made 1 t.bounds t.begins.links) → reactions ≡ reactions_after t.begins (Start ∷ []) t.bounds → All HasSameLengths t.begins.links → h.lengths ≡ map lengths_in t.begins.links
     → GivenStands view t v reactions spare before after 0 h [] []
 unfolding started
 begun view conf app spare v reactions before after h starts fixed watched all lengths_are =
@@ -181,11 +188,7 @@ begun view conf app spare v reactions before after h starts fixed watched all le
 -- an event of the script that is no tick
 pub no_tick : (e : PlantEvent) → (e ≡ event.Tick → ⊥) → is_tick (step.Script e) ≡ false
 no_tick event.Tick other = absurd (other refl)
-no_tick (event.Put link load) other = refl
-no_tick (event.Hold link failsafe) other = refl
-no_tick (event.Local link) other = refl
-no_tick (event.Nonce link end id) other = refl
-no_tick (event.Cut link cut) other = refl
+no_tick _ other = refl
 
 -- so the number of ticks stays
 pub same_count : (e : PlantEvent) (count : ℕ) → (e ≡ event.Tick → ⊥) → count ≡ count + one_if (is_tick (step.Script e))
@@ -203,8 +206,7 @@ nothing_at e count all steps text other is =
 -- the line of an event
 says_step : (event : PlantLine) (e : PlantEvent) → happening event ≡ Some (line.Step e) → event ≡ line.Step e
 says_step (line.Step f) e is = cc
-says_step (line.App name) e is = cc
-says_step line.End e is = cc
+says_step _ e is = cc
 
 -- it fits the connections of the plant
 pub step_fits : {H : Type 0} (view : KindOf H → AppView) (t : Terms) (v : PlantView) (reactions : List ReactionView) (left : List (EntryOf H)) (before after : Told) (count : ℕ) (h : ScriptHeading) (log : List PlantLine) (text : List ℕ) (e : PlantEvent)
@@ -247,7 +249,7 @@ lowest_from k (link ∷ links) steps n is = lowest_by (has_other link k steps) k
 pub other_ends : {H : Type 0} (view : KindOf H → AppView) (t : Terms) (v : PlantView) (reactions : List ReactionView) (left : List (EntryOf H)) (before after : Told) (count : ℕ) (h : ScriptHeading) (log : List PlantLine) (text : List ℕ) (other : Option ℕ)
     → GivenStands view t v reactions left before after count h log text → TellsOther v other → EndsWhole true (ended_with other).status (ended_with other).place
 other_ends view t v reactions left before after count h log text other k told =
-    ended_whole other (λ n is. lowest_from 1 t.begins.links v.journal n (sym (told.tells t.begins k.runs.turns k.runs.stands) ∙ is))
+    ended_whole other (λ n is. lowest_from 1 t.begins.links v.journal n (sym (told.tells t.begins k.runs.acts k.runs.stands) ∙ is))
 
 -- an application isn't taken: there is none of its name, or no memory
 pub app_stopped : {H : Type 0} (view : KindOf H → AppView) (t : Terms) (v : PlantView) (reactions : List ReactionView) (all : List (EntryOf H)) (before after : Told) (count : ℕ) (h : ScriptHeading) (log : List PlantLine) (text name : List ℕ) (event : PlantLine) (why : Stopped)
@@ -260,12 +262,12 @@ app_stopped view t v reactions all before after count h log text name event why 
     ]
 
 -- the lines of bounds are those by their reactions
-lines_are : (b : Beginning) (turns : List Turn) (bounds : List BoundSpec) → lines_by b.links (journal b (acts turns)) bounds (reactions_after b turns bounds) ≡ bound_lines b turns bounds
-lines_are b turns [] = refl
-lines_are b turns (bound ∷ bounds) = ap (λ (z : List ℕ). bound_line b turns bound ++ z) (lines_are b turns bounds)
+lines_are : (b : Beginning) (acts : List Act) (bounds : List BoundSpec) → lines_by b.links (journal b acts) bounds (reactions_after b acts bounds) ≡ bound_lines b acts bounds
+lines_are b acts [] = refl
+lines_are b acts (bound ∷ bounds) = ap (λ (z : List ℕ). bound_line b acts bound ++ z) (lines_are b acts bounds)
 
--- so they are the same over any turns by which there is one journal, and over which there are the same reactions
-same_lines : (b : Beginning) (these those : List Turn) (bounds : List BoundSpec) (reactions : List ReactionView) → reactions ≡ reactions_after b these bounds → reactions ≡ reactions_after b those bounds → journal b (acts these) ≡ journal b (acts those)
+-- so they are the same over any acts by which there is one journal, and over which there are the same reactions
+same_lines : (b : Beginning) (these those : List Act) (bounds : List BoundSpec) (reactions : List ReactionView) → reactions ≡ reactions_after b these bounds → reactions ≡ reactions_after b those bounds → journal b these ≡ journal b those
     → bound_lines b these bounds ≡ bound_lines b those bounds
 same_lines b these those bounds reactions e f same =
     sym (lines_are b these bounds)
@@ -277,11 +279,11 @@ pub closed : {H : Type 0} (view : KindOf H → AppView) (t : Terms) (v : PlantVi
     → GivenStands view t v reactions left before after count h log text → TellsOther v other → piece ≡ (codes "ticks" ++ codes " " ++ decimal count ++ codes "\n") ++ other_line other → conf.links ≡ t.begins.links → conf.bounds ≡ t.bounds → ended ≡ ended_with other
     → GivenCloses view t v reactions left h log (text ++ (piece ++ rest_in (rest.Bounds 0) conf v.journal reactions)) ended
 closed view t v reactions left before after count h log text other piece conf ended k told is links bounds ended_is =
-    let lowest : other ≡ lowest_other 1 t.begins.links v.journal = told.tells t.begins k.runs.turns k.runs.stands in
-    let waits : rest_in (rest.Bounds 0) conf v.journal reactions ≡ bound_lines t.begins k.runs.turns t.bounds =
+    let lowest : other ≡ lowest_other 1 t.begins.links v.journal = told.tells t.begins k.runs.acts k.runs.stands in
+    let waits : rest_in (rest.Bounds 0) conf v.journal reactions ≡ bound_lines t.begins k.runs.acts t.bounds =
     ap₂ (λ (ls : List LinkConf) (bs : List BoundSpec). lines_by ls v.journal bs reactions) links bounds
     ∙ ap₂ (λ (j : List JournalStep) (rs : List ReactionView). lines_by t.begins.links j t.bounds rs) k.runs.stands.has_done.journal_is k.watched
-    ∙ lines_are t.begins k.runs.turns t.bounds in
+    ∙ lines_are t.begins k.runs.acts t.bounds in
     let first = is ∙ ap₂ (λ (n : ℕ) (o : Option ℕ). (codes "ticks " ++ decimal n ++ codes "\n") ++ other_line o) k.counted lowest in
     record {
       closes = record {
@@ -293,12 +295,12 @@ closed view t v reactions left before after count h log text other piece conf en
       watched = k.watched;
     }
 
--- what it has closed with is the report of its journal, and of any turns with the same reactions
-pub reported : {H : Type 0} (view : KindOf H → AppView) (t : Terms) (v : PlantView) (reactions : List ReactionView) (left : List (EntryOf H)) (h : ScriptHeading) (log : List PlantLine) (text : List ℕ) (ended : Ended) (turns : List Turn)
-    → v.journal ≡ journal t.begins (acts turns) → reactions ≡ reactions_after t.begins turns t.bounds → GivenCloses view t v reactions left h log text ended → IsReportOf t turns v.journal h log text ended
-reported view t v reactions left h log text ended turns journal_is watched k =
-    let own : v.journal ≡ journal t.begins (acts k.closes.stands.turns) = k.closes.stands.stands.has_done.journal_is in
-    let lines = same_lines t.begins k.closes.stands.turns turns t.bounds reactions k.watched watched (sym own ∙ journal_is) in (
+-- what it has closed with is the report of its journal, and of any acts with the same reactions
+pub reported : {H : Type 0} (view : KindOf H → AppView) (t : Terms) (v : PlantView) (reactions : List ReactionView) (left : List (EntryOf H)) (h : ScriptHeading) (log : List PlantLine) (text : List ℕ) (ended : Ended) (acts : List Act)
+    → v.journal ≡ journal t.begins acts → reactions ≡ reactions_after t.begins acts t.bounds → GivenCloses view t v reactions left h log text ended → IsReportOf t acts v.journal h log text ended
+reported view t v reactions left h log text ended acts journal_is watched k =
+    let own : v.journal ≡ journal t.begins k.closes.stands.acts = k.closes.stands.stands.has_done.journal_is in
+    let lines = same_lines t.begins k.closes.stands.acts acts t.bounds reactions k.watched watched (sym own ∙ journal_is) in (
       k.closes.text_is
           ∙ ap₂ (λ (ticks lines : List ℕ). ticks ++ last_lines t.begins.links v.journal lines AtEnd) k.closes.stands.text_is lines,
       k.closes.ended_is,

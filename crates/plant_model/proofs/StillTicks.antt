@@ -1,7 +1,7 @@
 -- Where the moments of a plant are still for a bound, it is quiet: no act of a tick but the line of the script changes
--- what a slave offers, nor which application runs, and each cycle keeps off what the application guards. Acts and turns
--- are listed newest first, steps oldest first.
-use Rattle.std.proofs.Common.{◌≡◌, ℕ, ◌==◌, nat_lt, Bool, true, false, ◌&&◌, not, List, [], ◌∷◌, ◌++◌, map, length, Option, Some, None, if◌then◌else◌, refl, sym, ap, ap₂, ◌∙◌, append_assoc}
+-- what a slave offers, nor which application runs, and each cycle keeps off what the application guards. Acts are listed
+-- newest first, steps oldest first.
+use Rattle.std.proofs.Common.{◌≡◌, ℕ, ◌==◌, Bool, true, false, ◌&&◌, not, List, [], ◌∷◌, ◌++◌, map, Option, Some, None, if◌then◌else◌, refl, sym, ap, ap₂, ◌∙◌, append_assoc}
 use Rattle.std.specs.Prelude.{IfSome, option_to_list}
 use Rattle.std.specs.Option.{option_map_or}
 use Rattle.std.proofs.lemmas.List.{append-nil}
@@ -24,11 +24,10 @@ use Rattle.multi_master.specs.Connection.{outputs_at, offer_at}
 use Rattle.plant_model.specs.declared.event.PlantEvent.TheVariants as event
 use Rattle.plant_model.specs.declared.journal.JournalStep.{JournalStep}
 use Rattle.plant_model.specs.declared.journal.JournalStep.TheVariants as step
-use Rattle.plant_model.specs.Acts.{Beginning, Event, Act, Happen, PullFrom, settings, delivery_call, calls, masters, cycle_of, offer_step, offers, journal}
+use Rattle.plant_model.specs.Acts.{Beginning, Said, Event, App, Act, Happen, PullFrom, settings, delivery_call, calls, masters, cycle_of, offer_step, offers, journal, line_step}
 use Rattle.plant_model.specs.Bound.{is_off, is_guarded, is_still, StaysOff}
-use Rattle.plant_model.specs.Pair.{next_of, pair, link_at}
+use Rattle.plant_model.specs.Pair.{next_of, pair, link_at, is_tick}
 use Rattle.plant_model.specs.Promises.{AllSound}
-use Rattle.plant_model.specs.Turns.{turn_acts}
 use Rattle.plant_model.proofs.Growing.{IsOne, pair_more, pair_one}
 
 -- a cycle keeps off what is guarded
@@ -68,10 +67,7 @@ keeps_offer : (link : LinkConf) (end : End) (what : Move) (w : List Entry) → K
 keeps_offer link side.Master what w h = refl
 keeps_offer link side.Slave move.Tick w h = refl
 keeps_offer link side.Slave (move.Deliver bytes) w h = refl
-keeps_offer link side.Slave (move.Put load) w h = absurd h
-keeps_offer link side.Slave (move.Hold failsafe) w h = absurd h
-keeps_offer link side.Slave (move.Nonce id) w h = absurd h
-keeps_offer link side.Slave move.Local w h = absurd h
+keeps_offer link side.Slave _ w h = absurd h
 
 came_keeps : (end : End) (bytes : List ℕ) → Keeps end (move.Deliver bytes)
 came_keeps side.Master bytes = tt
@@ -149,32 +145,8 @@ stays_still b bound act done h =
     ap₂ (λ (x y : Bool). not x && y) (off_if (link_at b.links bound.estop.link) bound.estop.link bound.estop.bit b act done h)
     (ap (λ (guards : Bit → Bit → Bool). guards bound.drive bound.estop) (act_guards b act done h))
 
-abbrev pub AreOfTick : List Act → Type 0
-AreOfTick [] = Unit {0}
-AreOfTick (act ∷ more) = IsOfTick act × AreOfTick more
-
-pulled_of_tick : (parcels : List Parcel) → AreOfTick (map (λ parcel. PullFrom (Some parcel)) parcels ++ Happen (Event event.Tick) ∷ [])
-pulled_of_tick [] = (Ticks, tt)
-pulled_of_tick (parcel ∷ parcels) = (Pulls (Some parcel), pulled_of_tick parcels)
-
-pulls_of_tick : (few : Bool) (parcels : List Parcel)
-    → AreOfTick (((if few then PullFrom None ∷ [] else []) ++ map (λ parcel. PullFrom (Some parcel)) parcels) ++ Happen (Event event.Tick) ∷ [])
-pulls_of_tick true parcels = (Pulls None, pulled_of_tick parcels)
-pulls_of_tick false parcels = pulled_of_tick parcels
-
--- all acts of a tick are such
-pub turn_of_tick : (parcels : List Parcel) → AreOfTick (turn_acts (Event event.Tick) parcels)
-turn_of_tick parcels = pulls_of_tick (nat_lt (length parcels) 64) parcels
-
--- a bound that is still before a tick is still and quiet after it
-pub record StaysQuiet (b : Beginning) (bound : BoundSpec) (later earlier : List Act) : Type 0 where
-  pub still : is_still b bound (later ++ earlier) ≡ true
-  pub quiet : StaysOff b bound later earlier
-
-pub ticked_quiet : (b : Beginning) (bound : BoundSpec) (more later earlier : List Act) → AreOfTick more → AllSound b ((more ++ later) ++ earlier)
-    → StaysQuiet b bound later earlier → StaysQuiet b bound (more ++ later) earlier
-ticked_quiet b bound [] later earlier h s q = q
-ticked_quiet b bound (act ∷ more) later earlier h s q =
-    let before = ticked_quiet b bound more later earlier h.1 s.1 q in
-    let still : is_still b bound (act ∷ (more ++ later) ++ earlier) ≡ true = stays_still b bound act ((more ++ later) ++ earlier) h.0 ∙ before.still in
-    record { still = still; quiet = quiet_on b bound act (more ++ later) earlier s still before.quiet }
+-- a line that is a tick
+pub of_tick : (said : Said) → is_tick (line_step said) ≡ true → IsOfTick (Happen said)
+of_tick (Event event.Tick) h = Ticks
+of_tick (Event _) h = absurd (cc h)
+of_tick (App app) h = absurd (cc h)

@@ -1,61 +1,48 @@
--- The acts of a plant by the lines of its script and by what its channel gave. Turns, parcels and acts are listed
--- newest first, the lines of a script oldest first.
-use Rattle.std.specs.Prelude.{◌≡◌, ◌≤◌, ℕ, nat_lt, List, [], ◌∷◌, ◌++◌, length, map, Option, Some, None, if◌then◌else◌}
+-- What a plant may have done, by the lines of its script and by what its channel gave. Acts and what the channel gave are
+-- listed newest first, the lines of a script oldest first.
+use Rattle.std.specs.Prelude.{◌≡◌, ℕ, suc, List, [], ◌∷◌, ◌++◌, All, map, Option, Some, None, if◌then◌else◌}
 use Rattle.std.specs.Str.{bytes_eq}
 use Rattle.black_channel.specs.declared.channel.Parcel.{Parcel}
 use Rattle.multi_master.specs.Calls.{AppView}
-use Rattle.plant_model.specs.declared.event.PlantEvent.TheVariants as event
 use Rattle.plant_model.specs.declared.event.PlantLine.{PlantLine}
 use Rattle.plant_model.specs.declared.event.PlantLine.TheVariants as line
-use Rattle.plant_model.specs.Acts.{Said, Event, App, Act, Start, Happen, PullFrom}
+use Rattle.plant_model.specs.Acts.{Said, Event, App, Act, Start, Happen, PullFrom, line_step}
 use Rattle.plant_conf.specs.declared.conf.LinkConf.{LinkConf}
 use Rattle.plant_model.specs.Fits.{EventFits}
-
--- what happened at a line of the script: what the line says, and the parcels that were pulled then
-pub record Turn : Type 0 where
-  pub said : Said
-  pub pulled : List Parcel
-
--- what may be pulled at a line: at a tick at most 64 parcels, and else none
-abbrev pub MayPull : Said → List Parcel → Type 0
-MayPull (Event event.Tick) parcels = length parcels ≤ 64
-MayPull _ parcels = parcels ≡ []
+use Rattle.plant_model.specs.Pair.{is_tick}
 
 -- what a line says fits the connections: an event of the script; any application does
 abbrev pub SaidFits : List LinkConf → Said → Type 0
 SaidFits links (Event event) = EventFits links event
 SaidFits links (App app) = Unit {0}
 
--- a turn that there may be
-pub record IsTurn (links : List LinkConf) (turn : Turn) : Type 0 where
-  pub fits : SaidFits links turn.said
-  pub few : MayPull turn.said turn.pulled
+-- a plant may have done these acts, and may pull so many parcels before the next line of its script. It starts; then
+-- come the lines, each where no pull may come anymore. So in a tick 64 parcels are pulled, or all until a pull gives
+-- nothing, and none elsewhere
+abbrev pub IsPast : ℕ → List Act → Type 0
+IsPast room (Start ∷ []) = room ≡ 0
+IsPast room (Happen said ∷ acts) = (room ≡ (if is_tick (line_step said) then 64 else 0)) × IsPast 0 acts
+IsPast room (PullFrom None ∷ acts) = (room ≡ 0) × ((left : ℕ) × IsPast (suc left) acts)
+IsPast room (PullFrom (Some parcel) ∷ acts) = IsPast (suc room) acts
+IsPast room _ = ⊥
 
--- the pulls of a tick, the last in front: each gave a parcel, until one gave nothing or 64 were done
-abbrev pub pulls : List Parcel → List Act
-pulls parcels =
-    (if nat_lt (length parcels) 64 then PullFrom None ∷ [] else []) ++ map (λ parcel. PullFrom (Some parcel)) parcels
+-- what was said in these acts, the first of which comes first
+abbrev pub said_in : List Act → List Said
+said_in [] = []
+said_in (Happen said ∷ acts) = said_in acts ++ said ∷ []
+said_in (_ ∷ acts) = said_in acts
 
--- the pulls at a line: a tick alone pulls
-abbrev pub pulls_at : Said → List Parcel → List Act
-pulls_at (Event event.Tick) parcels = pulls parcels
-pulls_at _ parcels = []
+-- a plant of these connections may have done these acts: all that the lines of its script led to
+pub record MayHaveDone (links : List LinkConf) (acts : List Act) : Type 0 where
+  pub past : IsPast 0 acts
+  pub fit : All (SaidFits links) (said_in acts)
 
--- the acts at a line, the last in front: what it says, and then the pulls. So at a tick come first the ticks of all
--- slaves and of all masters with a cycle of the application (`script_part`, `event_call`, `cycle_in`), its offers and
--- the frames that were sent (`offers`, `all_pushes`); and then pull after pull, each with what it leads to
-abbrev pub turn_acts : Said → List Parcel → List Act
-turn_acts said parcels = pulls_at said parcels ++ Happen said ∷ []
-
--- the acts of a plant with these turns: its start, and then line by line
-abbrev pub acts : List Turn → List Act
-acts [] = Start ∷ []
-acts (turn ∷ turns) = turn_acts turn.said turn.pulled ++ acts turns
-
--- what was said in these turns, the first of which comes first
-abbrev pub said_by_turns : List Turn → List Said
-said_by_turns [] = []
-said_by_turns (turn ∷ turns) = said_by_turns turns ++ turn.said ∷ []
+-- the acts at a line after those before, the last in front: what it says, and then the pulls, which gave this. So at a
+-- tick come first the ticks of all slaves and of all masters with a cycle of the application (`script_part`,
+-- `event_call`, `cycle_in`), its offers and the frames that were sent (`offers`, `all_pushes`); and then pull after
+-- pull, each with what it leads to
+abbrev pub with_line : Said → List (Option Parcel) → List Act → List Act
+with_line said gifts acts = map PullFrom gifts ++ Happen said ∷ acts
 
 -- an application that was handed in, by its name
 pub record Named : Type 0 where
