@@ -7,12 +7,11 @@ use Rattle.param_load.specs.declared.entry.Entry.{Entry}
 use Rattle.end_model.specs.Phases.{has_command}
 use Rattle.end_model.specs.Deed.{delivered, is_empty}
 use Rattle.exchange_model.specs.declared.side.Sent.{Sent}
-use Rattle.exchange_model.specs.declared.side.Side.{Side}
 use Rattle.exchange_model.specs.declared.list_monitor.Listed.{Listed}
 use Rattle.exchange_model.specs.Ends.{peer}
 use Rattle.exchange_model.specs.Items.{Item, items_of, items, answers_to}
 use Rattle.exchange_model.specs.Other.{first_of_both, first_other}
-use Rattle.exchange_model.specs.Monitor.{next_sent, is_other_to, number_taken}
+use Rattle.exchange_model.specs.Monitor.{Side, next_sent, is_other_to, number_taken}
 
 -- what is listed of an item
 abbrev pub listing : Item → Listed
@@ -80,7 +79,7 @@ looked_up which v = side_in (list_in which v) (list_in (peer which) v)
 abbrev pub list_after : Side → Side → Entry → List Listed → List Listed
 list_after own other_side x found =
     if is_empty x.sent then found
-    else found ++ (record { sent = next_sent own x.sent; answers = number_taken own other_side (delivered x.what) x.did.took } ∷ [])
+    else found ++ (record { sent = next_sent own.newest x.sent; answers = number_taken own other_side (delivered x.what) x.did.took } ∷ [])
 
 -- the lists after an entry of this end
 abbrev pub lists_after : End → ListView → Entry → ListView

@@ -10,7 +10,6 @@ use Rattle.param_load.specs.declared.entry.Entry.{Entry}
 use Rattle.end_model.specs.Phases.{is_guarded, is_guarded_frame, has_command}
 use Rattle.end_model.specs.Deed.{delivered, is_empty}
 use Rattle.exchange_model.specs.declared.side.Sent.{Sent}
-use Rattle.exchange_model.specs.declared.side.Side.{Side}
 use Rattle.exchange_model.specs.Items.{Item, newest, items_of, items, awaited, answers_to}
 use Rattle.exchange_model.specs.Other.{first_of_both, first_other}
 
@@ -19,9 +18,18 @@ abbrev pub sent_of : Option Item → Option Sent
 sent_of None = None
 sent_of (Some i) = Some (record { number = i.number; bytes = i.bytes })
 
--- what is kept of an end: its newest item, and the item that it awaits
+-- what is kept of an end: its newest item, and an item that is awaited
+pub record Side : Type 0 where
+  pub newest : Option Sent
+  pub awaited : Option Sent
+
+-- so it is after these items, with the item that the end awaits
 abbrev pub kept_of : End → List Item → Side
 kept_of which found = record { newest = sent_of (newest (items_of which found)); awaited = sent_of (awaited found which) }
+
+-- so it is where of each end that item is kept that its peer awaits
+abbrev pub side_by : Side → Side → Side
+side_by own peer = record { newest = own.newest; awaited = peer.awaited }
 
 -- what contracts see of a monitor: the entries that it noted, the number of the first other entry, and what it keeps
 -- of each end
@@ -50,10 +58,6 @@ pub record HasParts (x : Entry) (at : End) (came : List ℕ) (did : Did) (sent :
 -- a monitor that had noted some entries has noted one with these parts too
 pub record NotesParts (old : MonitorView) (at : End) (came : List ℕ) (did : Did) (sent : List ℕ) (new : MonitorView) : Type 0 where
   pub notes : (x : Entry) → HasParts x at came did sent → NotesEntry old x new
-
--- an end that sent nothing
-abbrev pub first_side : Side
-first_side = record { newest = None; awaited = None }
 
 -- the number of a frame that is kept, if one is
 abbrev pub sent_number : Option Sent → Option ℕ
@@ -90,19 +94,19 @@ abbrev pub number_taken : Side → Side → List ℕ → Option Took → Option 
 number_taken own peer bytes None = None
 number_taken own peer bytes (Some t) = number_of bytes (if is_guarded t.command then own.awaited else peer.newest)
 
--- the next item of an end
-abbrev pub next_sent : Side → List ℕ → Sent
-next_sent own frame = record { number = next_number own.newest; bytes = frame }
+-- the next item of an end, after this one
+abbrev pub next_sent : Option Sent → List ℕ → Sent
+next_sent newest frame = record { number = next_number newest; bytes = frame }
 
 -- an end that sends a frame awaits no item until its peer answers it
 abbrev pub sent_next : Side → List ℕ → Side
-sent_next own frame = record { newest = Some (next_sent own frame); awaited = None }
+sent_next own frame = record { newest = Some (next_sent own.newest frame); awaited = None }
 
 -- its peer awaits the new item where it answers the peer's newest one and isn't a Reset frame
 abbrev pub heard_next : Side → Side → List ℕ → Option ℕ → Side
 heard_next own peer frame answer = record {
   newest = peer.newest;
-  awaited = if not (has_command command.Reset frame) && is_answer peer.newest answer then Some (next_sent own frame) else peer.awaited;
+  awaited = if not (has_command command.Reset frame) && is_answer peer.newest answer then Some (next_sent own.newest frame) else peer.awaited;
 }
 
 -- what is kept of an end after an entry of its own that sent this frame

@@ -36,13 +36,16 @@ impl Kept {
         }
     }
 
-    /// This item, if there is one.
-    pub(crate) fn of(item: Option<Sent>) -> Kept
-        ensures { result ≡ item }
+    /// A copy of this item.
+    pub(crate) fn of(sent: &Sent) -> Kept
+        ensures { result ≡ Some sent.now }
     {
-        match item {
-            Some(sent) => Kept { there: true, sent },
-            None => Kept::none(),
+        Kept {
+            there: true,
+            sent: Sent {
+                number: sent.number,
+                bytes: sent.bytes.copy(),
+            },
         }
     }
 
@@ -54,6 +57,16 @@ impl Kept {
         self.there = true;
         self.sent.number = number;
         self.sent.bytes.set(bytes);
+    }
+
+    /// Keeps a copy of this item, if there is one, in place of another. It isn't inlined, since it is rare.
+    #[inline(never)]
+    pub(crate) fn copy(&mut self, item: &Kept)
+        ensures { self.new ≡ item.now }
+    {
+        self.there = item.there;
+        self.sent.number = item.sent.number;
+        self.sent.bytes.set(item.sent.bytes.bytes());
     }
 
     /// Keeps no item any longer.

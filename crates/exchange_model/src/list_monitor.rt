@@ -2,11 +2,11 @@
 ghost use Rattle.std.specs.Prelude.{◌≡◌, ◌<◌, ◌≤◌, ◌+◌, ◌^◌, [], OnOk, OnErr, IfOk};
 ghost use Rattle.end_model.specs.Deed.{delivered};
 ghost use Rattle.exchange_model.specs.Monitor.{next_number, is_other_to};
-ghost use Rattle.exchange_model.specs.ListMonitor.{is_answer_to, last_sent, last_answer, side_in, list_after};
+ghost use Rattle.exchange_model.specs.ListMonitor.{is_answer_to, last_sent, last_answer, answer_in, side_in, list_after};
 
 use crate::kept::Kept;
 use crate::reading::{delivered, is_reset_frame};
-use crate::side::{Sent, Side, is_other, number_taken};
+use crate::side::{Sent, is_other, number_taken};
 use fsoe_base::{End, Memory};
 use param_load::Entry;
 use std::alloc::Global;
@@ -32,17 +32,17 @@ impl Listed {
 }
 
 /// The newest of these items, oldest first.
-fn last_sent(items: &[Listed]) -> Option<Sent>
+fn last_sent(items: &[Listed]) -> Kept
     ensures { result ≡ last_sent items.now }
 {
     if items.is_empty() {
-        return None;
+        return Kept::none();
     }
-    Some(items[items.len() - 1].sent.copy())
+    Kept::of(&items[items.len() - 1].sent)
 }
 
 /// The newest of these items that answers the peer's item with this number.
-fn last_answer(items: &[Listed], number: u64) -> Option<Sent>
+fn last_answer(items: &[Listed], number: u64) -> Kept
     ensures { result ≡ last_answer number items.now }
 {
     let mut left = items.len();
@@ -50,24 +50,19 @@ fn last_answer(items: &[Listed], number: u64) -> Option<Sent>
         left -= 1;
         let item = &items[left];
         if item.is_answer_to(number) {
-            return Some(item.sent.copy());
+            return Kept::of(&item.sent);
         }
     }
-    None
+    Kept::none()
 }
 
-/// The newest item of an end with these items, and the item of its peer that it awaits.
-fn side(mine: &[Listed], theirs: &[Listed]) -> Side
-    ensures { result ≡ side_in mine.now theirs.now }
+/// The newest of these items that answers this one of the peer, if there is one.
+fn answer_in(items: &[Listed], item: &Kept) -> Kept
+    ensures { result ≡ answer_in items.now item.now }
 {
-    let newest = last_sent(mine);
-    let awaited = match &newest {
-        Some(sent) => last_answer(theirs, sent.number),
-        None => None,
-    };
-    Side {
-        newest: Kept::of(newest),
-        awaited: Kept::of(awaited),
+    match item.number() {
+        Some(number) => last_answer(items, number),
+        None => Kept::none(),
     }
 }
 
@@ -81,17 +76,16 @@ fn add(mine: &mut Vec<Listed>, theirs: &[Listed], entry: &Entry) -> Result<bool,
     ensures numbers { OnOk result (next_number (last_sent mine.new.items) ≤ next_number (last_sent mine.old.items) + 1) }
     ensures err { OnErr result (mine.new.items ≡ mine.old.items) }
 {
-    let own = side(mine, theirs);
-    let peer = side(theirs, mine);
+    let newest = last_sent(mine);
     let came = delivered(&entry.what);
-    let awaited = own.awaited.number_of(came);
+    let awaited = answer_in(theirs, &newest).number_of(came);
     if !entry.sent.is_empty() {
         let item = Listed {
             sent: Sent {
-                number: own.newest.next_number(),
+                number: newest.next_number(),
                 bytes: entry.sent.copy(),
             },
-            answers: number_taken(awaited, &peer, came, &entry.did.took),
+            answers: number_taken(awaited, &last_sent(theirs), came, &entry.did.took),
         };
         if mine.push(item).is_err() {
             return Err(Memory);

@@ -2,28 +2,28 @@
 ghost use Rattle.std.specs.Prelude.{◌≡◌};
 
 use crate::reading::delivered;
-use crate::side::{Side, is_other, note};
+use crate::side::{Sender, is_other, note};
 use fsoe_base::{Did, End, FrameBuf};
 use param_load::Entry;
 use std::marker::Model;
 
-/// Finds the first `other` entry of a run of both ends. It keeps of each end its newest item and the item that it
+/// Finds the first `other` entry of a run of both ends. It keeps of each end its newest item and the item that its peer
 /// awaits. Doesn't allocate.
 #[derive(Debug, Drop)]
 pub struct Monitor {
     noted: u64,
     other: Option<u64>,
-    master: Side,
-    slave: Side,
+    master: Sender,
+    slave: Sender,
 }
 
 impl Model for Monitor {
     ghost use Rattle.std.specs.Prelude.{◌≤◌, suc};
-    ghost use Rattle.exchange_model.specs.Monitor.{MonitorView, next_number};
+    ghost use Rattle.exchange_model.specs.Monitor.{MonitorView, next_number, side_by};
 
     ghost Value = { MonitorView };
 
-    ghost view = { λ m. record { noted = m.noted; other = m.other; master = m.master; slave = m.slave } };
+    ghost view = { λ m. record { noted = m.noted; other = m.other; master = side_by m.master m.slave; slave = side_by m.slave m.master } };
 
     ghost invariant = { λ m. (next_number m.master.newest ≤ suc m.noted) × (next_number m.slave.newest ≤ suc m.noted) };
 }
@@ -42,8 +42,8 @@ impl Monitor {
         Monitor {
             noted: 0,
             other: None,
-            master: Side::new(),
-            slave: Side::new(),
+            master: Sender::new(),
+            slave: Sender::new(),
         }
     }
 
@@ -98,8 +98,8 @@ impl Monitor {
         ensures { (w : List Entry) (x : Entry) (sent : List ℕ) → self.now ≡ view_of w → HasParts x at came.now did.now sent → result ≡ is_other (items w) x }
     {
         let awaited = match at {
-            End::Master => self.master.awaited.number_of(came),
-            End::Slave => self.slave.awaited.number_of(came),
+            End::Master => self.slave.awaited().number_of(came),
+            End::Slave => self.master.awaited().number_of(came),
         };
         is_other(did.passed, came, awaited)
     }
@@ -110,8 +110,8 @@ impl Monitor {
         ensures { (w : List Entry) → self.now ≡ view_of w → result ≡ item_number (awaited (items w) by) }
     {
         match by {
-            End::Master => self.master.awaited.number(),
-            End::Slave => self.slave.awaited.number(),
+            End::Master => self.slave.awaited().number(),
+            End::Slave => self.master.awaited().number(),
         }
     }
 }

@@ -1,10 +1,13 @@
 //! What a monitor keeps of one end.
-ghost use Rattle.std.specs.Prelude.{◌≡◌, ◌<◌, ◌^◌};
-ghost use Rattle.exchange_model.specs.Monitor.{first_side, next_number, is_answer, is_other_to, number_of, number_taken, sent_next, heard_next, own_after, peer_after};
+ghost use Rattle.std.specs.Prelude.{◌≡◌, ◌<◌, ◌^◌, ◌&&◌, not, Option, None};
+ghost use Rattle.end_model.specs.Phases.{is_guarded_frame};
+ghost use Rattle.exchange_model.specs.declared.side.Sent.{Sent};
+ghost use Rattle.exchange_model.specs.Monitor.{Side, side_by, has, next_number, is_answer, is_other_to, number_of, number_taken, sent_next, heard_next, own_after, peer_after};
 
 use crate::kept::Kept;
 use crate::reading::{is_guarded, is_guarded_frame, is_reset_frame};
 use fsoe_base::{Did, FrameBuf, Took};
+use std::marker::Model;
 
 /// A frame that an end sent: its number among those of this end, from 1, and its bytes.
 #[derive(Debug, Drop)]
@@ -13,33 +16,44 @@ pub struct Sent {
     pub(crate) bytes: FrameBuf,
 }
 
-/// The newest item of an end, and the item that it awaits.
+/// The newest item of an end, and the item of it that its peer awaits. Mostly these are one, which is kept once.
 #[derive(Debug, Drop)]
-pub struct Side {
+pub struct Sender {
     pub(crate) newest: Kept,
-    pub(crate) awaited: Kept,
+    /// The item that the peer awaits if that isn't the newest.
+    older: Kept,
+    is_newest_awaited: bool,
 }
 
-impl Sent {
-    /// Returns a copy.
-    pub(crate) fn copy(&self) -> Sent
-        ensures { result ≡ self.now }
+impl Model for Sender {
+    ghost use Rattle.std.specs.Prelude.{if◌then◌else◌};
+    ghost use Rattle.exchange_model.specs.Monitor.{Side};
+
+    ghost Value = { Side };
+
+    ghost view = { λ s. record { newest = s.newest; awaited = if s.is_newest_awaited then s.newest else s.older } };
+}
+
+impl Sender {
+    /// What is kept of an end that sent nothing.
+    pub(crate) fn new() -> Sender
+        ensures { result ≡ record { newest = None; awaited = None } }
     {
-        Sent {
-            number: self.number,
-            bytes: self.bytes.copy(),
+        Sender {
+            newest: Kept::none(),
+            older: Kept::none(),
+            is_newest_awaited: false,
         }
     }
-}
 
-impl Side {
-    /// What is kept of an end that sent nothing.
-    pub(crate) fn new() -> Side
-        ensures { result ≡ first_side }
+    /// The item that the peer awaits.
+    pub(crate) fn awaited(&self) -> &Kept
+        ensures { result.now ≡ self.now.awaited }
     {
-        Side {
-            newest: Kept::none(),
-            awaited: Kept::none(),
+        if self.is_newest_awaited {
+            &self.newest
+        } else {
+            &self.older
         }
     }
 
@@ -57,24 +71,24 @@ impl Side {
 /// Returns true if an entry is `other` at which these bytes came, by whether they passed their CRC test, and by the
 /// number of the awaited item, where it has these bytes.
 pub(crate) fn is_other(passed: bool, came: &[u8], awaited: Option<u64>) -> bool
-    ensures { (own : Side) → awaited ≡ number_of came.now own.awaited → result ≡ is_other_to own passed came.now }
+    ensures { (item : Option Sent) → awaited ≡ number_of came.now item → result ≡ (passed && is_guarded_frame came.now && not (has came.now item)) }
 {
-    passed && is_guarded_frame(came) && awaited.is_none()
+    awaited.is_none() && passed && is_guarded_frame(came)
 }
 
 /// The number of the peer's item that was taken from these bytes, if one was, by that of the awaited item, where it has
 /// these bytes.
 pub(crate) fn number_taken(
     awaited: Option<u64>,
-    peer: &Side,
+    newest: &Kept,
     bytes: &[u8],
     took: &Option<Took>,
 ) -> Option<u64>
-    ensures { (own : Side) → awaited ≡ number_of bytes.now own.awaited → result ≡ number_taken own peer.now bytes.now took.now }
+    ensures { (own peer : Side) → awaited ≡ number_of bytes.now own.awaited → newest.now ≡ peer.newest → result ≡ number_taken own peer bytes.now took.now }
 {
     match took {
         Some(took) if is_guarded(took.command) => awaited,
-        Some(_) => peer.newest.number_of(bytes),
+        Some(_) => newest.number_of(bytes),
         None => None,
     }
 }
@@ -82,32 +96,41 @@ pub(crate) fn number_taken(
 /// The end sends a frame: it has a newest item, and awaits none. Its peer awaits this item if it answers the peer's
 /// newest one and isn't a Reset frame.
 #[inline(always)]
-fn send(own: &mut Side, peer: &mut Side, frame: &FrameBuf, answer: Option<u64>)
+fn send(own: &mut Sender, peer: &mut Sender, frame: &FrameBuf, answer: Option<u64>)
     requires { next_number own.old.newest < 2 ^ 64 }
-    ensures own { own.new ≡ sent_next own.old frame.now }
-    ensures peer { peer.new ≡ heard_next own.old peer.old frame.now answer }
+    ensures own { side_by own.new peer.new ≡ sent_next (side_by own.old peer.old) frame.now }
+    ensures peer { side_by peer.new own.new ≡ heard_next (side_by own.old peer.old) (side_by peer.old own.old) frame.now answer }
 {
     let number = own.newest.next_number();
-    if !is_reset_frame(frame.bytes()) && peer.is_answer(answer) {
-        peer.awaited.set(number, frame.bytes());
+    let is_awaited = !is_reset_frame(frame.bytes()) && peer.is_answer(answer);
+    if own.is_newest_awaited && !is_awaited {
+        own.older.copy(&own.newest);
     }
+    own.is_newest_awaited = is_awaited;
     own.newest.set(number, frame.bytes());
-    own.awaited.clear();
+    peer.is_newest_awaited = false;
+    peer.older.clear();
 }
 
 /// Notes an entry in what is kept of its end and of the peer: the bytes that came, what the end did, and the frame that
 /// it sent. Returns true if the entry is `other`.
 #[inline(always)]
-pub(crate) fn note(own: &mut Side, peer: &mut Side, came: &[u8], did: &Did, sent: &FrameBuf) -> bool
+pub(crate) fn note(
+    own: &mut Sender,
+    peer: &mut Sender,
+    came: &[u8],
+    did: &Did,
+    sent: &FrameBuf,
+) -> bool
     requires { next_number own.old.newest < 2 ^ 64 }
-    ensures other { result ≡ is_other_to own.old did.now.passed came.now }
-    ensures own { own.new ≡ own_after own.old sent.now }
-    ensures peer { peer.new ≡ peer_after own.old peer.old came.now did.now.took sent.now }
+    ensures other { result ≡ is_other_to (side_by own.old peer.old) did.now.passed came.now }
+    ensures own { side_by own.new peer.new ≡ own_after (side_by own.old peer.old) sent.now }
+    ensures peer { side_by peer.new own.new ≡ peer_after (side_by own.old peer.old) (side_by peer.old own.old) came.now did.now.took sent.now }
 {
     // The bytes are compared once with those of the awaited item.
-    let awaited = own.awaited.number_of(came);
+    let awaited = peer.awaited().number_of(came);
     if !sent.is_empty() {
-        let answer = number_taken(awaited, peer, came, &did.took);
+        let answer = number_taken(awaited, &peer.newest, came, &did.took);
         send(own, peer, sent, answer);
     }
     is_other(did.passed, came, awaited)

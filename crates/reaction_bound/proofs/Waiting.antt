@@ -10,12 +10,11 @@ use Rattle.param_load.specs.declared.entry.Move.TheVariants as move
 use Rattle.param_load.specs.declared.entry.Entry.{Entry}
 use Rattle.end_model.specs.Phases.{has_command}
 use Rattle.end_model.specs.Deed.{delivered, ticked, is_empty}
-use Rattle.exchange_model.specs.declared.side.Side.{Side}
 use Rattle.exchange_model.specs.Ends.{same_end, peer}
 use Rattle.exchange_model.specs.Items.{Item, items_of, items, awaited}
 use Rattle.exchange_model.specs.Honest.{is_tick}
 use Rattle.exchange_model.specs.Monitor as monitor
-use Rattle.exchange_model.specs.Monitor.{MonitorView, sent_number, next_number, is_answer, next_sent, sent_next, heard_next, side_of, noted_next}
+use Rattle.exchange_model.specs.Monitor.{MonitorView, Side, sent_number, next_number, is_answer, next_sent, sent_next, heard_next, side_of, noted_next}
 use Rattle.exchange_model.specs.Other.{item_number}
 use Rattle.exchange_model.proofs.Worlds.Numbered.{Grown, Same, More, grown, numbered}
 use Rattle.exchange_model.proofs.Joint.Awaited.{awaited_found}
@@ -85,7 +84,7 @@ all-true : (a b : Bool) (m n : ℕ) → a ≡ true → b ≡ false → m ≡ n �
 all-true a b m n h k e = let q : (m == n) ≡ true = eq-eqb m n e in simp (h, k, q)
 
 peer-heard : (which : End) (x : Entry) (w : List Entry) (theirs mine : Side) (answered : Bool) → same_end which x.end ≡ false → sends_item (peer which) (next_number theirs.newest) x w ≡ true → sent_number mine.awaited ≡ awaited_by which w
-    → sent_number (if answered then Some (next_sent theirs x.sent) else mine.awaited) ≡ awaited_by which (x ∷ w) → Next which x w
+    → sent_number (if answered then Some (next_sent theirs.newest x.sent) else mine.awaited) ≡ awaited_by which (x ∷ w) → Next which x w
 peer-heard which x w theirs mine true a s h k = Fresh (next_number theirs.newest) (sym k) s
 peer-heard which x w theirs mine false a s h k = Kept (sym k ∙ h) (λ b. cc)
 

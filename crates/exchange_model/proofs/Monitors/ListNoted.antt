@@ -6,12 +6,11 @@ use Rattle.fsoe_base.specs.declared.command.End.TheVariants as end_name
 use Rattle.param_load.specs.declared.entry.Entry.{Entry}
 use Rattle.end_model.specs.Deed.{delivered, is_empty}
 use Rattle.exchange_model.specs.declared.side.Sent.{Sent}
-use Rattle.exchange_model.specs.declared.side.Side.{Side}
 use Rattle.exchange_model.specs.declared.list_monitor.Listed.{Listed}
 use Rattle.exchange_model.specs.Ends.{peer}
 use Rattle.exchange_model.specs.Items.{Item, newest, newest_answer, answer_among, items_of, items, item_of, item_taken}
 use Rattle.exchange_model.specs.Other.{first_of_both, first_other}
-use Rattle.exchange_model.specs.Monitor.{sent_of, kept_of, next_sent, is_other_to, number_taken}
+use Rattle.exchange_model.specs.Monitor.{Side, sent_of, kept_of, next_sent, is_other_to, number_taken}
 use Rattle.exchange_model.specs.ListMonitor.{listing, listed, ListView, list_of, ListsEntry, last_sent, is_answer_to, last_answer, answer_in, side_in, looked_up, list_after, lists_after, listed_next, later}
 use Rattle.exchange_model.proofs.Worlds.Numbered.{numbered}
 use Rattle.exchange_model.proofs.Monitors.Noted.{newest_next, number_taken_is, other_is}
@@ -72,14 +71,14 @@ looked-up-is end_name.Master w = side-is (items_of end_name.Master (items w)) (i
 looked-up-is end_name.Slave w = side-is (items_of end_name.Slave (items w)) (items_of end_name.Master (items w))
 
 listing-is : (which : End) (x : Entry) (w : List Entry) → x.end ≡ which
-    → (let l : Listed = record { sent = next_sent (kept_of which (items w)) x.sent; answers = number_taken (kept_of which (items w)) (kept_of (peer which) (items w)) (delivered x.what) x.did.took } in l) ≡ listing (item_of x w (items w))
+    → (let l : Listed = record { sent = next_sent (kept_of which (items w)).newest x.sent; answers = number_taken (kept_of which (items w)) (kept_of (peer which) (items w)) (delivered x.what) x.did.took } in l) ≡ listing (item_of x w (items w))
 listing-is which x w h =
     ap₂ (λ (n : ℕ) (answers : Option ℕ). let l : Listed = record { sent = record { number = n; bytes = x.sent }; answers = answers } in l)
     (newest_next (items_of which (items w)) (numbered which w) ∙ ap (λ (it : End). suc (length (items_of it (items w)))) (sym h))
     (number_taken_is which (items w) (delivered x.what) x.did.took ∙ ap (λ (it : End). item_taken (items w) it (delivered x.what) x.did.took) (sym h))
 
 mine-by : (which : End) (x : Entry) (w : List Entry) (none : Bool) → x.end ≡ which
-    → (if none then listed (items_of which (items w)) else listed (items_of which (items w)) ++ (record { sent = next_sent (kept_of which (items w)) x.sent; answers = number_taken (kept_of which (items w)) (kept_of (peer which) (items w)) (delivered x.what) x.did.took } ∷ []))
+    → (if none then listed (items_of which (items w)) else listed (items_of which (items w)) ++ (record { sent = next_sent (kept_of which (items w)).newest x.sent; answers = number_taken (kept_of which (items w)) (kept_of (peer which) (items w)) (delivered x.what) x.did.took } ∷ []))
     ≡ listed (items_of which (if none then items w else item_of x w (items w) ∷ items w))
 mine-by which x w true h = refl
 mine-by end_name.Master x w false h = ap (λ (l : Listed). listed (items_of end_name.Master (items w)) ++ (l ∷ [])) (listing-is end_name.Master x w h) ∙ simp h refl

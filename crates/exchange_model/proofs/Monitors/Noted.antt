@@ -12,11 +12,10 @@ use Rattle.param_load.specs.declared.entry.Entry.{Entry}
 use Rattle.end_model.specs.Phases.{is_guarded, is_guarded_frame, has_command}
 use Rattle.end_model.specs.Deed.{delivered, is_empty}
 use Rattle.exchange_model.specs.declared.side.Sent.{Sent}
-use Rattle.exchange_model.specs.declared.side.Side.{Side}
 use Rattle.exchange_model.specs.Ends.{same_end, peer}
 use Rattle.exchange_model.specs.Items.{Item, newest, items_of, items, item_of, item_taken, awaited, answers_to, newest_answer, answer_among, has_bytes, number_if}
 use Rattle.exchange_model.specs.Other.{is_other, first_of_both, first_other, item_number}
-use Rattle.exchange_model.specs.Monitor.{sent_of, kept_of, MonitorView, view_of, HasParts, NotesEntry, NotesParts, sent_number, has, number_of, next_number, is_answer, is_other_to, number_taken, sent_next, heard_next, own_after, peer_after, side_of, master_after, slave_after, noted_next}
+use Rattle.exchange_model.specs.Monitor.{Side, sent_of, kept_of, MonitorView, view_of, HasParts, NotesEntry, NotesParts, sent_number, has, number_of, next_number, is_answer, is_other_to, number_taken, sent_next, heard_next, own_after, peer_after, side_of, master_after, slave_after, noted_next}
 use Rattle.exchange_model.proofs.Worlds.Projection.{same}
 use Rattle.exchange_model.proofs.Worlds.Numbered.{Numbered, Grown, Same, More, grown, numbered}
 use Rattle.exchange_model.proofs.Joint.Awaited.{awaited_found}
