@@ -34,17 +34,20 @@ pub(crate) struct Ends<A> {
 }
 
 /// Notes in the journal that this parcel was pulled.
+#[tactic(auto, using(std::proofs::lemmas::Grind::common_steps, std::proofs::lemmas::List::set_at))]
 fn note_pulled(to: Place, frame: &FrameBuf, steps: &mut Vec<JournalStep>)
     requires room { vec_len steps.old + 1 ≤ vec_capacity steps.old }
     ensures noted { steps.new.items ≡ steps.old.items ++ step.Pulled (record { to = to; frame = frame.now }) ∷ [] }
     ensures count { vec_len steps.new ≡ vec_len steps.old + 1 }
     ensures capacity { vec_capacity steps.old ≤ vec_capacity steps.new }
 {
-    let parcel = Parcel {
-        to,
-        frame: frame.copy(),
-    };
-    note(steps, JournalStep::Pulled(parcel));
+    // The bytes are written where the parcel lies, so that its room isn't moved.
+    let place = steps.len();
+    let blank = FrameBuf::new();
+    note(steps, JournalStep::Pulled(Parcel { to, frame: blank }));
+    if let JournalStep::Pulled(parcel) = &mut steps[place] {
+        parcel.frame.set(frame.bytes());
+    }
 }
 
 /// Notes an event of the script in the journal.

@@ -55,6 +55,7 @@ pub(crate) fn watchdog_in(terms: Option<&Terms>) -> Option<u16>
 
 /// Notes an entry of a slave, by whether it is a tick, the bytes that came, what the slave did and the frame that it
 /// sent.
+#[inline(always)]
 fn note_slave(slave: &Slave, watch: &mut Watch, tick: bool, came: &[u8], did: &Did, sent: &FrameBuf)
     requires few { (monitor_in watch.old).noted + 1 < 2 ^ 64 }
     ensures noted { NotesParts (monitor_in watch.old) side.Slave came.now did.now sent.now (monitor_in watch.new) }
@@ -137,6 +138,7 @@ impl Link {
     /// Notes an entry of the master, by whether it is a tick, the bytes that came, what it did, the frame that it sent,
     /// and the watchdog in the terms after it, which is used only if it took ProcessData.
     #[tactic(auto, using(crate::proofs::Linked::master_noted, crate::proofs::Linked::notes_one))]
+    #[inline(always)]
     pub(crate) fn note_master(
         &mut self,
         tick: bool,

@@ -38,6 +38,7 @@ impl Watch {
 
     /// Notes the next entry of the pair by its parts: its end, whether it is a tick, the bytes that came, what the end
     /// did, the frame sent. The watchdog in the terms after it is used only if the end took ProcessData.
+    #[inline(always)]
     pub(crate) fn note_parts(
         &mut self,
         at: End,
