@@ -33,10 +33,10 @@ use Rattle.plant_model.specs.declared.event.PlantEvent.TheVariants as event
 use Rattle.plant_model.specs.declared.journal.JournalStep.{JournalStep}
 use Rattle.plant_model.specs.declared.journal.JournalStep.TheVariants as step
 use Rattle.plant_model.specs.Acts.{Beginning, Event, App, Act, Happen, PullFrom, settings, delivery_call, call_of, calls, masters, journal, is_cut, newer, push_to, pushes_of, all_pushes}
-use Rattle.plant_model.specs.Uses.{Use, Trace}
+use Rattle.plant_model.specs.Uses.{Use}
 use Rattle.plant_model.specs.Gifts.{place_of, sent_uses}
 use Rattle.plant_model.specs.Pair.{next_of, pair, link_at, pairs_by}
-use Rattle.plant_core.specs.Doing.{next_uses, one_each, frames_pushed, SlavesTick, HaveParts, MastersNoted, MasterActs, OffersNoted, GoesOn, Delivers}
+use Rattle.plant_core.specs.Doing.{one_each, frames_pushed, SlavesTick, HaveParts, MastersNoted, MasterActs, OffersNoted, GoesOn, Delivers}
 use Rattle.plant_core.specs.Link.{LinkView, LinkStands}
 use Rattle.plant_core.specs.Standing.{PlantView, LinkIs, LinksAre}
 use Rattle.plant_core.proofs.Acting.{trace_append}
@@ -45,7 +45,7 @@ use Rattle.plant_core.proofs.Linked.{whatever}
 use Rattle.plant_core.proofs.Linking.{from_one, each_at, each_map}
 use Rattle.plant_model.proofs.Masters.{master_with, mastered, offers_by}
 use Rattle.plant_core.proofs.Offering.{offers_send}
-use Rattle.plant_core.proofs.OneDeed.{one_links, one_pushes, quiet_pushes}
+use Rattle.plant_core.proofs.OneDeed.{act_done, one_links, one_pushes, quiet_pushes}
 use Rattle.plant_core.proofs.Readers.{told_by}
 
 -- the entries of the slaves, and then of the masters, in a tick
@@ -133,20 +133,14 @@ tick_goes old new before after c = record {
       (λ k link v p. record { stands = subst (λ (w : List Entry). LinkStands link v w) (sym (ticked link k steps)) p.stands; cut = p.cut }) in
       let journal_is : new.journal ≡ journal b (act ∷ done) =
       c.offers.steps ∙ append_assoc steps (s ∷ []) offers ∙ ap₂ (λ (js more : List JournalStep). js ++ s ∷ more) h.journal_is offers_is in
-      let uses : all_pushes b.links cut (journal b done) (journal b (act ∷ done)) ≡ frames_pushed side.Master (slave_next steps) cut b.links ++ frames_pushed side.Slave (master_next steps) cut b.links =
-      ap₂ (all_pushes b.links cut) (sym h.journal_is) (sym journal_is ∙ c.offers.steps)
-      ∙ tick_pushes b.links cut steps ((steps ++ s ∷ []) ++ offers)
+      let first : List Use = frames_pushed side.Master (slave_next steps) cut b.links in
+      let second : List Use = frames_pushed side.Slave (master_next steps) cut b.links in
+      let acted = act_done b act done old new new.links ((steps ++ s ∷ []) ++ offers) (first ++ second) before after h refl c.offers.steps journal_is stands (c.offers.links b.links cut (steps ++ s ∷ []) both)
+      (tick_pushes b.links cut steps ((steps ++ s ∷ []) ++ offers)
       (λ at k link. ap (λ (os : List JournalStep). frames_of at (pair link k ((steps ++ s ∷ []) ++ os))) offers_is
-      ∙ offers_send (changed (settings b) b.app (Tick ∷ calls b done)) at link k (steps ++ s ∷ [])) in
-      record {
-        has_done = record {
-          master = stands;
-          links = subst (λ (js : List JournalStep). LinksAre b.links cut (pairs_by js) new.links) (sym c.offers.steps) (c.offers.links b.links cut (steps ++ s ∷ []) both);
-          journal_is = journal_is;
-        };
-        channel = subst (λ (us : List Use). Trace us before after) (sym uses)
-            (trace_append (frames_pushed side.Master (slave_next steps) cut b.links) (frames_pushed side.Slave (master_next steps) cut b.links) before c.between after slaves.channel masters.channel);
-      };
+      ∙ offers_send (changed (settings b) b.app (Tick ∷ calls b done)) at link k (steps ++ s ∷ [])))
+      (trace_append first second before c.between after slaves.channel masters.channel) in
+      record { has_done = acted.has_done; channel = acted.pushed };
 }
 
 -- what changes with another application
@@ -170,20 +164,12 @@ app_goes old new app t c = record {
       (λ k link v p. record { stands = subst (λ (w : List Entry). LinkStands link v w) (sym (no_entry link k steps s refl)) p.stands; cut = p.cut }) in
       let journal_is : new.journal ≡ journal b (act ∷ done) =
       c.offers.steps ∙ append_assoc steps (s ∷ []) offers ∙ ap₂ (λ (js more : List JournalStep). js ++ s ∷ more) h.journal_is offers_is in
-      let uses : all_pushes b.links cut (journal b done) (journal b (act ∷ done)) ≡ [] =
-      ap₂ (all_pushes b.links cut) (sym h.journal_is) (sym journal_is ∙ c.offers.steps)
-      ∙ quiet_pushes b.links cut steps ((steps ++ s ∷ []) ++ offers)
+      let acted = act_done b act done old new new.links ((steps ++ s ∷ []) ++ offers) [] t t h refl c.offers.steps journal_is stands (c.offers.links b.links cut (steps ++ s ∷ []) same)
+      (quiet_pushes b.links cut steps ((steps ++ s ∷ []) ++ offers)
       (λ at k link. ap (λ (os : List JournalStep). frames_of at (pair link k ((steps ++ s ∷ []) ++ os))) offers_is
       ∙ offers_send (changed (settings b) b.app (call ∷ calls b done)) at link k (steps ++ s ∷ [])
-      ∙ ap (frames_of at) (no_entry link k steps s refl)) in
-      record {
-        has_done = record {
-          master = stands;
-          links = subst (λ (js : List JournalStep). LinksAre b.links cut (pairs_by js) new.links) (sym c.offers.steps) (c.offers.links b.links cut (steps ++ s ∷ []) same);
-          journal_is = journal_is;
-        };
-        channel = subst (λ (us : List Use). Trace us t t) (sym uses) refl;
-      };
+      ∙ ap (frames_of at) (no_entry link k steps s refl))) refl in
+      record { has_done = acted.has_done; channel = acted.pushed };
 }
 
 -- what changes with a frame for the master of connection n
@@ -288,25 +274,15 @@ frame_goes old new n frame before after c = record {
         ∙ ap (λ (o : Option Call). journal b done ++ (offers_by b o done ++ s ∷ [])) (sym calls_it) in
         let told = c.told.shows (settings b) b.app (call ∷ calls b done) stands in
         let parts = frame_parts b done old.master n c.place frame c.did c.sent c.terms link (steps ++ offers) c.placed.number beside.is calls_it h.master c.answers told (sym journal_is ∙ new_is) in
-        let uses : all_pushes b.links cut (journal b done) (journal b (act ∷ done)) ≡ next_uses n side.Master (move.Deliver frame) link (pair link n (steps ++ offers)) (cut n) =
-        ap₂ (all_pushes b.links cut) (sym h.journal_is) (sym journal_is ∙ new_is)
-        ∙ later_pushes b.links cut steps (steps ++ offers) ((steps ++ offers) ++ s ∷ [])
+        let acted = act_done b act done old new (slice_set c.mid c.place c.is) ((steps ++ offers) ++ s ∷ []) (sent_uses (place_of n side.Slave) c.sent c.was.cut) before after h c.links new_is journal_is (called b act done call new.master calls_it stands)
+        (one_links b.links cut (steps ++ offers) s n side.Master (move.Deliver frame) c.place c.mid c.was c.is offered c.placed.at c.placed.number one
+        (λ l is held.
+        c.acts.stands l (pair l n (steps ++ offers)) (next_of side.Master (move.Deliver frame) l (pair l n (steps ++ offers))) held
+        (frame_parts b done old.master n c.place frame c.did c.sent c.terms l (steps ++ offers) c.placed.number is calls_it h.master c.answers told (sym journal_is ∙ new_is))) c.cut)
+        (later_pushes b.links cut steps (steps ++ offers) ((steps ++ offers) ++ s ∷ [])
         (λ at k l. ap (λ (os : List JournalStep). frames_of at (pair l k (steps ++ os))) offers_is ∙ offers_send (changed (settings b) b.app (call ∷ calls b done)) at l k steps)
-        ∙ one_pushes b.links cut (steps ++ offers) s n side.Master (move.Deliver frame) c.place link one beside.is c.placed.number in
-        let sent_is : next_uses n side.Master (move.Deliver frame) link (pair link n (steps ++ offers)) (cut n) ≡ sent_uses (place_of n side.Slave) c.sent c.was.cut =
-        ap₂ (sent_uses (place_of n side.Slave)) parts.parts.sent_is (sym beside.holds.cut) in
-        record {
-          has_done = record {
-            master = called b act done call new.master calls_it stands;
-            links = subst (λ (vs : List LinkView). LinksAre b.links cut (pairs_by new.journal) vs) (sym c.links)
-                (subst (λ (z : List JournalStep). LinksAre b.links cut (pairs_by z) (slice_set c.mid c.place c.is)) (sym new_is)
-                (one_links b.links cut (steps ++ offers) s n side.Master (move.Deliver frame) c.place c.mid c.was c.is offered c.placed.at c.placed.number one
-                (λ l is held.
-                c.acts.stands l (pair l n (steps ++ offers)) (next_of side.Master (move.Deliver frame) l (pair l n (steps ++ offers))) held
-                (frame_parts b done old.master n c.place frame c.did c.sent c.terms l (steps ++ offers) c.placed.number is calls_it h.master c.answers told (sym journal_is ∙ new_is))) c.cut));
-            journal_is = journal_is;
-          };
-          channel = (before, pulled, subst (λ (us : List Use). Trace us before after) (sym (uses ∙ sent_is)) c.acts.channel);
-        };
+        ∙ one_pushes b.links cut (steps ++ offers) s n side.Master (move.Deliver frame) c.place link one beside.is c.placed.number
+        ∙ ap₂ (sent_uses (place_of n side.Slave)) parts.parts.sent_is (sym beside.holds.cut)) c.acts.channel in
+        record { has_done = acted.has_done; channel = (before, pulled, acted.pushed) };
   };
 }

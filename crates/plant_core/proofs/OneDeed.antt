@@ -139,6 +139,20 @@ pub record Acted (b : Beginning) (act : Act) (done : List Act) (new : PlantView)
   pub has_done : HasDone b new (act ∷ done)
   pub pushed : Trace (all_pushes b.links (λ k. is_cut k (act ∷ done)) (journal b done) (journal b (act ∷ done))) before after
 
+pub act_done : (b : Beginning) (act : Act) (done : List Act) (old new : PlantView) (vs : List LinkView) (now : List JournalStep) (us : List Use) (before after : Told) → HasDone b old done → new.links ≡ vs → new.journal ≡ now → new.journal ≡ journal b (act ∷ done)
+    → StandsFor (settings b) b.app new.master (calls b (act ∷ done)) → LinksAre b.links (λ k. is_cut k (act ∷ done)) (pairs_by now) vs → all_pushes b.links (λ k. is_cut k (act ∷ done)) old.journal now ≡ us → Trace us before after
+    → Acted b act done new before after
+act_done b act done old new vs now us before after h links journal journal_is master stand pushes trace =
+    let cut : ℕ → Bool = λ k. is_cut k (act ∷ done) in
+    record {
+      has_done = record {
+        master = master;
+        links = subst (λ (z : List LinkView). LinksAre b.links cut (pairs_by new.journal) z) (sym links) (subst (λ (js : List JournalStep). LinksAre b.links cut (pairs_by js) vs) (sym journal) stand);
+        journal_is = journal_is;
+      };
+      pushed = subst (λ (z : List Use). Trace z before after) (sym (ap₂ (all_pushes b.links cut) (sym h.journal_is) (sym journal_is ∙ journal) ∙ pushes)) trace;
+    }
+
 pub slave_acted : (b : Beginning) (act : Act) (done : List Act) (old new : PlantView) (s : JournalStep) (n : ℕ) (what : Move) (before after : Told) → IsAtSlave b act s n what → SlaveChange old new s n what before after
     → HasDone b old done → Acted b act done new before after
 slave_acted b act done old new s n what before after a c h =
@@ -149,21 +163,11 @@ slave_acted b act done old new s n what before after a c h =
     each_map (LinkIs (λ k. is_cut k done) (pairs_by steps)) (LinkIs cut (pairs_by steps)) 1 b.links old.links h.links (λ k link v p. record { stands = p.stands; cut = p.cut ∙ sym (a.cuts k done) }) in
     let journal_is : new.journal ≡ journal b (act ∷ done) =
     c.journal ∙ ap₂ (λ (xs ys : List JournalStep). xs ++ ys) h.journal_is (sym a.steps) ∙ sym (quiet_journal b act done a.call) in
-    let uses : all_pushes b.links cut (journal b done) (journal b (act ∷ done)) ≡ next_uses n side.Slave what beside.link (pair beside.link n steps) c.was.cut =
-    ap₂ (all_pushes b.links cut) (sym h.journal_is) (sym journal_is ∙ c.journal)
-    ∙ one_pushes b.links cut steps s n side.Slave what c.place beside.link a.one beside.is c.placed.number
-    ∙ ap (next_uses n side.Slave what beside.link (pair beside.link n steps)) (a.cuts n done ∙ sym beside.holds.cut) in
-    record {
-      has_done = record {
-        master = quiet_calls b act done new.master a.call (subst (λ (m : MultiView). StandsFor (settings b) b.app m (calls b done)) (sym c.master) h.master);
-        links = subst (λ (vs : List LinkView). LinksAre b.links cut (pairs_by new.journal) vs) (sym c.links)
-            (subst (λ (js : List JournalStep). LinksAre b.links cut (pairs_by js) (slice_set old.links c.place c.is)) (sym c.journal)
-            (one_links b.links cut steps s n side.Slave what c.place old.links c.was c.is links c.placed.at c.placed.number a.one
-            (λ link is stands. (c.acts.acts link (pair link n steps) stands).stands) c.cut));
-        journal_is = journal_is;
-      };
-      pushed = subst (λ (us : List Use). Trace us before after) (sym uses) (c.acts.acts beside.link (pair beside.link n steps) beside.holds.stands).channel;
-    }
+    act_done b act done old new (slice_set old.links c.place c.is) (steps ++ s ∷ []) (next_uses n side.Slave what beside.link (pair beside.link n steps) c.was.cut) before after h c.links c.journal journal_is
+    (quiet_calls b act done new.master a.call (subst (λ (m : MultiView). StandsFor (settings b) b.app m (calls b done)) (sym c.master) h.master))
+    (one_links b.links cut steps s n side.Slave what c.place old.links c.was c.is links c.placed.at c.placed.number a.one (λ link is stands. (c.acts.acts link (pair link n steps) stands).stands) c.cut)
+    (one_pushes b.links cut steps s n side.Slave what c.place beside.link a.one beside.is c.placed.number ∙ ap (next_uses n side.Slave what beside.link (pair beside.link n steps)) (a.cuts n done ∙ sym beside.holds.cut))
+    (c.acts.acts beside.link (pair beside.link n steps) beside.holds.stands).channel
 
 -- each profile allows a session id of 16 bits
 short_id : (profile : Profile) (id : ℕ) → id ≤ 65535 → IsTrue (allows_id profile id)
@@ -246,19 +250,11 @@ master_nonce old new n id t c = record {
       let beside = each_at (LinkIs cut (pairs_by steps)) 1 b.links old.links c.place n c.was h.links c.placed.at (from_one n c.place c.placed.number) in
       let journal_is : new.journal ≡ journal b (act ∷ done) =
       c.journal ∙ ap (λ (js : List JournalStep). js ++ s ∷ []) h.journal_is in
-      let uses : all_pushes b.links cut (journal b done) (journal b (act ∷ done)) ≡ [] =
-      ap₂ (all_pushes b.links cut) (sym h.journal_is) (sym journal_is ∙ c.journal) ∙ one_pushes b.links cut steps s n side.Master (move.Nonce id) c.place beside.link one beside.is c.placed.number in
-      record {
-        has_done = record {
-          master = c.follows.stands (settings b) b.app (calls b done) h.master;
-          links = subst (λ (vs : List LinkView). LinksAre b.links cut (pairs_by new.journal) vs) (sym c.links)
-              (subst (λ (js : List JournalStep). LinksAre b.links cut (pairs_by js) (slice_set old.links c.place c.is)) (sym c.journal)
-              (one_links b.links cut steps s n side.Master (move.Nonce id) c.place old.links c.was c.is h.links c.placed.at c.placed.number one
-              (λ link is stands. c.noted.stands link (pair link n steps) (next_of side.Master (move.Nonce id) link (pair link n steps)) stands (record { parts = record { end_is = refl; came_is = refl; did_is = refl; sent_is = refl }; tick_is = refl; watchdog_is = tt })) c.cut));
-          journal_is = journal_is;
-        };
-        channel = subst (λ (us : List Use). Trace us t t) (sym uses) refl;
-      };
+      let acted = act_done b act done old new (slice_set old.links c.place c.is) (steps ++ s ∷ []) [] t t h c.links c.journal journal_is (c.follows.stands (settings b) b.app (calls b done) h.master)
+      (one_links b.links cut steps s n side.Master (move.Nonce id) c.place old.links c.was c.is h.links c.placed.at c.placed.number one
+      (λ link is stands. c.noted.stands link (pair link n steps) (next_of side.Master (move.Nonce id) link (pair link n steps)) stands (record { parts = record { end_is = refl; came_is = refl; did_is = refl; sent_is = refl }; tick_is = refl; watchdog_is = tt })) c.cut)
+      (one_pushes b.links cut steps s n side.Master (move.Nonce id) c.place beside.link one beside.is c.placed.number) refl in
+      record { has_done = acted.has_done; channel = acted.pushed };
 }
 
 -- what a cut changes
@@ -285,26 +281,19 @@ cut_event old new n cut t c = record {
       let now : ℕ → Bool = λ k. is_cut k (act ∷ done) in
       let steps : List JournalStep = old.journal in
       let journal_is : new.journal ≡ journal b (act ∷ done) = c.journal ∙ ap (λ (js : List JournalStep). js ++ s ∷ []) h.journal_is in
-      let uses : all_pushes b.links now (journal b done) (journal b (act ∷ done)) ≡ [] =
-      quiet_pushes b.links now (journal b done) (journal b (act ∷ done)) (λ at k link. ap (frames_of at) (no_entry link k (journal b done) s refl)) in
+      let acted = act_done b act done old new (slice_set old.links c.place c.is) (steps ++ s ∷ []) [] t t h c.links c.journal journal_is
+      (subst (λ (m : MultiView). StandsFor (settings b) b.app m (calls b done)) (sym c.master) h.master)
+      (each_set (LinkIs was (pairs_by steps)) (LinkIs now (pairs_by (steps ++ s ∷ []))) 1 b.links old.links c.place n c.was c.is h.links c.placed.at (from_one n c.place c.placed.number)
+      (λ link is p.
       record {
-        has_done = record {
-          master = subst (λ (m : MultiView). StandsFor (settings b) b.app m (calls b done)) (sym c.master) h.master;
-          links = subst (λ (vs : List LinkView). LinksAre b.links now (pairs_by new.journal) vs) (sym c.links)
-              (subst (λ (js : List JournalStep). LinksAre b.links now (pairs_by js) (slice_set old.links c.place c.is)) (sym c.journal)
-              (each_set (LinkIs was (pairs_by steps)) (LinkIs now (pairs_by (steps ++ s ∷ []))) 1 b.links old.links c.place n c.was c.is h.links c.placed.at (from_one n c.place c.placed.number)
-              (λ link is p.
-              record {
-                stands = subst (λ (w : List Entry). LinkStands link c.is w) (sym (no_entry link n steps s refl)) (same_stands link (pair link n steps) c.was c.is cut c.cut_is p.stands);
-                cut = ap (λ (v : LinkView). v.cut) c.cut_is ∙ ap (λ (z : Bool). if z then cut else is_cut n done) (sym (eq-eqb n n refl));
-              })
-              (λ k link v other p.
-              record {
-                stands = subst (λ (w : List Entry). LinkStands link v w) (sym (no_entry link k steps s refl)) p.stands;
-                cut = p.cut ∙ ap (λ (z : Bool). if z then cut else is_cut k done) (sym (not_same n k (λ e. other (sym e))));
-              })));
-          journal_is = journal_is;
-        };
-        channel = subst (λ (us : List Use). Trace us t t) (sym uses) refl;
-      };
+        stands = subst (λ (w : List Entry). LinkStands link c.is w) (sym (no_entry link n steps s refl)) (same_stands link (pair link n steps) c.was c.is cut c.cut_is p.stands);
+        cut = ap (λ (v : LinkView). v.cut) c.cut_is ∙ ap (λ (z : Bool). if z then cut else is_cut n done) (sym (eq-eqb n n refl));
+      })
+      (λ k link v other p.
+      record {
+        stands = subst (λ (w : List Entry). LinkStands link v w) (sym (no_entry link k steps s refl)) p.stands;
+        cut = p.cut ∙ ap (λ (z : Bool). if z then cut else is_cut k done) (sym (not_same n k (λ e. other (sym e))));
+      }))
+      (quiet_pushes b.links now steps (steps ++ s ∷ []) (λ at k link. ap (frames_of at) (no_entry link k steps s refl))) refl in
+      record { has_done = acted.has_done; channel = acted.pushed };
 }

@@ -40,7 +40,7 @@ use Rattle.plant_model.proofs.Lines.{line_said}
 use Rattle.plant_model.proofs.Growing.{IsOne, pair_other, sent_in, pushes_each}
 use Rattle.plant_core.proofs.Linking.{each_count, each_from}
 use Rattle.plant_core.proofs.Offering.{offers_send}
-use Rattle.plant_core.proofs.OneDeed.{frame_in, one_frames, apart, quiet_calls, quiet_journal, quiet_pushes}
+use Rattle.plant_core.proofs.OneDeed.{act_done, frame_in, one_frames, apart, quiet_calls, quiet_journal, quiet_pushes}
 
 -- acts after others
 more_acts : (more some done : List Act) → (more ++ some) ++ done ≡ more ++ (some ++ done)
@@ -120,26 +120,18 @@ nowhere_delivered old new parcel t far same_master same_links written = record {
         let none : call_of b act ≡ None = ap (λ (o : Option LinkConf). delivery_call o parcel.to.end n parcel.frame) (nowhere b.links n away) in
         let one : IsOne s n parcel.to.end (move.Deliver parcel.frame) = record { part = λ k. refl } in
         let journal_is : new.journal ≡ journal b (act ∷ done) = written ∙ ap (λ (js : List JournalStep). js ++ s ∷ []) h.journal_is ∙ sym (quiet_journal b act done none) in
-        let uses : all_pushes b.links cut (journal b done) (journal b (act ∷ done)) ≡ [] =
-        ap₂ (all_pushes b.links cut) (sym h.journal_is) (sym journal_is ∙ written)
-        ∙ ap₂ (λ (xs ys : List Use). xs ++ ys)
-        (absent_of b.links cut steps s n side.Slave parcel.to.end (move.Deliver parcel.frame) one (ends_of b.links n away))
-        (absent_of b.links cut steps s n side.Master parcel.to.end (move.Deliver parcel.frame) one (ends_of b.links n away)) in
+        let acted = act_done b act done old new old.links (steps ++ s ∷ []) [] t t h same_links written journal_is
+        (quiet_calls b act done new.master none (subst (λ (m : MultiView). StandsFor (settings b) b.app m (calls b done)) (sym same_master) h.master))
+        (each_from (LinkIs cut (pairs_by steps)) (LinkIs cut (pairs_by (steps ++ s ∷ []))) 1 b.links old.links h.links
+        (λ k link v from below p.
         record {
-          has_done = record {
-            master = quiet_calls b act done new.master none (subst (λ (m : MultiView). StandsFor (settings b) b.app m (calls b done)) (sym same_master) h.master);
-            links = subst (λ (vs : List LinkView). LinksAre b.links cut (pairs_by new.journal) vs) (sym same_links)
-                (subst (λ (js : List JournalStep). LinksAre b.links cut (pairs_by js) old.links) (sym written)
-                (each_from (LinkIs cut (pairs_by steps)) (LinkIs cut (pairs_by (steps ++ s ∷ []))) 1 b.links old.links h.links
-                (λ k link v from below p.
-                record {
-                  stands = subst (λ (w : List Entry). LinkStands link v w) (sym (pair_other link k steps s n parcel.to.end (move.Deliver parcel.frame) one (not_within b.links n k away from below))) p.stands;
-                  cut = p.cut;
-                })));
-            journal_is = journal_is;
-          };
-          channel = (t, pulled, subst (λ (us : List Use). Trace us t t) (sym uses) refl);
-        };
+          stands = subst (λ (w : List Entry). LinkStands link v w) (sym (pair_other link k steps s n parcel.to.end (move.Deliver parcel.frame) one (not_within b.links n k away from below))) p.stands;
+          cut = p.cut;
+        }))
+        (ap₂ (λ (xs ys : List Use). xs ++ ys)
+        (absent_of b.links cut steps s n side.Slave parcel.to.end (move.Deliver parcel.frame) one (ends_of b.links n away))
+        (absent_of b.links cut steps s n side.Master parcel.to.end (move.Deliver parcel.frame) one (ends_of b.links n away))) refl in
+        record { has_done = acted.has_done; channel = (t, pulled, acted.pushed) };
   };
 }
 
