@@ -1,5 +1,5 @@
-//! The tables by which the register takes a byte, or two, at once. Where bytes are folded in, the two bytes of a value are
-//! swapped: the byte that comes first is then the low one, so that two are folded in by one step.
+//! The tables by which the register takes a byte, or two, at once. Where bytes are folded in, the two bytes of a value
+//! are swapped: the byte that comes first is then the low one, so that two are folded in by one step.
 
 ghost use Rattle.std.specs.Prelude.{◌≡◌, ℕ, List, [], ◌∷◌, ◌++◌};
 ghost use Rattle.std.specs.Int.{w16, swap_bytes};
