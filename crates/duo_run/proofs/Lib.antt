@@ -2,3 +2,4 @@ pub mod Pair
 pub mod Pairs
 pub mod Numbers
 pub mod Conversion
+pub mod Common

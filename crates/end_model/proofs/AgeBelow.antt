@@ -1,18 +1,7 @@
 -- In each run the age is below the limit.
+use Rattle.end_model.proofs.Common.{Ages, Answers, Command, Deed, Did, DropsReset, Expires, IsRun, MasterSettings, Move, OfMaster, OfSlave, PeerResets, Reaction, Refuses, ResetsItself, Rests, SendsAgain, Setup, SlaveSettings, State, age, is_empty, limit, slave_age, slave_limit, state_of, ticks, whole, with_answer}
 use Rattle.std.proofs.Common.{◌≡◌, ◌≢◌, ◌<◌, ℕ, suc, List, [], ◌∷◌, Bool, true, false, refl, arith}
-use Rattle.fsoe_base.specs.declared.command.State.{State}
 use Rattle.fsoe_base.specs.declared.command.State.TheVariants as state
-use Rattle.fsoe_base.specs.declared.command.Command.{Command}
-use Rattle.fsoe_base.specs.declared.did.Did.{Did}
-use Rattle.param_load.specs.declared.entry.Move.{Move}
-use Rattle.param_load.specs.declared.master_settings.MasterSettings.{MasterSettings}
-use Rattle.param_load.specs.declared.slave_settings.SlaveSettings.{SlaveSettings}
-use Rattle.end_model.specs.Setup.{Setup, OfMaster, OfSlave}
-use Rattle.end_model.specs.Deed.{Deed, is_empty}
-use Rattle.end_model.specs.Payloads.{whole}
-use Rattle.end_model.specs.Readiness.{state_of, ticks, slave_age, age, slave_limit, limit}
-use Rattle.end_model.specs.Runs.{IsRun}
-use Rattle.end_model.specs.Reactions.{with_answer, Reaction, Rests, Ages, Expires, SendsAgain, ResetsItself, DropsReset, Refuses, PeerResets, Answers}
 use Rattle.end_model.proofs.Runs.{deed}
 use Rattle.end_model.proofs.Shown.{slave-run}
 use Rattle.end_model.proofs.SlaveShown.{SlaveShows, IsTested, Limits, limits, parameters}

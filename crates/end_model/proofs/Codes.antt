@@ -1,39 +1,17 @@
 -- The codes that an end finds and sends are at most 0Bh.
+use Rattle.end_model.proofs.Common.{Answers, Cause, Code, Command, Deed, Did, Expires, Fails, Frame, IsProper, IsRun, MasterSettings, Move, OfMaster, OfSlave, PeerResets, Profile, Reaction, Refuses, ResetsItself, SendsAgain, Setup, SlaveSettings, State, Taking, WrongContents, WrongReset, code, contents, data_fault, first_of, has_command, id_len, master_fault, number_at, parts, piece_len, rule_len, slave_fault, slave_upload_fault, step, uploaded}
 use Rattle.std.proofs.Common.{◌≡◌, ◌==◌, ◌≤◌, ◌+◌, ℕ, nat_eq, nat_le, nat_lt, Bool, true, false, ◌&&◌, not, List, ◌++◌, length, take, Option, Some, None, IfSome, IfErr, Result, Ok, Err, if◌then◌else◌, refl, subst, arith}
 use Rattle.std.specs.Option.{option_or}
 use Rattle.std.specs.Cmp.Lexicographic.{pointwise}
-use Rattle.fsoe_base.specs.declared.command.Code.{Code}
-use Rattle.fsoe_base.specs.declared.command.State.{State}
 use Rattle.fsoe_base.specs.declared.command.State.TheVariants as state
-use Rattle.fsoe_base.specs.declared.command.Command.{Command}
 use Rattle.fsoe_base.specs.declared.command.Command.TheVariants as command
-use Rattle.fsoe_base.specs.declared.did.Cause.{Cause}
 use Rattle.fsoe_base.specs.declared.did.Cause.TheVariants as cause
-use Rattle.fsoe_base.specs.declared.did.Did.{Did}
-use Rattle.fsoe_base.specs.Command.{code}
-use Rattle.fsoe_frame.specs.Parts.{Frame}
-use Rattle.seq_chain.specs.Cover.{first_of}
 use Rattle.seq_chain.specs.Reset.{reset_crcs, zeros_follow, reset_view}
 use Rattle.param_load.specs.declared.app_rule.AppRule.{AppRule}
 use Rattle.param_load.specs.declared.contents.Expected.{Expected}
 use Rattle.param_load.specs.declared.contents.Expected.TheVariants as expected
-use Rattle.param_load.specs.declared.entry.Move.{Move}
-use Rattle.param_load.specs.declared.master_settings.MasterSettings.{MasterSettings}
-use Rattle.param_load.specs.declared.slave_settings.SlaveSettings.{SlaveSettings}
-use Rattle.param_load.specs.declared.profile.Profile.{Profile}
-use Rattle.param_load.specs.AppRule.{rule_len}
 use Rattle.param_load.specs.Contents.{fails, word_is, communication_fault, field_fault}
-use Rattle.param_load.specs.Payload.{number_at}
-use Rattle.param_load.specs.Profile.{id_len}
-use Rattle.end_model.specs.Setup.{Setup, OfMaster, OfSlave, piece_len}
-use Rattle.end_model.specs.Phases.{has_command}
-use Rattle.end_model.specs.Deed.{Deed}
-use Rattle.end_model.specs.Payloads.{uploaded}
-use Rattle.end_model.specs.Verdict.{slave_upload_fault, data_fault, slave_fault, master_fault, contents}
-use Rattle.end_model.specs.Step.{step}
-use Rattle.end_model.specs.Runs.{IsProper, IsRun}
 use Rattle.end_model.specs.Codes.{IsOwnReset}
-use Rattle.end_model.specs.Reactions.{parts, Fails, WrongReset, WrongContents, Taking, Reaction, Expires, SendsAgain, ResetsItself, Refuses, PeerResets, Answers}
 use Rattle.end_model.proofs.SoundRuns.{reacts}
 use Rattle.end_model.proofs.Taken.{exchange_of, answer_is, master_answers}
 

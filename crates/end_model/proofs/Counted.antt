@@ -1,17 +1,13 @@
 -- The number of application parameters in an upload is that of the slave's rule.
+use Rattle.end_model.proofs.Common.{Code, Profile, code, id_len, number_at}
 use Rattle.std.proofs.Common.{◌≡◌, ◌==◌, ℕ, ◌+◌, ◌≤◌, ◌<◌, nat_le, nat_lt, Bool, true, false, ◌&&◌, not, List, ◌++◌, length, Option, Some, None, if◌then◌else◌, refl, ◌∙◌, inl, inr, arith}
 use Rattle.std.specs.Option.{option_or}
 use Rattle.std.proofs.lemmas.List.{get_or_append_left}
 use Rattle.std.proofs.lemmas.Bool.{eqb-true}
 use Rattle.std.proofs.lemmas.Bool.Decides.{leb_tells}
-use Rattle.fsoe_base.specs.declared.command.Code.{Code}
-use Rattle.fsoe_base.specs.Command.{code}
 use Rattle.param_load.specs.declared.app_rule.AppRule.{AppRule}
 use Rattle.param_load.specs.declared.contents.Expected.TheVariants as expected
-use Rattle.param_load.specs.declared.profile.Profile.{Profile}
 use Rattle.param_load.specs.Contents.{fails, word_is, communication_fault, app_fault, app_part, field_fault, padding_fault, contents_fault}
-use Rattle.param_load.specs.Payload.{number_at}
-use Rattle.param_load.specs.Profile.{id_len}
 
 first : (a b : Option Code) → option_or a b ≡ None → a ≡ None
 first None b e = refl

@@ -1,29 +1,11 @@
 -- A master in state Session that took no frame of the session yet: it sent one frame, which carries the first piece of
 -- its session id.
+use Rattle.end_model.proofs.Common.{AfterConnection, AfterSession, Answers, Cause, Command, Deed, Did, Dropped, Expires, Frame, HasNoSession, IsInSession, IsNextPhase, IsResetFrame, IsRun, MasterFirstData, MasterGoesOn, MasterMoreData, MasterNextPhase, MasterSettings, MasterStarts, Move, OfMaster, PeerResets, Reaction, Refuses, ResetsItself, Rests, SendsAgain, Setup, Taking, command_of, crc_0, download_frame, first_of, frame_of, id_sent, is_reset, kept, newest_crc, nonce, own, padded, piece, piece_len, received, receives, seal, sends, session_payload, since, state_of, taken, with_answer}
 use Rattle.std.proofs.Common.{◌≡◌, ℕ, List, [], ◌∷◌, Bool, false, Option, Some, None, unwrap_or, refl, sym, ap, subst, ◌∙◌}
 use Rattle.std.specs.Option.{option_or}
 use Rattle.fsoe_base.specs.declared.command.State.TheVariants as state
-use Rattle.fsoe_base.specs.declared.command.Command.{Command}
 use Rattle.fsoe_base.specs.declared.command.Command.TheVariants as command
-use Rattle.fsoe_base.specs.declared.did.Cause.{Cause}
-use Rattle.fsoe_base.specs.declared.did.Dropped.{Dropped}
-use Rattle.fsoe_base.specs.declared.did.Did.{Did}
-use Rattle.fsoe_base.specs.Command.{command_of}
-use Rattle.fsoe_frame.specs.Parts.{Frame, frame_of}
-use Rattle.seq_chain.specs.Cover.{first_of, crc_0}
 use Rattle.seq_chain.specs.Sealing as sealing
-use Rattle.param_load.specs.declared.entry.Move.{Move}
-use Rattle.param_load.specs.declared.master_settings.MasterSettings.{MasterSettings}
-use Rattle.param_load.specs.Payload.{session_payload, padded}
-use Rattle.end_model.specs.Setup.{Setup, OfMaster, sends, receives, piece_len}
-use Rattle.end_model.specs.Phases.{is_reset}
-use Rattle.end_model.specs.Deed.{Deed}
-use Rattle.end_model.specs.Chain.{since, own, taken, kept, newest_crc, seal}
-use Rattle.end_model.specs.Payloads.{nonce, id_sent, piece}
-use Rattle.end_model.specs.Readiness.{state_of}
-use Rattle.end_model.specs.Step.{download_frame}
-use Rattle.end_model.specs.Runs.{IsRun}
-use Rattle.end_model.specs.Reactions.{HasNoSession, IsNextPhase, AfterSession, AfterConnection, IsResetFrame, IsInSession, received, with_answer, Taking, MasterStarts, MasterGoesOn, MasterNextPhase, MasterFirstData, MasterMoreData, Reaction, Rests, SendsAgain, Answers, Expires, ResetsItself, Refuses, PeerResets}
 use Rattle.end_model.proofs.Runs.{deed}
 use Rattle.end_model.proofs.SoundRuns.{reacted}
 use Rattle.end_model.proofs.ReadBack.{read_back}

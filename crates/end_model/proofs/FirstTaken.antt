@@ -1,31 +1,11 @@
 -- A slave that took one frame of a session: it is the first Session frame, and the slave's answer to it carries the
 -- first piece of its session id.
+use Rattle.end_model.proofs.Common.{AfterConnection, AfterSession, Answers, Cause, Command, Deed, Did, Dropped, DropsReset, Expires, Frame, HasNoSession, IsHandshake, IsInSession, IsNextPhase, IsRun, IsValid, Move, OfConnection, OfParameter, OfSession, OfSlave, PeerResets, Reaction, Refuses, ResetsItself, SendsAgain, Setup, SlaveFirstData, SlaveGoesOn, SlaveMoreData, SlaveNextPhase, SlaveRejoins, SlaveSettings, SlaveStarts, State, Taking, count_in, crc_0, first_of, frame_len, frame_of, id_piece, id_sent, is_data, is_reset, kept, newest_crc, nonce, own, padded, phase_of, phase_of_frame, piece, piece_len, received, receives, same_phase, seal, sends, session_payload, since, slave_answer, state_of, taken, taken_link, uploaded, with_answer}
 use Rattle.std.proofs.Common.{◌≡◌, ◌≢◌, ℕ, suc, List, [], ◌∷◌, ◌++◌, length, take, Bool, false, Option, Some, None, if◌then◌else◌, unwrap_or, IsTrue, refl, sym, ap, subst, ◌∙◌}
 use Rattle.std.specs.Option.{option_or}
-use Rattle.fsoe_base.specs.declared.command.State.{State}
 use Rattle.fsoe_base.specs.declared.command.State.TheVariants as state
-use Rattle.fsoe_base.specs.declared.command.Command.{Command}
 use Rattle.fsoe_base.specs.declared.command.Command.TheVariants as command
-use Rattle.fsoe_base.specs.declared.did.Cause.{Cause}
-use Rattle.fsoe_base.specs.declared.did.Dropped.{Dropped}
-use Rattle.fsoe_base.specs.declared.did.Did.{Did}
-use Rattle.fsoe_base.specs.Data.{is_data}
-use Rattle.fsoe_base.specs.Lengths.{frame_len}
-use Rattle.fsoe_frame.specs.Parts.{Frame, frame_of}
-use Rattle.seq_chain.specs.Cover.{first_of, crc_0}
 use Rattle.seq_chain.specs.Sealing as sealing
-use Rattle.param_load.specs.declared.entry.Move.{Move}
-use Rattle.param_load.specs.declared.slave_settings.SlaveSettings.{SlaveSettings}
-use Rattle.param_load.specs.Payload.{session_payload, padded}
-use Rattle.end_model.specs.Setup.{Setup, OfSlave, sends, receives, piece_len}
-use Rattle.end_model.specs.Phases.{phase_of, phase_of_frame, is_reset, same_phase}
-use Rattle.end_model.specs.Deed.{Deed}
-use Rattle.end_model.specs.Chain.{since, own, taken, kept, newest_crc, taken_link, seal}
-use Rattle.end_model.specs.Payloads.{nonce, id_sent, uploaded, piece, count_in}
-use Rattle.end_model.specs.Readiness.{state_of}
-use Rattle.end_model.specs.Step.{id_piece, slave_answer}
-use Rattle.end_model.specs.Runs.{IsRun}
-use Rattle.end_model.specs.Reactions.{HasNoSession, IsHandshake, OfSession, OfConnection, OfParameter, IsNextPhase, AfterSession, AfterConnection, IsValid, IsInSession, received, with_answer, Taking, SlaveRejoins, SlaveStarts, SlaveGoesOn, SlaveNextPhase, SlaveFirstData, SlaveMoreData, Reaction, SendsAgain, DropsReset, Answers, Expires, ResetsItself, Refuses, PeerResets}
 use Rattle.end_model.proofs.Runs.{deed}
 use Rattle.end_model.proofs.SoundRuns.{handshake-on, reacted}
 use Rattle.end_model.proofs.ReadBack.{read_back}

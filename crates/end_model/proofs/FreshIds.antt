@@ -1,35 +1,17 @@
 -- What a fresh session id excludes for certain, at a slave and at a master.
+use Rattle.end_model.proofs.Common.{Command, Deed, Frame, IsRun, IsValid, Link, MasterSettings, OfMaster, OfSlave, Profile, Refused, Setup, SlaveSettings, Valid, allowed, command_of, crc_0, first_conn, first_of, fits, frame_of, has_conn, id_len, is_guarded, is_slave_conn, kept, master_allows, newest_crc, nonce, on_fault, on_verdict, own, parts, piece_len, receives, sends, session_id, since, slave_allows, state_of, taken, taken_link, upload_is_whole, verdict, whole}
 use Rattle.std.proofs.Common.{◌≡◌, ◌≢◌, ℕ, ◌<◌, ◌≤◌, ◌==◌, nat_le, List, [], ◌∷◌, length, take, bit_xor, true, false, Option, Some, None, IsTrue, if◌then◌else◌, unwrap_or, refl, sym, ap, ◌∙◌, arith}
 use Rattle.std.proofs.lemmas.Bool.Decides.{nat_tests}
 use Rattle.std.proofs.lemmas.List.{length-take}
 use Rattle.fsoe_base.specs.declared.command.State.TheVariants as state
-use Rattle.fsoe_base.specs.declared.command.Command.{Command}
 use Rattle.fsoe_base.specs.declared.command.Command.TheVariants as command
 use Rattle.fsoe_base.specs.Codes.{wrong_crc}
-use Rattle.fsoe_base.specs.Command.{command_of}
-use Rattle.fsoe_frame.specs.Parts.{Frame, frame_of}
 use Rattle.fsoe_frame.proofs.Places as places
-use Rattle.seq_chain.specs.declared.link.Link.{Link}
-use Rattle.seq_chain.specs.Cover.{first_of, crc_0}
 use Rattle.seq_chain.specs.Sealing as sealing
 use Rattle.seq_chain.specs.FreshIds.{first_number, step_in_last}
 use Rattle.seq_chain.proofs.AnotherLast.{first_refused, second_refused}
 use Rattle.seq_chain.proofs.FirstGroups.{first_told, differ_in_load, crc_0_within}
 use Rattle.seq_chain.proofs.Received.{received_some}
-use Rattle.param_load.specs.declared.profile.Profile.{Profile}
-use Rattle.param_load.specs.declared.master_settings.MasterSettings.{MasterSettings}
-use Rattle.param_load.specs.declared.slave_settings.SlaveSettings.{SlaveSettings}
-use Rattle.param_load.specs.Profile.{id_len}
-use Rattle.end_model.specs.Setup.{Setup, OfMaster, OfSlave, sends, receives, piece_len}
-use Rattle.end_model.specs.Phases.{is_guarded}
-use Rattle.end_model.specs.Deed.{Deed}
-use Rattle.end_model.specs.Chain.{since, own, taken, kept, newest_crc, taken_link, fits}
-use Rattle.end_model.specs.Payloads.{nonce, session_id, first_conn, whole}
-use Rattle.end_model.specs.Readiness.{state_of, slave_allows, master_allows, upload_is_whole, allowed}
-use Rattle.end_model.specs.Verdict.{Valid, Refused, is_slave_conn, has_conn, verdict}
-use Rattle.end_model.specs.Step.{on_fault, on_verdict}
-use Rattle.end_model.specs.Runs.{IsRun}
-use Rattle.end_model.specs.Reactions.{parts, IsValid}
 use Rattle.end_model.specs.FreshIds.{id_front, DifferInFront, NotByStep, EndsByCrcs}
 use Rattle.end_model.proofs.CrcTest.{ComesToCrcs, valid_is, crc_refused}
 use Rattle.end_model.proofs.IdFront.{first_load, load_bytes, load_len, front_is}

@@ -1,18 +1,9 @@
 -- How the frames of a session begin.
+use Rattle.end_model.proofs.Common.{Command, Deed, MasterSettings, OfMaster, OfSlave, Setup, SlaveSettings, after_phase, after_pieces, count_in, download_frame, held, is_reset, master_answer, offer, own, pay, phase_of, phase_of_frame, piece_len, pieces, sealed, sends, session_id, since, slave_answer, with_data}
 use Rattle.std.proofs.Common.{◌≡◌, ℕ, suc, List, Bool, true, false, nat_lt, replicate, if◌then◌else◌, refl}
 use Rattle.fsoe_base.specs.declared.command.State.TheVariants as state
-use Rattle.fsoe_base.specs.declared.command.Command.{Command}
 use Rattle.fsoe_base.specs.declared.command.Command.TheVariants as command
-use Rattle.param_load.specs.declared.master_settings.MasterSettings.{MasterSettings}
-use Rattle.param_load.specs.declared.slave_settings.SlaveSettings.{SlaveSettings}
-use Rattle.end_model.specs.Setup.{Setup, OfMaster, OfSlave, sends, piece_len}
-use Rattle.end_model.specs.Phases.{is_reset, phase_of, phase_of_frame}
-use Rattle.end_model.specs.Deed.{Deed}
-use Rattle.end_model.specs.Chain.{since, own}
-use Rattle.end_model.specs.Payloads.{pay, pieces, count_in, session_id}
-use Rattle.end_model.specs.Readiness.{offer, held}
 pub use Rattle.end_model.specs.Reactions.{IsInSession}
-use Rattle.end_model.specs.Step.{sealed, with_data, after_phase, after_pieces, download_frame, master_answer, slave_answer}
 
 in_session-if : (b : Bool) (f g : List ℕ) → IsInSession f → IsInSession g → IsInSession (if b then f else g)
 in_session-if true f g h k = h

@@ -1,21 +1,12 @@
 -- What each verdict says of the frame that it is on.
+use Rattle.end_model.proofs.Common.{Code, Command, Deed, Drop, Fails, IsRead, IsResetFrame, IsValid, NotAllowed, Refused, Setup, UnknownCommand, Valid, Verdict, Wrong, WrongConnection, WrongContents, WrongCrc, WrongReset, allowed, code, contents, fits, frame_len, has_conn, is_repeat, judged, judged_contents, judged_session, kept, parts, receives, session_fault, since, verdict}
 use Rattle.std.proofs.Common.{◌≡◌, ◌≢◌, ℕ, List, length, Bool, true, false, Option, Some, None, Ok, refl, ap, sym, ◌∙◌}
 use Rattle.std.specs.Cmp.Lexicographic.{same_text, other_text}
-use Rattle.fsoe_base.specs.declared.command.Code.{Code}
-use Rattle.fsoe_base.specs.declared.command.Command.{Command}
 use Rattle.fsoe_base.specs.declared.command.Command.TheVariants as command
 use Rattle.fsoe_base.specs.declared.did.Dropped.TheVariants as why
-use Rattle.fsoe_base.specs.Command.{code}
-use Rattle.fsoe_base.specs.Lengths.{frame_len}
 use Rattle.seq_chain.specs.declared.opened.Opened.{Opened}
 use Rattle.seq_chain.proofs.OpenedFrame as opens
 use Rattle.seq_chain.proofs.OpenedFrame.{ComesToCommand, Tested, tested}
-use Rattle.end_model.specs.Setup.{Setup, receives}
-use Rattle.end_model.specs.Deed.{Deed}
-use Rattle.end_model.specs.Chain.{since, kept, fits}
-use Rattle.end_model.specs.Readiness.{allowed}
-use Rattle.end_model.specs.Verdict.{Verdict, Valid, Drop, Refused, Wrong, has_conn, contents, judged_contents, session_fault, judged_session, judged, is_repeat, verdict}
-use Rattle.end_model.specs.Reactions.{parts, IsRead, IsResetFrame, IsValid, Fails, UnknownCommand, WrongReset, NotAllowed, WrongConnection, WrongCrc, WrongContents}
 
 -- how the tests of a frame can end, and what they said
 pub data Judged (s : Setup) (e : List Deed) (bytes : List ℕ) : Verdict → Type 0 where

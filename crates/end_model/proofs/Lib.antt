@@ -25,3 +25,4 @@ pub mod NoneYet
 pub mod FirstTaken
 pub mod FirstSent
 pub mod FreshIds
+pub mod Common

@@ -1,12 +1,7 @@
 -- What is noted of the last frames of a session.
+use Rattle.end_model.proofs.Common.{Deed, Link, Setup, delivered, first_of, frame_of, is_empty, newest_crc, of_session, own, own_link, receives, sends, taken, taken_link}
 use Rattle.std.proofs.Common.{◌≡◌, ℕ, List, [], ◌∷◌, Bool, true, false, Option, Some, is_some, if◌then◌else◌, refl}
-use Rattle.fsoe_frame.specs.Parts.{frame_of}
-use Rattle.seq_chain.specs.declared.link.Link.{Link}
-use Rattle.seq_chain.specs.Cover.{first_of}
 use Rattle.seq_chain.specs.Numbers.{last_crc}
-use Rattle.end_model.specs.Setup.{Setup, sends, receives}
-use Rattle.end_model.specs.Deed.{Deed, delivered, is_empty, of_session}
-use Rattle.end_model.specs.Chain.{own, taken, newest_crc, own_link, taken_link}
 
 skips : (l : ℕ) (b : Bool) (before : Option Link) (noted : Link) (frames : List (List ℕ)) (f : List ℕ) → last_crc before ≡ newest_crc l frames → noted.crc ≡ first_of (frame_of l f).crcs
     → last_crc (if b then before else Some noted) ≡ newest_crc l (if b then frames else f ∷ frames)

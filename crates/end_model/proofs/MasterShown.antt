@@ -1,20 +1,9 @@
 -- The outputs of a master are those that looking back gives.
+use Rattle.end_model.proofs.Common.{Ages, Answers, Command, Deed, Did, Expires, IsInSession, MasterFirstData, MasterGoesOn, MasterMoreData, MasterNextPhase, MasterSettings, MasterStarts, Move, OfMaster, PeerResets, Reaction, Refuses, ResetsItself, Rests, SendsAgain, Setup, State, Taking, out_after, outputs, phase_of, phase_of_frame, received, state_of, takes_frame, ticks, with_data, zeros}
 use Rattle.std.proofs.Common.{◌≡◌, ◌≢◌, ℕ, suc, ◌+◌, ◌<◌, List, ◌∷◌, Bool, true, false, nat_lt, if◌then◌else◌, refl, sym, subst, ◌∙◌, arith}
-use Rattle.fsoe_base.specs.declared.command.State.{State}
 use Rattle.fsoe_base.specs.declared.command.State.TheVariants as state
-use Rattle.fsoe_base.specs.declared.command.Command.{Command}
 use Rattle.fsoe_base.specs.declared.command.Command.TheVariants as command
-use Rattle.fsoe_base.specs.declared.did.Did.{Did}
-use Rattle.param_load.specs.declared.entry.Move.{Move}
 use Rattle.param_load.specs.declared.entry.Move.TheVariants as move
-use Rattle.param_load.specs.declared.master_settings.MasterSettings.{MasterSettings}
-use Rattle.end_model.specs.Setup.{Setup, OfMaster}
-use Rattle.end_model.specs.Phases.{phase_of, phase_of_frame}
-use Rattle.end_model.specs.Deed.{Deed}
-use Rattle.end_model.specs.Readiness.{state_of, ticks}
-use Rattle.end_model.specs.Step.{takes_frame, with_data}
-use Rattle.end_model.specs.Outputs.{zeros, outputs, out_after}
-use Rattle.end_model.specs.Reactions.{IsInSession, received, Taking, MasterStarts, MasterGoesOn, MasterNextPhase, MasterFirstData, MasterMoreData, Reaction, Rests, Ages, Expires, SendsAgain, ResetsItself, Refuses, PeerResets, Answers}
 use Rattle.end_model.proofs.Runs.{deed}
 use Rattle.end_model.proofs.Heads.{data_phase}
 use Rattle.end_model.proofs.SoundRuns.{handshake-data, before-data}

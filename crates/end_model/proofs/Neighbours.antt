@@ -1,26 +1,12 @@
 -- Frames that one end sends after one another in a session have different CRC_0.
+use Rattle.end_model.proofs.Common.{Answers, Command, Deed, Did, Expires, Frame, IsRun, Link, Move, OfMaster, OfSlave, PeerResets, Reaction, Refuses, ResetsItself, SendsAgain, Setup, Taking, command_byte, first_of, frame_of, is_empty, is_length, newest_crc, offer, own, own_link, received, receives, sends, since, taken, takes_frame, with_answer}
 use Rattle.std.proofs.Common.{◌≡◌, ℕ, ◌<◌, List, [], ◌∷◌, length, Bool, true, false, Option, Some, None, IfSome, IsTrue, if◌then◌else◌, refl, sym, subst, ◌∙◌, arith}
 use Rattle.std.proofs.lemmas.Bool.Decides.{nat_tests}
-use Rattle.fsoe_base.specs.declared.command.Command.{Command}
 use Rattle.fsoe_base.specs.declared.command.Command.TheVariants as command
-use Rattle.fsoe_base.specs.declared.did.Did.{Did}
-use Rattle.fsoe_base.specs.Command.{command_byte}
-use Rattle.fsoe_base.specs.Lengths.{is_length}
-use Rattle.fsoe_frame.specs.Parts.{Frame, frame_of}
-use Rattle.seq_chain.specs.declared.link.Link.{Link}
-use Rattle.seq_chain.specs.Cover.{first_of}
 use Rattle.seq_chain.specs.Sealing as sealing
 use Rattle.seq_chain.proofs.Steps.{number_within, after_link}
-use Rattle.param_load.specs.declared.entry.Move.{Move}
 use Rattle.param_load.specs.declared.entry.Move.TheVariants as move
-use Rattle.end_model.specs.Setup.{Setup, OfMaster, OfSlave, sends, receives}
-use Rattle.end_model.specs.Deed.{Deed, is_empty}
-use Rattle.end_model.specs.Chain.{since, own, taken, newest_crc, own_link}
-use Rattle.end_model.specs.Readiness.{offer}
-use Rattle.end_model.specs.Step.{takes_frame}
-use Rattle.end_model.specs.Runs.{IsRun}
 use Rattle.end_model.specs.Neighbours.{IsOtherThanNewest, NeighboursDiffer}
-use Rattle.end_model.specs.Reactions.{received, with_answer, Taking, Reaction, Expires, SendsAgain, ResetsItself, Refuses, PeerResets, Answers}
 use Rattle.end_model.proofs.Heads.{IsInSession}
 use Rattle.end_model.proofs.SoundRuns.{reacted}
 use Rattle.end_model.proofs.Taken.{exchange_of, answer_is, master_answers}

@@ -1,23 +1,9 @@
 -- What is known of deeds in which no frame was taken, or none was sent; and the first byte of a frame that is read.
+use Rattle.end_model.proofs.Common.{Command, Deed, Did, FrameAt, Link, Move, OfMaster, OfSlave, Setup, State, command_in, command_of, delivered, frame_at, frame_len, frame_of, id_sent, is_empty, is_length, joined, joined_with, of_session, own, own_link, phase_after, phase_of, phase_of_frame, phase_of_known, phase_taken, receives, since, taken, taken_link}
 use Rattle.std.proofs.Common.{◌≡◌, ◌≢◌, ℕ, ◌==◌, List, [], ◌∷◌, length, Bool, true, false, Option, Some, None, is_some, if◌then◌else◌, IsTrue, refl, sym, ap, ◌∙◌, arith}
 use Rattle.std.proofs.lemmas.Bool.Decides.{nat_tests}
-use Rattle.fsoe_base.specs.declared.command.State.{State}
 use Rattle.fsoe_base.specs.declared.command.State.TheVariants as state
-use Rattle.fsoe_base.specs.declared.command.Command.{Command}
-use Rattle.fsoe_base.specs.declared.did.Did.{Did}
 use Rattle.fsoe_base.specs.declared.did.Took.{Took}
-use Rattle.fsoe_base.specs.Command.{command_of}
-use Rattle.fsoe_base.specs.Lengths.{is_length, frame_len}
-use Rattle.fsoe_frame.specs.Parts.{frame_of}
-use Rattle.fsoe_frame.proofs.Places.{FrameAt, frame_at}
-use Rattle.seq_chain.specs.declared.link.Link.{Link}
-use Rattle.param_load.specs.declared.entry.Move.{Move}
-use Rattle.end_model.specs.Setup.{Setup, OfMaster, OfSlave, receives}
-use Rattle.end_model.specs.Phases.{command_in, phase_of_known, phase_of, phase_of_frame}
-use Rattle.end_model.specs.Deed.{Deed, delivered, is_empty, of_session}
-use Rattle.end_model.specs.Chain.{since, own, taken, own_link, taken_link}
-use Rattle.end_model.specs.Payloads.{joined, joined_with, id_sent}
-use Rattle.end_model.specs.Readiness.{phase_taken, phase_after}
 use Rattle.end_model.proofs.Runs.{deed}
 
 -- nothing is noted where no frame was sent

@@ -1,28 +1,11 @@
 -- In each run, what an end does at its next event is one of the reactions.
+use Rattle.end_model.proofs.Common.{AfterConnection, AfterSession, Ages, Answers, Code, Command, Deed, DropsInReset, DropsLength, DropsRepeat, DropsReset, Expires, Fails, HasNoSession, Holds, IsExchange, IsHandshake, IsProper, IsReaction, IsResetFrame, IsValid, MasterFirstData, MasterGoesOn, MasterMoreData, MasterNextPhase, MasterSettings, MasterStarts, Move, OfConnection, OfMaster, OfParameter, OfSession, OfSlave, PeerResets, Puts, Refuses, ResetsItself, Rests, SendsAgain, SetsNonce, Setup, SlaveFirstData, SlaveGoesOn, SlaveMoreData, SlaveNextPhase, SlaveRejoins, SlaveSettings, SlaveStarts, State, Taking, Verdict, after_phase, age, all_pieces, deed_of, download_frame, dropped, failed_with, first_of, is_data, is_reset, kept, limit, nothing, on_expiry, on_fault, on_reset_frame, on_verdict, phase_of, phase_of_frame, pieces_sent, received, since, slave_answer, state_of, step, takes_frame, upload_is_whole, verdict, with_answer, with_data}
 use Rattle.std.proofs.Common.{◌≡◌, ◌≢◌, ℕ, suc, List, Bool, true, false, nat_lt, nat_le, Some, None, ◌==◌, if◌then◌else◌, refl, sym, subst, ◌∙◌}
 use Rattle.std.proofs.lemmas.Bool.{eqb-true, eqb-false, ltb-true, ltb-false, leb-true, leb-false}
-use Rattle.fsoe_base.specs.declared.command.State.{State}
 use Rattle.fsoe_base.specs.declared.command.State.TheVariants as state
-use Rattle.fsoe_base.specs.declared.command.Command.{Command}
 use Rattle.fsoe_base.specs.declared.command.Command.TheVariants as command
-use Rattle.fsoe_base.specs.declared.command.Code.{Code}
 use Rattle.fsoe_base.specs.declared.did.Dropped.TheVariants as why
-use Rattle.fsoe_base.specs.Data.{is_data}
-use Rattle.fsoe_base.specs.Did.{nothing, dropped}
-use Rattle.seq_chain.specs.Cover.{first_of}
-use Rattle.param_load.specs.declared.entry.Move.{Move}
 use Rattle.param_load.specs.declared.entry.Move.TheVariants as move
-use Rattle.param_load.specs.declared.master_settings.MasterSettings.{MasterSettings}
-use Rattle.param_load.specs.declared.slave_settings.SlaveSettings.{SlaveSettings}
-use Rattle.end_model.specs.Setup.{Setup, OfMaster, OfSlave}
-use Rattle.end_model.specs.Phases.{phase_of, phase_of_frame, is_reset}
-use Rattle.end_model.specs.Deed.{Deed}
-use Rattle.end_model.specs.Chain.{since, kept}
-use Rattle.end_model.specs.Readiness.{state_of, age, limit, upload_is_whole}
-use Rattle.end_model.specs.Verdict.{Verdict, verdict}
-use Rattle.end_model.specs.Step.{takes_frame, on_fault, on_reset_frame, on_verdict, on_expiry, with_data, slave_answer, download_frame, after_phase, deed_of, step}
-use Rattle.end_model.specs.Runs.{IsProper}
-use Rattle.end_model.specs.Reactions.{HasNoSession, IsHandshake, OfSession, OfConnection, OfParameter, AfterSession, AfterConnection, IsResetFrame, IsValid, Fails, failed_with, received, with_answer, pieces_sent, all_pieces, IsExchange, Taking, SlaveRejoins, SlaveStarts, SlaveGoesOn, SlaveNextPhase, SlaveFirstData, SlaveMoreData, MasterStarts, MasterGoesOn, MasterNextPhase, MasterFirstData, MasterMoreData, Puts, Holds, SetsNonce, Rests, Ages, Expires, SendsAgain, ResetsItself, DropsLength, DropsRepeat, DropsInReset, DropsReset, Refuses, PeerResets, Answers, IsReaction}
 use Rattle.end_model.proofs.Heads.{IsInSession, master_frame, slave_frame, data_phase}
 use Rattle.end_model.proofs.Judged.{Judged, HasOtherLength, IsKept, FailsTest, FailsContents, ResetsFrame, IsNext, is_judged}
 use Rattle.end_model.proofs.Ways.{SlaveWay, Start, More, Next, First, Data, slave_way, MasterWay, Echo, Reply, master_way}

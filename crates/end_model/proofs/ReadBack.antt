@@ -1,17 +1,9 @@
 -- A frame that an end seals is read back as it was made.
+use Rattle.end_model.proofs.Common.{Command, Deed, Frame, OfMaster, OfSlave, Setup, bytes_of, command_byte, crcs_from, frame_layout, frame_of, group_count, is_length, newest_crc, own_link, receives, seal, sends, taken}
 use Rattle.std.proofs.Common.{◌≡◌, ℕ, suc, ◌+◌, ◌/◌, List, [], ◌∷◌, length, IsTrue, refl, sym, ap, subst, ◌∙◌, arith}
 use Rattle.std.proofs.lemmas.Bool.Decides.{nat_tests}
-use Rattle.fsoe_base.specs.declared.command.Command.{Command}
-use Rattle.fsoe_base.specs.Command.{command_byte}
-use Rattle.fsoe_base.specs.Lengths.{is_length, group_count}
 use Rattle.fsoe_frame.specs.Layout.{groups}
-use Rattle.fsoe_frame.specs.Parts.{Frame, frame_of, bytes_of}
-use Rattle.fsoe_frame.proofs.Places.{frame_layout}
-use Rattle.seq_chain.specs.Cover.{crcs_from}
 use Rattle.seq_chain.specs.Sealing as sealing
-use Rattle.end_model.specs.Setup.{Setup, OfMaster, OfSlave, sends, receives}
-use Rattle.end_model.specs.Deed.{Deed}
-use Rattle.end_model.specs.Chain.{taken, newest_crc, own_link, seal}
 
 -- an end sends a valid number of safe data bytes
 pub valid_length : (s : Setup) → IsTrue (is_length (sends s))

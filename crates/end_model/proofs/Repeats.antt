@@ -1,23 +1,13 @@
 -- A frame that is kept as the one taken last is not taken again.
+use Rattle.end_model.proofs.Common.{Deed, Setup, State, command_of, dropped, frame_len, frame_of, is_repeat, judged, kept, on_verdict, receives, since, state_of, step}
 use Rattle.std.proofs.Common.{◌≡◌, ℕ, List, length, Bool, true, false, Option, Some, None, ◌==◌, if◌then◌else◌, refl, ap, ◌∙◌}
 use Rattle.std.specs.Cmp.Lexicographic.{bytes_decides}
 use Rattle.std.proofs.lemmas.Bool.{eq-eqb}
-use Rattle.fsoe_base.specs.declared.command.State.{State}
 use Rattle.fsoe_base.specs.declared.did.Dropped.TheVariants as why
-use Rattle.fsoe_base.specs.Did.{dropped}
-use Rattle.fsoe_base.specs.Command.{command_of}
-use Rattle.fsoe_base.specs.Lengths.{frame_len}
-use Rattle.fsoe_frame.specs.Parts.{frame_of}
 use Rattle.seq_chain.specs.declared.opened.Opened.{Opened}
 use Rattle.seq_chain.specs.declared.opened.Opened.TheVariants as opened_as
 use Rattle.seq_chain.specs.Opened.{command_opened}
 use Rattle.param_load.specs.declared.entry.Move.TheVariants as move
-use Rattle.end_model.specs.Setup.{Setup, receives}
-use Rattle.end_model.specs.Deed.{Deed}
-use Rattle.end_model.specs.Chain.{since, kept}
-use Rattle.end_model.specs.Readiness.{state_of}
-use Rattle.end_model.specs.Verdict.{judged, is_repeat}
-use Rattle.end_model.specs.Step.{on_verdict, step}
 
 same_bytes : (bytes : List ℕ) (last : Option (List ℕ)) → last ≡ Some bytes → is_repeat last bytes ≡ true
 same_bytes bytes last h = ap (λ k. is_repeat k bytes) h ∙ (bytes_decides bytes bytes).1 refl

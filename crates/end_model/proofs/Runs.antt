@@ -1,14 +1,8 @@
 -- Runs of an end.
+use Rattle.end_model.proofs.Common.{Deed, Did, IsProper, IsRun, IsSetting, Move, Setup, begun, continued, events_of, nothing, run, step}
 use Rattle.std.proofs.Common.{◌≡◌, ℕ, List, [], ◌∷◌, ◌++◌, refl, sym, ap, ◌∙◌, All}
 use Rattle.std.proofs.lemmas.List.Elements.{All-head, All-tail}
-use Rattle.fsoe_base.specs.declared.did.Did.{Did}
-use Rattle.fsoe_base.specs.Did.{nothing}
-use Rattle.param_load.specs.declared.entry.Move.{Move}
 use Rattle.param_load.specs.declared.entry.Move.TheVariants as move
-use Rattle.end_model.specs.Setup.{Setup}
-use Rattle.end_model.specs.Deed.{Deed}
-use Rattle.end_model.specs.Runs.{IsSetting, events_of, IsProper, IsRun}
-use Rattle.end_model.specs.Step.{begun, step, run, continued}
 
 abbrev pub deed : Move → Did → List ℕ → Deed
 deed what did sent = record { what = what; did = did; sent = sent }

@@ -1,21 +1,9 @@
 -- What an end sends in a session is sealed, with as many safe data bytes as it sends.
+use Rattle.end_model.proofs.Common.{Command, Deed, IsProper, IsRun, MasterSettings, Move, OfMaster, OfSlave, Setup, SlaveSettings, after_phase, after_pieces, conn_id, count_in, download_frame, held, is_guarded, is_reset, master_answer, offer, offer_after, own, padded, pay, phase_of, piece_len, pieces, seal, sealed, sends, session_id, since, slave_answer, with_data, with_piece}
 use Rattle.std.proofs.Common.{◌≡◌, ℕ, suc, ◌-◌, ◌*◌, ◌≤◌, List, [], ◌∷◌, length, min, take, drop, replicate, Bool, true, false, nat_lt, if◌then◌else◌, refl, arith}
 use Rattle.std.proofs.lemmas.List.{length-take, length-replicate, length-append}
-use Rattle.fsoe_base.specs.declared.command.Command.{Command}
 use Rattle.fsoe_base.specs.declared.command.Command.TheVariants as command
-use Rattle.param_load.specs.declared.entry.Move.{Move}
 use Rattle.param_load.specs.declared.entry.Move.TheVariants as move
-use Rattle.param_load.specs.declared.master_settings.MasterSettings.{MasterSettings}
-use Rattle.param_load.specs.declared.slave_settings.SlaveSettings.{SlaveSettings}
-use Rattle.param_load.specs.Payload.{padded}
-use Rattle.end_model.specs.Setup.{Setup, OfMaster, OfSlave, sends, piece_len}
-use Rattle.end_model.specs.Phases.{is_reset, is_guarded, phase_of}
-use Rattle.end_model.specs.Deed.{Deed}
-use Rattle.end_model.specs.Chain.{since, own, seal}
-use Rattle.end_model.specs.Payloads.{pay, pieces, count_in, session_id, conn_id}
-use Rattle.end_model.specs.Readiness.{offer, offer_after, held}
-use Rattle.end_model.specs.Step.{sealed, with_piece, with_data, after_phase, after_pieces, download_frame, master_answer, slave_answer}
-use Rattle.end_model.specs.Runs.{IsProper, IsRun}
 
 -- a frame that is sealed over the deeds so far
 pub record IsSealed (s : Setup) (e : List Deed) (f : List ℕ) : Type 0 where

@@ -1,15 +1,8 @@
 -- The outputs of an end are those that looking back gives, and zeros outside Data.
+use Rattle.end_model.proofs.Common.{Deed, IsRun, MasterSettings, OfMaster, OfSlave, Setup, SlaveSettings, State, out, outputs, slave_limit, state_of, ticks, zeros}
 use Rattle.std.proofs.Common.{◌≡◌, ◌≢◌, ℕ, ◌+◌, ◌<◌, List, [], ◌∷◌, Bool, true, false, nat_lt, refl, sym, ◌∙◌, arith}
 use Rattle.std.proofs.lemmas.Bool.{lt-ltb}
-use Rattle.fsoe_base.specs.declared.command.State.{State}
 use Rattle.fsoe_base.specs.declared.command.State.TheVariants as state
-use Rattle.param_load.specs.declared.master_settings.MasterSettings.{MasterSettings}
-use Rattle.param_load.specs.declared.slave_settings.SlaveSettings.{SlaveSettings}
-use Rattle.end_model.specs.Setup.{Setup, OfMaster, OfSlave}
-use Rattle.end_model.specs.Deed.{Deed}
-use Rattle.end_model.specs.Readiness.{state_of, ticks, slave_limit}
-use Rattle.end_model.specs.Runs.{IsRun}
-use Rattle.end_model.specs.Outputs.{zeros, outputs, out}
 use Rattle.end_model.proofs.SoundRuns.{reacted}
 use Rattle.end_model.proofs.MasterShown.{MasterShows, shown_in, master-shows}
 use Rattle.end_model.proofs.SlaveShown.{SlaveShows, none_tested, parameters, slave-shows}

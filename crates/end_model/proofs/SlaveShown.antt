@@ -1,27 +1,12 @@
 -- The outputs of a slave are those that looking back gives.
+use Rattle.end_model.proofs.Common.{Ages, Answers, Command, Deed, Did, DropsReset, Expires, IsInSession, IsValid, Move, OfSlave, PeerResets, Profile, Reaction, Refuses, ResetsItself, Rests, SendsAgain, SlaveFirstData, SlaveGoesOn, SlaveMoreData, SlaveNextPhase, SlaveRejoins, SlaveSettings, SlaveStarts, Taking, has_all, id_len, number_at, out_after, outputs, parts, phase_of, piece_len, rule_len, slave_limit, state_of, takes_frame, ticks, upload_is_whole, uploaded, whole, zeros}
 use Rattle.std.proofs.Common.{◌≡◌, ◌≢◌, ℕ, suc, ◌+◌, ◌<◌, ◌≤◌, List, [], ◌∷◌, ◌++◌, length, take, drop, Bool, true, false, Some, None, nat_lt, nat_le, if◌then◌else◌, refl, sym, subst, ◌∙◌, arith}
 use Rattle.std.proofs.lemmas.Bool.{leb-true}
 use Rattle.fsoe_base.specs.declared.command.State.TheVariants as state
-use Rattle.fsoe_base.specs.declared.command.Command.{Command}
 use Rattle.fsoe_base.specs.declared.command.Command.TheVariants as command
-use Rattle.fsoe_base.specs.declared.did.Did.{Did}
 use Rattle.param_load.specs.declared.contents.Expected.TheVariants as expected
-use Rattle.param_load.specs.declared.entry.Move.{Move}
 use Rattle.param_load.specs.declared.entry.Move.TheVariants as move
-use Rattle.param_load.specs.declared.profile.Profile.{Profile}
-use Rattle.param_load.specs.declared.slave_settings.SlaveSettings.{SlaveSettings}
-use Rattle.param_load.specs.Payload.{number_at}
-use Rattle.param_load.specs.AppRule.{rule_len}
-use Rattle.param_load.specs.Profile.{id_len}
 use Rattle.param_load.proofs.Watchdog.{joined_watchdog}
-use Rattle.end_model.specs.Setup.{OfSlave, piece_len}
-use Rattle.end_model.specs.Phases.{phase_of}
-use Rattle.end_model.specs.Deed.{Deed}
-use Rattle.end_model.specs.Payloads.{uploaded, whole, has_all}
-use Rattle.end_model.specs.Readiness.{state_of, ticks, slave_limit, upload_is_whole}
-use Rattle.end_model.specs.Step.{takes_frame}
-use Rattle.end_model.specs.Outputs.{zeros, outputs, out_after}
-use Rattle.end_model.specs.Reactions.{parts, IsValid, IsInSession, Taking, SlaveRejoins, SlaveStarts, SlaveGoesOn, SlaveNextPhase, SlaveFirstData, SlaveMoreData, Reaction, Rests, Ages, Expires, SendsAgain, ResetsItself, DropsReset, Refuses, PeerResets, Answers}
 use Rattle.end_model.proofs.Runs.{deed}
 use Rattle.end_model.proofs.Counted.{joined_count}
 use Rattle.end_model.proofs.SoundRuns.{handshake-on, handshake-data, next-on, next-data, data-on}

@@ -1,24 +1,9 @@
 -- In each run nothing is of a session in state Reset, and in state Data a slave has the whole parameters.
+use Rattle.end_model.proofs.Common.{AfterConnection, AfterSession, Answers, Cause, Command, Deed, Did, Dropped, DropsReset, Expires, HasNoSession, IsExchange, IsHandshake, IsNextPhase, IsProper, IsReaction, IsRun, MasterFirstData, MasterGoesOn, MasterMoreData, MasterNextPhase, MasterSettings, MasterStarts, Move, OfMaster, OfSession, OfSlave, PeerResets, Reaction, Refuses, ResetsItself, Rests, SendsAgain, Setup, SlaveFirstData, SlaveGoesOn, SlaveMoreData, SlaveNextPhase, SlaveRejoins, SlaveSettings, SlaveStarts, State, Taking, is_data, is_empty, phase_of, state_of, step, takes_frame, upload_is_whole, with_answer}
 use Rattle.std.proofs.Common.{◌≡◌, ◌≢◌, ℕ, List, [], ◌∷◌, Bool, true, false, Option, None, refl, sym, subst, ◌∙◌}
-use Rattle.fsoe_base.specs.declared.command.State.{State}
 use Rattle.fsoe_base.specs.declared.command.State.TheVariants as state
-use Rattle.fsoe_base.specs.declared.command.Command.{Command}
 use Rattle.fsoe_base.specs.declared.command.Command.TheVariants as command
-use Rattle.fsoe_base.specs.declared.did.Cause.{Cause}
-use Rattle.fsoe_base.specs.declared.did.Did.{Did}
-use Rattle.fsoe_base.specs.declared.did.Dropped.{Dropped}
-use Rattle.fsoe_base.specs.Data.{is_data}
-use Rattle.param_load.specs.declared.entry.Move.{Move}
 use Rattle.param_load.specs.declared.entry.Move.TheVariants as move
-use Rattle.param_load.specs.declared.master_settings.MasterSettings.{MasterSettings}
-use Rattle.param_load.specs.declared.slave_settings.SlaveSettings.{SlaveSettings}
-use Rattle.end_model.specs.Setup.{Setup, OfMaster, OfSlave}
-use Rattle.end_model.specs.Phases.{phase_of}
-use Rattle.end_model.specs.Deed.{Deed, is_empty}
-use Rattle.end_model.specs.Readiness.{state_of, upload_is_whole}
-use Rattle.end_model.specs.Step.{takes_frame, step}
-use Rattle.end_model.specs.Runs.{IsProper, IsRun}
-use Rattle.end_model.specs.Reactions.{HasNoSession, IsHandshake, OfSession, IsNextPhase, AfterSession, AfterConnection, with_answer, IsExchange, Taking, SlaveRejoins, SlaveStarts, SlaveGoesOn, SlaveNextPhase, SlaveFirstData, SlaveMoreData, MasterStarts, MasterGoesOn, MasterNextPhase, MasterFirstData, MasterMoreData, Reaction, Rests, Expires, SendsAgain, ResetsItself, DropsReset, Refuses, PeerResets, Answers, IsReaction}
 use Rattle.end_model.proofs.Runs.{deed}
 use Rattle.end_model.proofs.Heads.{IsInSession}
 use Rattle.end_model.proofs.Reactions.{Sound, next_reaction}

@@ -1,19 +1,10 @@
 -- What is known of a frame that an end took: the tests that it passed, the phase in which it came, and which answer was
 -- sent.
+use Rattle.end_model.proofs.Common.{AfterConnection, AfterSession, Command, Deed, IsExchange, IsHandshake, MasterFirstData, MasterGoesOn, MasterMoreData, MasterNextPhase, MasterSettings, MasterStarts, OfConnection, OfMaster, OfParameter, OfSession, Setup, SlaveFirstData, SlaveGoesOn, SlaveMoreData, SlaveNextPhase, SlaveRejoins, SlaveStarts, State, Taking, after_phase, all_pieces, answer, download_frame, is_data, master_answer, phase_of, pieces_sent, received, state_of, with_answer, with_data}
 use Rattle.std.proofs.Common.{◌≡◌, ◌≢◌, ℕ, suc, ◌<◌, ◌≤◌, List, true, false, nat_lt, if◌then◌else◌, refl, sym, subst, ◌∙◌, arith}
 use Rattle.std.proofs.lemmas.Bool.Decides.{nat_tests}
-use Rattle.fsoe_base.specs.declared.command.State.{State}
 use Rattle.fsoe_base.specs.declared.command.State.TheVariants as state
-use Rattle.fsoe_base.specs.declared.command.Command.{Command}
 use Rattle.fsoe_base.specs.declared.command.Command.TheVariants as command
-use Rattle.fsoe_base.specs.Data.{is_data}
-use Rattle.param_load.specs.declared.master_settings.MasterSettings.{MasterSettings}
-use Rattle.end_model.specs.Setup.{Setup, OfMaster}
-use Rattle.end_model.specs.Phases.{phase_of}
-use Rattle.end_model.specs.Deed.{Deed}
-use Rattle.end_model.specs.Readiness.{state_of}
-use Rattle.end_model.specs.Step.{with_data, download_frame, after_phase, master_answer, answer}
-use Rattle.end_model.specs.Reactions.{IsHandshake, OfSession, OfConnection, OfParameter, AfterSession, AfterConnection, received, with_answer, pieces_sent, all_pieces, IsExchange, Taking, SlaveRejoins, SlaveStarts, SlaveGoesOn, SlaveNextPhase, SlaveFirstData, SlaveMoreData, MasterStarts, MasterGoesOn, MasterNextPhase, MasterFirstData, MasterMoreData}
 use Rattle.end_model.proofs.Heads.{IsInSession, master_frame}
 use Rattle.end_model.proofs.Reactions.{phase_of_data, slave_data}
 use Rattle.end_model.proofs.SoundRuns.{handshake-data, next-data, before-data}

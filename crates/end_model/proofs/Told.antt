@@ -1,13 +1,6 @@
 -- A deed tells what it did.
+use Rattle.end_model.proofs.Common.{Answers, Deed, Did, IsProper, IsRun, Move, Reaction, Setup, at_most_one, is_empty, step}
 use Rattle.std.proofs.Common.{◌≡◌, ℕ, List, true, not, refl, sym, ap}
-use Rattle.fsoe_base.specs.declared.did.Did.{Did}
-use Rattle.fsoe_base.specs.Did.{at_most_one}
-use Rattle.param_load.specs.declared.entry.Move.{Move}
-use Rattle.end_model.specs.Setup.{Setup}
-use Rattle.end_model.specs.Deed.{Deed, is_empty}
-use Rattle.end_model.specs.Step.{step}
-use Rattle.end_model.specs.Runs.{IsProper, IsRun}
-use Rattle.end_model.specs.Reactions.{Reaction, Answers}
 use Rattle.end_model.proofs.SoundRuns.{reacts, answer_sent}
 
 tells-sent : (s : Setup) (e : List Deed) (m : Move) (d : Did) (f : List ℕ) → Reaction s e m d f → d.sent ≡ not (is_empty f)

@@ -1,13 +1,8 @@
 -- Which frames of a session an end takes in each state.
+use Rattle.end_model.proofs.Common.{AfterConnection, AfterSession, Command, IsHandshake, IsNextPhase, OfConnection, OfParameter, OfSession, State, is_data, master_allows, phase_of, slave_allows}
 use Rattle.std.proofs.Common.{◌≡◌, ◌≢◌, Bool, true, false, not, refl}
-use Rattle.fsoe_base.specs.declared.command.State.{State}
 use Rattle.fsoe_base.specs.declared.command.State.TheVariants as state
-use Rattle.fsoe_base.specs.declared.command.Command.{Command}
 use Rattle.fsoe_base.specs.declared.command.Command.TheVariants as command
-use Rattle.fsoe_base.specs.Data.{is_data}
-use Rattle.end_model.specs.Phases.{phase_of}
-use Rattle.end_model.specs.Readiness.{slave_allows, master_allows}
-use Rattle.end_model.specs.Reactions.{IsHandshake, OfSession, OfConnection, OfParameter, IsNextPhase, AfterSession, AfterConnection}
 
 -- a frame at a slave, where `done` says which payloads are whole
 pub data SlaveWay (done : State → Bool) (now : State) (c : Command) : Type 0 where

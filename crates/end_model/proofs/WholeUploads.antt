@@ -1,16 +1,9 @@
 -- When the parameters that a slave uploaded are whole.
+use Rattle.end_model.proofs.Common.{Deed, IsRun, OfSlave, SlaveSettings, has_all, id_len, number_at, rule_len, whole}
 use Rattle.std.proofs.Common.{◌≡◌, ℕ, ◌+◌, ◌≤◌, nat_le, Bool, true, false, List, length, Some, None, if◌then◌else◌, refl, ap, arith}
 use Rattle.std.proofs.lemmas.Bool.{leb-true}
 use Rattle.std.proofs.lemmas.Bool.Decides.{nat_tests}
 use Rattle.fsoe_base.specs.declared.command.State.TheVariants as state
-use Rattle.param_load.specs.declared.slave_settings.SlaveSettings.{SlaveSettings}
-use Rattle.param_load.specs.AppRule.{rule_len}
-use Rattle.param_load.specs.Payload.{number_at}
-use Rattle.param_load.specs.Profile.{id_len}
-use Rattle.end_model.specs.Setup.{OfSlave}
-use Rattle.end_model.specs.Deed.{Deed}
-use Rattle.end_model.specs.Payloads.{has_all, whole}
-use Rattle.end_model.specs.Runs.{IsRun}
 use Rattle.end_model.proofs.SlaveShown.{SlaveShows, parameters}
 use Rattle.end_model.proofs.Shown.{slave-run}
 

@@ -10,3 +10,4 @@ pub mod Offering
 pub mod Honest
 -- Beside it: what monitors keep.
 pub mod Monitors
+pub mod Common

@@ -1,14 +1,10 @@
 -- The drive of an emergency stop whose acknowledgement comes as two bits.
+use Rattle.fb_net.proofs.Common.{Bit, NetCycle, at_number, bit_at, block_cycles, block_values, driven_images, has_bit, is_same_bit, second}
 use Rattle.std.proofs.Common.{◌≡◌, inl, inr, ℕ, Bool, true, false, not, ◌&&◌, ◌||◌, List, [], ◌∷◌, take, if◌then◌else◌, refl, sym, ap, ap₂, ◌∙◌, eq-eqb}
 use Rattle.std.specs.List.{list_any}
 use Rattle.std.proofs.lemmas.Bool.{cases_Bool}
-use Rattle.failsafe_io.specs.declared.bit.Bit.{Bit}
-use Rattle.failsafe_io.specs.Bits.{at_number, bit_at, has_bit, is_same_bit}
-use Rattle.fb_lib.specs.Cycle.{second}
 use Rattle.fb_lib.specs.LookBack.{is_now, run}
 use Rattle.fb_net.specs.declared.wire.Wire.TheVariants as wire
-use Rattle.fb_net.specs.Values.{NetCycle, block_cycles, block_values}
-use Rattle.fb_net.specs.Outputs.{driven_images}
 use Rattle.fb_net.specs.Acknowledged.{stop_blocks, stop_drives, is_on, may_run, in_order, is_acknowledged, is_let_go}
 use Rattle.fb_net.proofs.Driven.{driven_bit}
 

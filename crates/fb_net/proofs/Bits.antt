@@ -1,4 +1,5 @@
 -- The bits of images in which bits are set.
+use Rattle.fb_net.proofs.Common.{Bit, at_number, bit_at, bit_of, images_with, is_same_bit, with_bit, with_on, zero_images}
 use Rattle.std.proofs.Common.{◌≡◌, ◌≢◌, ◌⊎◌, inl, inr, ℕ, zero, suc, ◌/◌, ◌%◌, ◌^◌, ◌<◌, ◌≤◌, ◌==◌, true, false, not, ◌&&◌, List, [], ◌∷◌, length, get_or, map, fold, replicate, slice_index, slice_set, bit_and, bit_or, refl, sym, ap, ◌∙◌, arith}
 use Rattle.std.proofs.lemmas.Bool.{cases_eq}
 use Rattle.std.proofs.lemmas.Bool.Decides.{nat_tests}
@@ -6,10 +7,6 @@ use Rattle.std.proofs.lemmas.Nat.{pow_apart, and_or_apart}
 use Rattle.std.specs.Int.Bits.{and_zero_l}
 use Rattle.std.proofs.lemmas.List.{get_or-set_same, get_or-set_other, set_past, length-set}
 use Rattle.std.proofs.Math.Seq.{map-set_same}
-use Rattle.fsoe_base.specs.Image.{bit_of, with_bit}
-use Rattle.failsafe_io.specs.declared.bit.Bit.{Bit}
-use Rattle.failsafe_io.specs.Bits.{at_number, bit_at, is_same_bit}
-use Rattle.fb_net.specs.Outputs.{with_on, zero_images, images_with}
 
 -- which of two numbers is less
 pub within : (i n : ℕ) → (i < n) ⊎ (n ≤ i)

@@ -1,10 +1,6 @@
 -- A net over a list of calls.
+use Rattle.fb_net.proofs.Common.{Drive, NetBlock, NetStands, NetView, block_values, driven_images, plan}
 use Rattle.std.proofs.Common.{◌≡◌, ℕ, List, [], ◌∷◌, refl, sym, ap, ap₂, subst, ◌∙◌}
-use Rattle.fb_net.specs.declared.spec.Drive.{Drive}
-use Rattle.fb_net.specs.Values.{NetBlock, block_values}
-use Rattle.fb_net.specs.Outputs.{driven_images}
-use Rattle.fb_net.specs.NetView.{NetView, plan}
-use Rattle.fb_net.specs.Standing.{NetStands}
 use Rattle.fb_net.specs.Calls.{Call, Called, cycles_of, all_outputs}
 
 pub stands : (first last : NetView) (e : List Call) (outputs : List (List (List ℕ))) → NetStands first [] → Called first e outputs last → NetStands last (cycles_of e)

@@ -1,6 +1,6 @@
 -- Images of zeros, made one by one.
+use Rattle.fb_net.proofs.Common.{zero_images}
 use Rattle.std.proofs.Common.{◌≡◌, ℕ, zero, suc, ◌+◌, ◌<◌, List, [], ◌∷◌, ◌++◌, length, get_or, map, take, drop, replicate, slice_set, refl, ap, arith, add-one}
-use Rattle.fb_net.specs.Outputs.{zero_images}
 
 zeros-step : (i : ℕ) (xs : List (List ℕ)) (old new : List ℕ) → i < length xs
     → old ≡ get_or (zero_images (map length (take i xs)) ++ drop i xs) i old → new ≡ replicate (length old) 0

@@ -1,21 +1,12 @@
 -- A cycle of a net.
+use Rattle.fb_net.proofs.Common.{AllReady, BlockSpec, BlocksStand, Drive, KeepsPlan, NetBlock, NetCycle, NetFollows, NetGives, NetView, bit_at, bits_on, driven_images, holds_of, is_output_guarded, net_rule, plan, run_blocks, run_values}
 use Rattle.std.proofs.Common.{◌≡◌, ℕ, Bool, List, [], ◌∷◌, map, length, sym, ap, ap₂, subst, ◌∙◌}
 use Rattle.std.specs.declared.vec.Vec.{Vec}
 use Rattle.std.specs.Vec.{with_items}
 use Rattle.std.proofs.lemmas.List.{with_items_is}
-use Rattle.failsafe_io.specs.Bits.{bit_at}
 use Rattle.failsafe_io.specs.Application.{GuardsBy}
-use Rattle.fb_net.specs.declared.spec.BlockSpec.{BlockSpec}
-use Rattle.fb_net.specs.declared.spec.Drive.{Drive}
-use Rattle.fb_net.specs.Values.{NetCycle, NetBlock}
-use Rattle.fb_net.specs.Outputs.{bits_on, driven_images}
-use Rattle.fb_net.specs.NetView.{NetView, plan}
-use Rattle.fb_net.specs.Guarded.{is_output_guarded}
-use Rattle.fb_net.specs.Steps.{run_values, run_blocks, holds_of, net_rule}
 use Rattle.fb_net.specs.Meaning.{net_holds, rule_of, guards_of}
 use Rattle.fb_net.specs.Ran.{net_answer, Ran}
-use Rattle.fb_net.specs.Standing.{BlocksStand, NetFollows, NetGives, KeepsPlan}
-use Rattle.fb_net.specs.Ready.{AllReady}
 use Rattle.fb_net.proofs.Looking.{values_are, blocks_stand}
 use Rattle.fb_net.proofs.Holding.{all_restored-back, plan_stays}
 use Rattle.fb_net.proofs.Guarding.{off_output}

@@ -1,16 +1,11 @@
 -- The output bits of a net, one by one.
+use Rattle.fb_net.proofs.Common.{Bit, Drive, at_number, bit_at, bit_of, bits_on, driven_images, has_bit, is_same_bit, wire_value, with_bit, with_on, zero_images}
 use Rattle.std.proofs.Common.{◌≡◌, inl, inr, ℕ, zero, suc, ◌*◌, ◌/◌, ◌%◌, ◌^◌, ◌<◌, ◌==◌, nat_lt, Bool, true, false, not, cond, ◌&&◌, ◌||◌, List, [], ◌∷◌, length, get_or, map, fold, filter, bit_and, bit_or, slice_index, slice_set, refl, sym, ap, ap₂, ◌∙◌, arith}
 use Rattle.std.specs.List.{list_any}
 use Rattle.std.proofs.lemmas.Bool.{cases_Bool}
 use Rattle.std.proofs.lemmas.Bool.Decides.{nat_tests}
 use Rattle.std.proofs.lemmas.Nat.{and_or_self}
 use Rattle.std.proofs.lemmas.List.{get_or-set_same, get_or_past}
-use Rattle.fsoe_base.specs.Image.{bit_of, with_bit}
-use Rattle.failsafe_io.specs.declared.bit.Bit.{Bit}
-use Rattle.failsafe_io.specs.Bits.{at_number, bit_at, has_bit, is_same_bit}
-use Rattle.fb_net.specs.declared.spec.Drive.{Drive}
-use Rattle.fb_net.specs.Values.{wire_value}
-use Rattle.fb_net.specs.Outputs.{with_on, zero_images, bits_on, driven_images}
 use Rattle.fb_net.proofs.Bits.{other_bit, zero_bit, within, length_zeros, length_with_on}
 use Rattle.fb_net.proofs.Guarding.{same_numbers}
 

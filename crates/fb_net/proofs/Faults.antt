@@ -1,17 +1,11 @@
 -- A net without a fault can be stepped.
+use Rattle.fb_net.proofs.Common.{AllReady, BlockSpec, BlocksStand, Drive, NetCycle, NetStands, block_fault, blocks_fault, drives_fault, first_fault, net_block, with_block}
 use Rattle.std.proofs.Common.{◌≡◌, ℕ, suc, ◌+◌, IsTrue, Bool, true, false, List, [], ◌∷◌, length, Option, Some, None, refl, if◌then◌else◌, arith, rules}
 use Rattle.std.specs.List.{All}
 use Rattle.std.specs.Option.{option_or}
 use Rattle.fb_lib.specs.Kind.{takes}
 use Rattle.fb_net.specs.declared.fault.NetFault.{NetFault}
-use Rattle.fb_net.specs.declared.spec.BlockSpec.{BlockSpec}
-use Rattle.fb_net.specs.declared.spec.Drive.{Drive}
-use Rattle.fb_net.specs.Values.{NetCycle, with_block}
-use Rattle.fb_net.specs.NetView.{net_block}
-use Rattle.fb_net.specs.Fault.{block_fault, blocks_fault, drives_fault, first_fault}
-use Rattle.fb_net.specs.Standing.{BlocksStand, NetStands}
 use Rattle.fb_net.specs.New.{IsNew}
-use Rattle.fb_net.specs.Ready.{AllReady}
 
 both-none : (a b : Option NetFault) → option_or a b ≡ None → (a ≡ None) × (b ≡ None)
 both-none None b h = (refl, h)

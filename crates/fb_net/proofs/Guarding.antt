@@ -1,27 +1,13 @@
 -- What is guarded is false.
+use Rattle.fb_net.proofs.Common.{AllReady, AreOff, Bit, BlockKind, BlockSpec, Cycle, Drive, IsReady, NetBlock, NetCycle, at_number, bit_at, bit_of, bits_on, block_cycles, block_values, cycle_of, driven_images, given, guarded_blocks, guarded_from, is_output_guarded, is_same_bit, is_wire_guarded, next_held, plan, run_values, told, values_from, wire_value, with_block, with_on, zero_images}
 use Rattle.std.proofs.Common.{◌≡◌, ℕ, zero, suc, ◌+◌, ◌<◌, length, drop, ◌==◌, Bool, true, false, not, cond, ◌&&◌, ◌||◌, List, [], ◌∷◌, ◌++◌, get_or, map, fold, filter, refl, sym, ap, ap₂, ◌∙◌, arith}
 use Rattle.std.specs.List.{list_all}
 use Rattle.std.proofs.lemmas.Bool.Decides.{nat_tests}
 use Rattle.std.proofs.lemmas.List.{at_drop_more}
-use Rattle.failsafe_io.specs.declared.bit.Bit.{Bit}
-use Rattle.failsafe_io.specs.Bits.{at_number, bit_at, is_same_bit}
-use Rattle.fsoe_base.specs.Image.{bit_of}
-use Rattle.fb_lib.specs.declared.kind.BlockKind.{BlockKind}
-use Rattle.fb_lib.specs.Cycle.{Cycle}
-use Rattle.fb_lib.specs.Steps.{next_held, told}
 use Rattle.fb_lib.specs.Guarded.{is_guarded}
-use Rattle.fb_lib.specs.Standing.{AreOff}
 use Rattle.fb_lib.proofs.Guarding.{told_off, value_off as block_off}
 use Rattle.fb_net.specs.declared.wire.Wire.{Wire}
 use Rattle.fb_net.specs.declared.wire.Wire.TheVariants as wire
-use Rattle.fb_net.specs.declared.spec.BlockSpec.{BlockSpec}
-use Rattle.fb_net.specs.declared.spec.Drive.{Drive}
-use Rattle.fb_net.specs.Values.{NetCycle, NetBlock, wire_value, block_cycles, with_block, values_from, block_values}
-use Rattle.fb_net.specs.Outputs.{with_on, zero_images, bits_on, driven_images}
-use Rattle.fb_net.specs.NetView.{plan}
-use Rattle.fb_net.specs.Guarded.{is_wire_guarded, guarded_from, guarded_blocks, is_output_guarded}
-use Rattle.fb_net.specs.Steps.{cycle_of, given, run_values}
-use Rattle.fb_net.specs.Ready.{IsReady, AllReady}
 use Rattle.fb_net.proofs.Holding.{kind_is}
 use Rattle.fb_net.proofs.Bits.{other_bit, zero_bit}
 

@@ -1,19 +1,11 @@
 -- What a net holds as numbers is what its blocks keep.
+use Rattle.fb_net.proofs.Common.{AllReady, BlockKind, BlockSpec, BlockView, Cycle, IsReady, NetBlock, NetCycle, all_restored, count_held, flag, flag_held, given, held_from, holds_of, kind_of, net_block, on_held, plan, restored, run_blocks}
 use Rattle.std.proofs.Common.{◌≡◌, ℕ, ◌==◌, Bool, true, false, List, [], ◌∷◌, ◌++◌, refl, sym, ap, ap₂, ◌∙◌}
 use Rattle.fb_lib.specs.declared.held.Held.{Held}
 use Rattle.fb_lib.specs.declared.held.Held.TheVariants as held
-use Rattle.fb_lib.specs.declared.kind.BlockKind.{BlockKind}
 use Rattle.fb_lib.specs.declared.kind.BlockKind.TheVariants as kind
 use Rattle.fb_lib.specs.declared.two_hand.TwoHand.TheVariants as hands
-use Rattle.fb_lib.specs.Cycle.{Cycle}
-use Rattle.fb_lib.specs.Steps.{BlockView}
-use Rattle.fb_lib.specs.Standing.{kind_of}
 use Rattle.fb_lib.specs.Kept.{held_of}
-use Rattle.fb_net.specs.declared.spec.BlockSpec.{BlockSpec}
-use Rattle.fb_net.specs.Values.{NetCycle, NetBlock}
-use Rattle.fb_net.specs.NetView.{net_block, plan}
-use Rattle.fb_net.specs.Steps.{flag, count_held, on_held, flag_held, held_from, restored, all_restored, holds_of, given, run_blocks}
-use Rattle.fb_net.specs.Ready.{IsReady, AllReady}
 
 kind_of-held_of : (k : BlockKind) (n : ℕ) (e : List Cycle) → kind_of (held_of k n e) ≡ k
 kind_of-held_of kind.Const0 n e = refl

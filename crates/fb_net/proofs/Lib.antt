@@ -12,3 +12,4 @@ pub mod CallsOf
 pub mod Ruled
 pub mod Driven
 pub mod Acknowledging
+pub mod Common

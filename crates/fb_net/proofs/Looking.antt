@@ -1,16 +1,8 @@
 -- The values of the blocks that are stepped in order are what looking back over the net's cycles says.
+use Rattle.fb_net.proofs.Common.{AllReady, BlockSpec, BlockStands, BlocksStand, Cycle, IsReady, NetCycle, block_cycles, cycle_of, given, net_block, next_block, next_held, plan, run_blocks, run_values, told, values_from, with_block}
 use Rattle.std.proofs.Common.{◌≡◌, Bool, List, [], ◌∷◌, ◌++◌, refl, sym, ap, subst, ◌∙◌}
-use Rattle.fb_lib.specs.Cycle.{Cycle}
 use Rattle.fb_lib.specs.Value.{value}
-use Rattle.fb_lib.specs.Steps.{next_block, next_held, told}
-use Rattle.fb_lib.specs.Standing.{BlockStands}
 use Rattle.fb_lib.proofs.Looking.{gives_by}
-use Rattle.fb_net.specs.declared.spec.BlockSpec.{BlockSpec}
-use Rattle.fb_net.specs.Values.{NetCycle, block_cycles, with_block, values_from}
-use Rattle.fb_net.specs.NetView.{net_block, plan}
-use Rattle.fb_net.specs.Steps.{cycle_of, given, run_values, run_blocks}
-use Rattle.fb_net.specs.Standing.{BlocksStand}
-use Rattle.fb_net.specs.Ready.{IsReady, AllReady}
 use Rattle.fb_net.proofs.Stepping.{next_stands}
 
 -- what a block gives in the net

@@ -1,10 +1,7 @@
 -- Inputs as outputs, made one by one.
+use Rattle.fb_net.proofs.Common.{Bit, at_number, bit_at, bit_of, is_same_bit, mirror_images, mirrored}
 use Rattle.std.proofs.Common.{◌≡◌, ◌⊎◌, inl, inr, ℕ, zero, suc, ◌+◌, ◌/◌, ◌%◌, ◌^◌, ◌<◌, ◌==◌, true, false, not, List, [], ◌∷◌, ◌++◌, length, get_or, map, take, drop, bit_and, slice_index, slice_set, refl, ap, ap₂, ◌∙◌, arith, add-one}
 use Rattle.std.proofs.lemmas.Grind.{common_steps}
-use Rattle.fsoe_base.specs.Image.{bit_of}
-use Rattle.failsafe_io.specs.declared.bit.Bit.{Bit}
-use Rattle.failsafe_io.specs.Bits.{at_number, bit_at, is_same_bit}
-use Rattle.fb_net.specs.Mirror.{mirrored, mirror_images}
 use Rattle.fb_net.proofs.Bits.{no_bit}
 use Rattle.fb_net.proofs.Guarding.{same_numbers}
 

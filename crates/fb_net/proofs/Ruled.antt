@@ -1,12 +1,6 @@
 -- The rule of a net over a list of calls.
+use Rattle.fb_net.proofs.Common.{AllReady, BlockSpec, BlocksStand, IsNewNet, NetBlock, NetCycle, NetView, all_restored, block_values, cycle_of, driven_images, given, holds_of, net_outputs, plan, run_blocks, run_values}
 use Rattle.std.proofs.Common.{◌≡◌, ℕ, Bool, List, [], ◌∷◌, ◌++◌, refl, sym, ap, ◌∙◌}
-use Rattle.fb_net.specs.declared.spec.BlockSpec.{BlockSpec}
-use Rattle.fb_net.specs.Values.{NetCycle, NetBlock, block_values}
-use Rattle.fb_net.specs.Outputs.{driven_images, net_outputs}
-use Rattle.fb_net.specs.NetView.{NetView, plan}
-use Rattle.fb_net.specs.Standing.{BlocksStand, IsNewNet}
-use Rattle.fb_net.specs.Ready.{AllReady}
-use Rattle.fb_net.specs.Steps.{cycle_of, given, run_values, run_blocks, holds_of, all_restored}
 use Rattle.fb_net.specs.Meaning.{rule_of, net_holds}
 use Rattle.fb_net.specs.Calls.{Call, cycles_of, held_after}
 use Rattle.fb_net.proofs.Stepping.{next_ready}

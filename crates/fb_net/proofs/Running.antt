@@ -1,11 +1,8 @@
 -- The blocks of a net that are stepped in order.
+use Rattle.fb_net.proofs.Common.{AllReady, BlockSpec, IsReady, NetCycle, given, run_blocks, run_values, stepped}
 use Rattle.std.proofs.Common.{◌≡◌, ℕ, zero, suc, ◌+◌, ◌<◌, Bool, List, [], ◌∷◌, ◌++◌, length, get_or, take, drop, set, refl, sym, ap, ap₂, ◌∙◌, arith, add-one, append_assoc}
 use Rattle.std.proofs.lemmas.List.{drop-set-lt, at_drop_more}
 use Rattle.std.proofs.lemmas.Grind.{take-set_at}
-use Rattle.fb_net.specs.declared.spec.BlockSpec.{BlockSpec}
-use Rattle.fb_net.specs.Values.{NetCycle}
-use Rattle.fb_net.specs.Ready.{IsReady, AllReady}
-use Rattle.fb_net.specs.Steps.{stepped, given, run_values, run_blocks}
 
 pub ready_at : (bs : List BlockSpec) (i : ℕ) (d : BlockSpec) → AllReady bs → i < length bs → IsReady (get_or bs i d)
 ready_at [] i d r h = absurd (omega arith)

@@ -1,21 +1,9 @@
 -- What holds of a run from some bytes on holds of it from before them, where those that were told before are the same.
+use Rattle.file_run.proofs.Common.{Done, Ended, EndsAs, Halt, HaltsHeader, Held, InputFormat, Leaves, LeavesAs, LinesBefore, MayFailIn, Outside, RanOver, ReadLines, ReadsTo, ReadsWhole, Reporting, Status, TakesMemory, TookLines, from_line}
 use Rattle.std.proofs.Common.{◌≡◌, ℕ, List, ◌∷◌, [], ◌++◌, Option, ap, ◌∙◌, sym, subst, inl, inr, arith}
 use Rattle.std.specs.Prelude.{IfSome, Some, None}
 use Rattle.std.specs.Io.KnownBytes.{Consumes, prepend_known}
-use Rattle.fsoe_io.specs.LineReader.{Held}
-use Rattle.fsoe_io.specs.declared.status.Ended.{Ended}
-use Rattle.fsoe_io.specs.declared.status.Status.{Status}
 use Rattle.fsoe_io.specs.declared.status.Status.TheVariants as status
-use Rattle.schedule_file.specs.Input.{InputFormat}
-use Rattle.file_run.specs.Ending.{LinesBefore, ReadLines}
-use Rattle.file_run.specs.Left.{HaltsHeader, Done, LeavesAs, MayFailIn}
-use Rattle.file_run.specs.Running.{Leaves}
-use Rattle.file_run.specs.NextLine.{from_line}
-use Rattle.file_run.specs.Outside.{Outside}
-use Rattle.file_run.specs.Ran.{EndsAs, RanOver, ReadsWhole}
-use Rattle.file_run.specs.Reporting.{Reporting, TakesMemory}
-use Rattle.file_run.specs.WholeLines.{ReadsTo, TookLines}
-use Rattle.file_run.specs.declared.halt.Halt.{Halt}
 use Rattle.file_run.specs.declared.halt.Halt.TheVariants as halt
 use Rattle.file_run.proofs.Sending.{rose_since}
 

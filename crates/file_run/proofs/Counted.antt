@@ -1,15 +1,10 @@
 -- What the counts of faults say at the end of a run.
+use Rattle.file_run.proofs.Common.{Blames, CountsFaults, Ended, Halt, Outside, Told, Writes, halted_by, last_of}
 use Rattle.std.proofs.Common.{◌≡◌, ◌≤◌, ◌<◌, ℕ, List, [], ◌++◌, length, ap, ◌∙◌, inl, inr, arith}
 use Rattle.std.specs.Prelude.{◌≢◌, Err}
 use Rattle.std.specs.declared.option.Option.{Option}
 use Rattle.std.proofs.lemmas.List.{length-append}
-use Rattle.fsoe_io.specs.declared.status.Ended.{Ended}
 use Rattle.fsoe_io.specs.declared.status.Status.TheVariants as status
-use Rattle.file_run.specs.Ending.{Writes}
-use Rattle.file_run.specs.Halt.{Blames}
-use Rattle.file_run.specs.Outside.{CountsFaults, Outside, Told}
-use Rattle.file_run.specs.Stop.{halted_by, last_of}
-use Rattle.file_run.specs.declared.halt.Halt.{Halt}
 use Rattle.file_run.specs.declared.halt.Halt.TheVariants as halt
 
 -- a write failed, and nothing before it

@@ -1,10 +1,8 @@
 -- A line that a header doesn't take.
+use Rattle.file_run.proofs.Common.{Blames, Declines, Goes, Halt, Rose, Stalls, TookOneAtMost}
 use Rattle.std.proofs.Common.{◌≡◌, ℕ, ◌+◌, List, subst, ◌∙◌}
 use Rattle.std.specs.Prelude.{Result, Ok, Err}
 use Rattle.std.specs.declared.option.Option.{Option}
-use Rattle.fsoe_io.specs.Faults.{Rose}
-use Rattle.file_run.specs.Halt.{Blames, Declines, Goes, Stalls, TookOneAtMost}
-use Rattle.file_run.specs.declared.halt.Halt.{Halt}
 use Rattle.file_run.specs.declared.halt.Halt.TheVariants as halt
 
 pub declines_goes : {T : Type 0} (result : Result T Halt) (before lines : ℕ) (old new : Option (List ℕ)) → Declines result lines → lines ≡ before + 1 → TookOneAtMost old new → Goes result before lines old new

@@ -1,16 +1,10 @@
 -- Where neither a read nor a write failed, the status says how the input stops.
+use Rattle.file_run.proofs.Common.{CountsFaults, Ended, EndsAs, Outside, RanOver, Reporting, Rose, Status, Wrote, input_read}
 use Rattle.std.proofs.Common.{◌≡◌, ℕ, List, refl}
 use Rattle.std.specs.Prelude.{IfSome}
 use Rattle.std.specs.declared.option.Option.{Option}
 use Rattle.std.proofs.lemmas.Option.{IfSome_then}
-use Rattle.fsoe_io.specs.Faults.{Rose}
-use Rattle.fsoe_io.specs.declared.status.Ended.{Ended}
-use Rattle.fsoe_io.specs.declared.status.Status.{Status}
 use Rattle.fsoe_io.specs.declared.status.Status.TheVariants as status
-use Rattle.schedule_file.specs.Input.{input_read}
-use Rattle.file_run.specs.Outside.{CountsFaults, Outside, Wrote}
-use Rattle.file_run.specs.Ran.{EndsAs, RanOver}
-use Rattle.file_run.specs.Reporting.{Reporting}
 
 -- some report of the input ends so
 abbrev pub IsReported : {H L E : Type 0} → Reporting H L E → Ended → Option (List ℕ) → Type 0

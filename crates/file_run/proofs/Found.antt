@@ -1,24 +1,12 @@
 -- Why there is no next line, or what is wrong with it.
+use Rattle.file_run.proofs.Common.{FindsEvent, FindsHeading, FindsLine, Goes, Halt, InputFormat, IsLine, Line, LineCause, Long, NoNewline, Reads, Refusal, first_line, halt_of, heading_by, heading_by_itself, in_input, input_cause, lines_of, says_after, says_by}
 use Rattle.std.proofs.Common.{◌≡◌, ℕ, ◌+◌, List, [], ◌∷◌, ◌++◌, refl, ap}
 use Rattle.std.specs.Prelude.{Bool, Result, Err, IfSome}
 use Rattle.std.specs.declared.option.Option.{Option}
 use Rattle.std.specs.Io.KnownBytes.{Consumes}
 use Rattle.std.proofs.lemmas.Option.{IfSome_then}
-use Rattle.fsoe_io.specs.Line.{IsLine}
-use Rattle.fsoe_io.specs.LineReader.{Reads}
 use Rattle.fsoe_io.specs.declared.line.LineFault.{LineFault}
 use Rattle.fsoe_io.specs.declared.line.LineFault.TheVariants as fault
-use Rattle.schedule_file.specs.Input.{InputFormat, Long, NoNewline, Line, lines_of}
-use Rattle.schedule_file.specs.declared.line_cause.LineCause.{LineCause}
-use Rattle.file_run.specs.Refusal.{input_cause}
-use Rattle.file_run.specs.Event.{FindsEvent, says_after, says_by, in_input}
-use Rattle.file_run.specs.Halt.{Goes}
-use Rattle.file_run.specs.HaltOf.{halt_of}
-use Rattle.file_run.specs.Header.{FindsHeading, heading_by, heading_by_itself}
-use Rattle.file_run.specs.NextLine.{FindsLine}
-use Rattle.file_run.specs.ByTitle.{first_line}
-use Rattle.file_run.specs.declared.refusal.Refusal.{Refusal}
-use Rattle.file_run.specs.declared.halt.Halt.{Halt}
 use Rattle.file_run.specs.declared.halt.Halt.TheVariants as halt
 use Rattle.file_run.proofs.Lines.{by_line, by_long, by_open}
 use Rattle.file_run.proofs.Taken.{took_nothing}

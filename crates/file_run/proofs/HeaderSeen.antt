@@ -1,19 +1,10 @@
 -- The lines of a header that were read.
+use Rattle.file_run.proofs.Common.{FindsHeading, Goes, Halt, HaltsHeader, InputCause, InputFormat, IsHeaderCutOff, IsLine, IsWholeHeader, Line, LineCause, NoLine, Refused, Stop, WholeHeaderOf, consumes_then, first_line, header_in, header_read, header_step, heading_by, heading_by_itself, input_cause, lines_of}
 use Rattle.std.proofs.Common.{◌≡◌, ℕ, ◌+◌, Bool, true, false, List, [], ◌∷◌, ◌++◌, refl, ap, ◌∙◌, sym, subst, append_assoc}
 use Rattle.std.specs.Prelude.{IsTrue, Result, Ok, Err, IfSome, Some, None}
 use Rattle.std.specs.declared.option.Option.{Option}
 use Rattle.std.specs.Io.KnownBytes.{Consumes}
 use Rattle.std.proofs.lemmas.List.{append-nil}
-use Rattle.fsoe_io.proofs.Taken.{consumes_then}
-use Rattle.fsoe_io.specs.Line.{IsLine}
-use Rattle.schedule_file.specs.Input.{InputCause, InputFormat, NoLine, Line, Stop, Refused, WholeHeaderOf, lines_of, header_in, header_read, header_step}
-use Rattle.schedule_file.specs.declared.line_cause.LineCause.{LineCause}
-use Rattle.file_run.specs.Refusal.{input_cause}
-use Rattle.file_run.specs.Halt.{Goes}
-use Rattle.file_run.specs.Header.{FindsHeading, IsWholeHeader, heading_by, heading_by_itself}
-use Rattle.file_run.specs.Left.{HaltsHeader, IsHeaderCutOff}
-use Rattle.file_run.specs.ByTitle.{first_line}
-use Rattle.file_run.specs.declared.halt.Halt.{Halt}
 use Rattle.file_run.specs.declared.halt.Halt.TheVariants as halt
 use Rattle.file_run.proofs.Lines.{lines_whole}
 

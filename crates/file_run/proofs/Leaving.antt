@@ -1,28 +1,10 @@
 -- What a run leaves.
+use Rattle.file_run.proofs.Common.{AppendedPart, AtEnd, Done, Ended, EndsWhole, FindsEvent, Goes, Grew, Halt, InputCause, InputFormat, InputOf, IsBegun, IsFullness, IsOneAhead, IsPrefix, IsUnmet, LeavesAll, LeavesAs, LeavesDone, Loses, MayFailIn, NoApp, NoFrame, OutputView, Outside, Refusal, Refused, Reporting, Running, Saying, Seen, Sent, Standing, Status, Stop, StopsAfter, Writes, halt_stopped, halted_by, input_cause, input_stopped, last_of, line_after, refused_at, refused_line}
 use Rattle.std.proofs.Common.{◌≡◌, ℕ, ◌+◌, ◌≤◌, Bool, List, [], ◌∷◌, ◌++◌, length, refl, arith, ap, sym, subst, inl, inr}
 use Rattle.std.specs.Prelude.{◌⊎◌, Ok, Err, None, Some}
 use Rattle.std.specs.declared.option.Option.{Option}
 use Rattle.std.proofs.lemmas.List.{append-nil, length-append}
-use Rattle.fsoe_io.specs.Output.{OutputView, Loses}
-use Rattle.fsoe_io.specs.Sink.{Grew}
-use Rattle.fsoe_io.specs.declared.status.Ended.{Ended}
-use Rattle.fsoe_io.specs.declared.status.Status.{Status}
 use Rattle.fsoe_io.specs.declared.status.Status.TheVariants as status
-use Rattle.schedule_file.specs.Input.{InputCause, InputFormat, InputOf, NoFrame, NoApp, Stop, AtEnd, Refused}
-use Rattle.file_run.specs.Refusal.{input_cause}
-use Rattle.file_run.specs.Ending.{AppendedPart, Writes}
-use Rattle.file_run.specs.Event.{FindsEvent}
-use Rattle.file_run.specs.Halt.{Goes}
-use Rattle.file_run.specs.HaltOf.{halt_stopped}
-use Rattle.file_run.specs.Left.{Done, IsBegun, IsOneAhead, IsUnmet, LeavesAll, LeavesAs, MayFailIn, StopsAfter, line_after}
-use Rattle.file_run.specs.Running.{LeavesDone, IsFullness, Running, Saying, Seen, Sent, Standing}
-use Rattle.file_run.specs.Outside.{Outside}
-use Rattle.file_run.specs.Ran.{EndsWhole}
-use Rattle.file_run.specs.Report.{refused_line}
-use Rattle.file_run.specs.Reporting.{IsPrefix, Reporting, input_stopped, refused_at}
-use Rattle.file_run.specs.Stop.{halted_by, last_of}
-use Rattle.file_run.specs.declared.halt.Halt.{Halt}
-use Rattle.file_run.specs.declared.refusal.Refusal.{Refusal}
 use Rattle.file_run.specs.declared.halt.Halt.TheVariants as halt
 use Rattle.file_run.specs.declared.stopped.Stopped.{Stopped}
 use Rattle.file_run.specs.declared.stopped.Stopped.TheVariants as stopped

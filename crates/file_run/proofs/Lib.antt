@@ -17,3 +17,4 @@ pub mod Before
 pub mod Declined
 pub mod Titled
 pub mod Unread
+pub mod Common

@@ -1,4 +1,5 @@
 -- The first line of an input.
+use Rattle.file_run.proofs.Common.{HasNoNewline, InputCause, IsLine, IsTooLong, IsUnended, Long, NoNewline, is_newline, lines_in, lines_of, open_line, whole_line}
 use Rattle.std.proofs.Common.{◌≡◌, ℕ, zero, suc, ◌+◌, ◌≤◌, ◌<◌, List, [], ◌∷◌, ◌++◌, length, take, refl, arith, ap, ◌∙◌, sym, subst, append_assoc}
 use Rattle.std.specs.Prelude.{Result, Ok, Err, IfSome, Some, None}
 use Rattle.std.specs.declared.option.Option.{Option}
@@ -6,9 +7,6 @@ use Rattle.std.specs.Io.KnownBytes.{Consumes}
 use Rattle.std.specs.List.{slice_split, onto_first}
 use Rattle.std.proofs.lemmas.List.Splits.{slice_split_at, slice_split_none, length-slice_split, slice_split-cons_no}
 use Rattle.std.proofs.lemmas.Bool.Decides.{nat_tests}
-use Rattle.fsoe_io.specs.Line.{is_newline, IsLine, HasNoNewline}
-use Rattle.fsoe_io.specs.LineReader.{IsTooLong, IsUnended}
-use Rattle.schedule_file.specs.Input.{InputCause, Long, NoNewline, whole_line, open_line, lines_in, lines_of}
 
 whole_short : (text : List ℕ) → length text ≤ 640 → whole_line text ≡ Ok text
 whole_short text h = grind (arith, nat_tests)

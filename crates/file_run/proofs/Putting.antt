@@ -1,4 +1,5 @@
 -- Texts that go through a buffer part by part.
+use Rattle.file_run.proofs.Common.{Ended, Loses, OutputView, Passes, Puts, Rose, Writes}
 use Rattle.std.proofs.Common.{◌≡◌, ℕ, true, false, List, [], ◌∷◌, ◌++◌, length, refl, arith, ap, ◌∙◌, sym, append_assoc, inl, inr}
 use Rattle.std.specs.Prelude.{◌==◌, ◌≢◌, Result, Ok, Err}
 use Rattle.std.specs.declared.option.Option.{Option}
@@ -6,11 +7,7 @@ use Rattle.std.proofs.lemmas.Bool.{eqb-true}
 use Rattle.std.proofs.lemmas.List.{append-nil, length-append}
 use Rattle.fsoe_io.proofs.Grown.{grew_then}
 use Rattle.fsoe_io.proofs.Passing.{passes_none}
-use Rattle.fsoe_io.specs.Output.{OutputView, Loses, Passes, Puts}
-use Rattle.fsoe_io.specs.declared.status.Ended.{Ended}
 use Rattle.fsoe_io.specs.declared.status.Status.TheVariants as status
-use Rattle.fsoe_io.specs.Faults.{Rose}
-use Rattle.file_run.specs.Ending.{Writes}
 use Rattle.file_run.proofs.Sending.{rose_since}
 
 -- a piece after another

@@ -1,36 +1,14 @@
 -- A run over the events of an input, whatever they do: what was read of it and what was written.
+use Rattle.file_run.proofs.Common.{Always, AtEnd, BeforeEvents, BeginsReport, Blames, CameToEnd, Ended, EndsAs, EndsReport, EndsStopped, EndsUnmet, EndsWhole, FindsEvent, Goes, Grew, Halt, Halts, HaltsHeader, HasNoNewline, InputCause, InputFormat, InputOf, IsFullness, IsHeaderCutOff, Keeps, Loses, MayCome, MayWant, MemoryUse, Never, NoApp, NoFrame, NoLine, OutputView, Outside, Passes, ReadsWhole, Refusal, Refused, Reporting, ReportsReadLines, ReportsSoFar, Rose, Running, Saying, SaysSo, Seen, Sent, Stalls, Standing, Status, Stop, TakesEvent, TakesMemory, TookLines, Writes, Wrote, halt_stopped, halted_by, header_read, input_by, input_cause, input_headless, input_on, input_read, input_stopped, last_of, line_of_end, lines_of, more_on, most_held, most_parts, most_waiting, refused_at, refused_line}
 use Rattle.std.proofs.Common.{◌≡◌, ℕ, ◌+◌, ◌*◌, ◌≤◌, ◌<◌, Bool, List, [], ◌∷◌, ◌++◌, length, refl, arith, ap, ◌∙◌, sym, subst}
 use Rattle.std.specs.Prelude.{false, Ok, Err, IfSome, Some, None}
 use Rattle.std.specs.declared.option.Option.{Option}
 use Rattle.std.specs.Io.KnownBytes.{Consumes, prepend_known}
 use Rattle.std.proofs.lemmas.List.{append-nil, length-append, length_push}
 use Rattle.std.proofs.lemmas.Option.{IfSome_then}
-use Rattle.fsoe_io.specs.Faults.{Rose}
-use Rattle.fsoe_io.specs.Line.{HasNoNewline, most_held}
-use Rattle.fsoe_io.specs.Output.{OutputView, Loses, Passes}
-use Rattle.fsoe_io.specs.Sink.{most_waiting, Grew}
-use Rattle.fsoe_io.specs.declared.status.Ended.{Ended}
-use Rattle.fsoe_io.specs.declared.status.Status.{Status}
 use Rattle.fsoe_io.specs.declared.status.Status.TheVariants as status
-use Rattle.schedule_file.specs.Input.{InputCause, InputFormat, InputOf, NoLine, NoFrame, NoApp, Stop, AtEnd, Refused, lines_of, header_read, input_by, input_read}
 use Rattle.schedule_file.specs.declared.event.TheConstants.{MAX_EVENTS}
-use Rattle.file_run.specs.Refusal.{input_cause}
-use Rattle.file_run.specs.Ending.{Writes}
-use Rattle.file_run.specs.Halt.{Halts, Blames, Goes, Stalls}
-use Rattle.file_run.specs.Event.{FindsEvent}
-use Rattle.file_run.specs.HaltOf.{halt_stopped}
 use Rattle.file_run.specs.Begun.{Begins}
-use Rattle.file_run.specs.Left.{HaltsHeader, IsHeaderCutOff}
-use Rattle.file_run.specs.Machine.{Keeps, TakesEvent, MayCome, most_parts, EndsReport, EndsStopped, EndsUnmet, input_headless}
-use Rattle.file_run.specs.Outside.{Outside, Wrote}
-use Rattle.file_run.specs.Ran.{CameToEnd, EndsAs, EndsWhole, MayWant, ReadsWhole, ReportsReadLines, line_of_end}
-use Rattle.file_run.specs.Report.{refused_line}
-use Rattle.file_run.specs.Reporting.{BeginsReport, MemoryUse, Never, BeforeEvents, Always, Reporting, ReportsSoFar, TakesMemory, input_stopped, refused_at}
-use Rattle.file_run.specs.Running.{IsFullness, Running, Saying, SaysSo, Seen, Sent, Standing, input_on, more_on}
-use Rattle.file_run.specs.Stop.{halted_by, last_of}
-use Rattle.file_run.specs.WholeLines.{TookLines}
-use Rattle.file_run.specs.declared.halt.Halt.{Halt}
-use Rattle.file_run.specs.declared.refusal.Refusal.{Refusal}
 use Rattle.file_run.specs.declared.halt.Halt.TheVariants as halt
 use Rattle.file_run.specs.declared.stopped.Stopped.{Stopped}
 use Rattle.file_run.specs.declared.stopped.Stopped.TheVariants as stopped

@@ -1,18 +1,11 @@
 -- The events of an input that were read.
+use Rattle.file_run.proofs.Common.{AtEnd, InputCause, InputFormat, IsLine, IsWholeHeader, Line, LineCause, Lines, NoLine, Refused, Seen, Stop, TooMany, before_more, by_itself, consumes_then, first_line, in_input, input_by, input_on, input_read, input_with, lines_of, more_on, says_after, says_by, steps, stop_at, stop_by, stop_full, stop_said, texts, with_room}
 use Rattle.std.proofs.Common.{◌≡◌, ℕ, ◌+◌, Bool, true, false, List, [], ◌∷◌, ◌++◌, length, map, refl, ap, ◌∙◌, sym, subst, append_assoc, inl, inr}
 use Rattle.std.specs.Prelude.{Result, Ok, Err, Some, None, ◌⊎◌, slice_get, codes, if◌then◌else◌}
 use Rattle.std.specs.declared.option.Option.{Option}
 use Rattle.std.specs.Io.KnownBytes.{Consumes}
 use Rattle.std.specs.Str.{bytes_eq}
 use Rattle.std.proofs.lemmas.List.{append-nil}
-use Rattle.fsoe_io.proofs.Taken.{consumes_then}
-use Rattle.fsoe_io.specs.Line.{IsLine}
-use Rattle.schedule_file.specs.Input.{InputCause, InputFormat, NoLine, TooMany, Line, Stop, AtEnd, Refused, lines_of, texts, steps, before_more, with_room, stop_full, stop_said, stop_by, stop_at, input_by, input_read}
-use Rattle.schedule_file.specs.declared.line_cause.LineCause.{LineCause}
-use Rattle.file_run.specs.Event.{says_after, says_by, by_itself, in_input}
-use Rattle.file_run.specs.Header.{IsWholeHeader}
-use Rattle.file_run.specs.ByTitle.{first_line}
-use Rattle.file_run.specs.Running.{Lines, Seen, input_on, input_with, more_on}
 use Rattle.file_run.specs.declared.refusal.Refusal.TheVariants as refusal
 use Rattle.file_run.proofs.Lines.{lines_whole}
 

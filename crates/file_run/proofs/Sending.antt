@@ -1,4 +1,5 @@
 -- What a run sent, and how it ends by that.
+use Rattle.file_run.proofs.Common.{AppendedPart, BeginsReport, CutsReport, Ended, EndsAs, FailedWrite, Grew, InputOf, IsCutOff, IsPrefix, Loses, OutputView, Outside, Passes, Reporting, Rose, Told, Writes, input_read}
 use Rattle.std.proofs.Common.{◌≡◌, ℕ, ◌<◌, List, [], ◌++◌, length, arith, ap, ◌∙◌, sym, subst, append_assoc, inl, inr}
 use Rattle.std.specs.Prelude.{IfSome}
 use Rattle.std.specs.declared.option.Option.{Option}
@@ -6,16 +7,7 @@ use Rattle.std.proofs.lemmas.List.{append-nil, length-append}
 use Rattle.std.proofs.lemmas.Option.{IfSome_then}
 use Rattle.fsoe_io.proofs.Grown.{grew_then}
 use Rattle.fsoe_io.proofs.Passing.{grew_none}
-use Rattle.fsoe_io.specs.Output.{OutputView, Loses, Passes}
-use Rattle.fsoe_io.specs.Faults.{Rose}
-use Rattle.fsoe_io.specs.Sink.{Grew}
-use Rattle.fsoe_io.specs.declared.status.Ended.{Ended}
 use Rattle.fsoe_io.specs.declared.status.Status.TheVariants as status
-use Rattle.schedule_file.specs.Input.{InputOf, input_read}
-use Rattle.file_run.specs.Ending.{AppendedPart, IsCutOff, Writes}
-use Rattle.file_run.specs.Outside.{Outside, Told}
-use Rattle.file_run.specs.Ran.{EndsAs, FailedWrite}
-use Rattle.file_run.specs.Reporting.{Reporting, BeginsReport, CutsReport, IsPrefix}
 pub use Rattle.file_run.specs.Running.{Sent}
 
 pub sent_none : (w : Option (List ℕ)) (waiting : OutputView) → waiting.bytes ≡ [] → waiting.sent ≡ 0 → Sent w w waiting []

@@ -1,17 +1,11 @@
 -- Whole lines that are taken one after another.
+use Rattle.file_run.proofs.Common.{Goes, Halt, Halts, Held, IsLine, Stalls, TookLines, TookOneAtMost, consumes_then, from_line, joined, most_held}
 use Rattle.std.proofs.Common.{◌≡◌, ℕ, ◌+◌, List, [], ◌∷◌, ◌++◌, ◌≤◌, length, refl, ap, arith, ◌∙◌, sym, subst, append_assoc}
 use Rattle.std.specs.Prelude.{None, Some, Bool, Err}
 use Rattle.std.specs.declared.option.Option.{Option}
 use Rattle.std.specs.Io.KnownBytes.{Consumes, prepend_known}
 use Rattle.std.proofs.lemmas.List.{append-nil, length-append, length_push}
 use Rattle.std.proofs.lemmas.List.Elements.{All-append, All-nil, All-push}
-use Rattle.fsoe_io.proofs.Taken.{consumes_then}
-use Rattle.fsoe_io.specs.Line.{IsLine, most_held}
-use Rattle.fsoe_io.specs.LineReader.{Held}
-use Rattle.file_run.specs.Halt.{Halts, Goes, Stalls, TookOneAtMost}
-use Rattle.file_run.specs.NextLine.{from_line}
-use Rattle.file_run.specs.WholeLines.{TookLines, joined}
-use Rattle.file_run.specs.declared.halt.Halt.{Halt}
 use Rattle.file_run.specs.declared.halt.Halt.TheVariants as halt
 
 pub joined-append : (xs ys : List (List ℕ)) → joined (xs ++ ys) ≡ joined xs ++ joined ys

@@ -1,6 +1,6 @@
 -- What a machine stands for.
+use Rattle.file_run.proofs.Common.{IsStanding, Keeps, TakesEvent}
 use Rattle.std.proofs.Common.{ℕ, List, ◌∷◌, [], ◌++◌, ◌≡◌, ◌+◌, length}
-use Rattle.file_run.specs.Machine.{IsStanding, Keeps, TakesEvent}
 
 pub still_stands : {H E : Type 0} (old new : H → List E → List ℕ → Type 0) → Keeps old new → IsStanding old → IsStanding new
 still_stands old new keeps stands = (stands.0, stands.1, stands.2, keeps stands.0 stands.1 stands.2 stands.3)

@@ -1,20 +1,9 @@
 -- An input whose first line doesn't come, or is too long.
+use Rattle.file_run.proofs.Common.{Blames, Ended, FindsLine, Goes, Halt, HaltsHeader, InputFormat, LeavesUnbegun, Outside, RanOver, Reporting, Stalls, TakesMemory, Writes, halted_by, last_of, most_held}
 use Rattle.std.proofs.Common.{◌≡◌, ◌≤◌, ℕ, List, [], ◌++◌, length, refl, ap, subst, arith}
 use Rattle.std.specs.Prelude.{false, Err, Some, None}
 use Rattle.std.specs.declared.option.Option.{Option}
 use Rattle.std.specs.Io.KnownBytes.{prepend_known}
-use Rattle.fsoe_io.specs.Line.{most_held}
-use Rattle.fsoe_io.specs.declared.status.Ended.{Ended}
-use Rattle.schedule_file.specs.Input.{InputFormat}
-use Rattle.file_run.specs.Ending.{Writes}
-use Rattle.file_run.specs.Halt.{Blames, Goes, Stalls}
-use Rattle.file_run.specs.Left.{HaltsHeader, LeavesUnbegun}
-use Rattle.file_run.specs.NextLine.{FindsLine}
-use Rattle.file_run.specs.Outside.{Outside}
-use Rattle.file_run.specs.Ran.{RanOver}
-use Rattle.file_run.specs.Reporting.{Reporting, TakesMemory}
-use Rattle.file_run.specs.Stop.{halted_by, last_of}
-use Rattle.file_run.specs.declared.halt.Halt.{Halt}
 use Rattle.file_run.specs.declared.halt.Halt.TheVariants as halt
 use Rattle.file_run.proofs.Counted.{counted_halted}
 use Rattle.file_run.proofs.Exact.{ran_by}

@@ -1,25 +1,12 @@
 -- What each event leaves at the machine is what looking back gives.
+use Rattle.master_core.proofs.Common.{Accepted, Command, Deed, IsProper, IsRun, MasterSettings, Move, OfMaster, State, after, answered_by, code, did_on, kit_of, next_phase, notes_of, on_verdict, phase_in, settles, state_of, view_in, view_of}
 use Rattle.std.proofs.Common.{◌≡◌, ℕ, ◌-◌, ◌<◌, List, [], ◌∷◌, refl, sym, subst, arith}
 use Rattle.std.proofs.lemmas.List.{length-replicate}
-use Rattle.fsoe_base.specs.declared.command.Command.{Command}
 use Rattle.fsoe_base.specs.declared.command.Command.TheVariants as command
-use Rattle.fsoe_base.specs.declared.command.State.{State}
 use Rattle.fsoe_base.specs.declared.command.State.TheVariants as state
 use Rattle.fsoe_base.specs.declared.did.Cause.TheVariants as cause
-use Rattle.fsoe_base.specs.Command.{code}
-use Rattle.param_load.specs.declared.entry.Move.{Move}
 use Rattle.param_load.specs.declared.entry.Move.TheVariants as move
-use Rattle.param_load.specs.declared.master_settings.MasterSettings.{MasterSettings}
-use Rattle.end_model.specs.Setup.{OfMaster}
-use Rattle.end_model.specs.Deed.{Deed}
-use Rattle.end_model.specs.Readiness.{state_of}
-use Rattle.end_model.specs.Step.{on_verdict, did_on}
-use Rattle.end_model.specs.Runs.{IsProper, IsRun}
 use Rattle.end_model.specs.Verdict as model
-use Rattle.master_core.specs.After.{after}
-use Rattle.master_core.specs.Master.{Accepted, settles, answered_by}
-use Rattle.master_core.specs.Phase.{next_phase}
-use Rattle.master_core.specs.ViewOf.{notes_of, kit_of, phase_in, view_in, view_of}
 use Rattle.master_core.proofs.Sound.{Sound, SoundAt}
 use Rattle.master_core.proofs.SameVerdict.{came, Came, Same, Drops, Refuses, ByReset, Passes, same}
 use Rattle.master_core.proofs.Agrees.{Agrees, drop-agrees, refuse-agrees, falls-agree, put-agrees, hold-agrees, nonce-agrees, tick-agrees}

@@ -1,32 +1,13 @@
 -- What an event leaves at the machine is what looking back gives: where no frame of a session is taken.
+use Rattle.master_core.proofs.Common.{AreBytes, Code, Deed, Did, Dropped, KitView, MasterSettings, MasterView, Move, OfMaster, Outcome, Phase, State, answered_by, at_limit, at_rest, code, code_sent, deed_of, dropped, drops, ends, falls, kit_of, notes_of, nothing, on_expiry, on_fault, phase_in, refuses, resets, state_of, tick_of, ticks, view_in, view_of, with_kit}
 use Rattle.std.proofs.Common.{◌≡◌, ℕ, suc, ◌+◌, ◌<◌, ◌==◌, nat_le, List, [], ◌∷◌, length, Bool, true, false, if◌then◌else◌, refl, sym, ap, subst, ◌∙◌, arith}
 use Rattle.std.proofs.lemmas.Bool.Decides.{nat_tests}
-use Rattle.fsoe_base.specs.declared.command.Code.{Code}
-use Rattle.fsoe_base.specs.declared.command.State.{State}
 use Rattle.fsoe_base.specs.declared.command.State.TheVariants as state
 use Rattle.fsoe_base.specs.declared.did.Cause.{Cause}
 use Rattle.fsoe_base.specs.declared.did.Cause.TheVariants as cause
-use Rattle.fsoe_base.specs.declared.did.Did.{Did}
-use Rattle.fsoe_base.specs.declared.did.Dropped.{Dropped}
 use Rattle.fsoe_base.specs.declared.did.Dropped.TheVariants as why
-use Rattle.fsoe_base.specs.Command.{code}
-use Rattle.fsoe_base.specs.Did.{nothing, dropped, resets}
-use Rattle.fsoe_frame.specs.Parts.{AreBytes}
 use Rattle.seq_chain.specs.Reset.{reset_frame}
-use Rattle.param_load.specs.declared.entry.Move.{Move}
 use Rattle.param_load.specs.declared.entry.Move.TheVariants as move
-use Rattle.param_load.specs.declared.master_settings.MasterSettings.{MasterSettings}
-use Rattle.end_model.specs.Setup.{OfMaster}
-use Rattle.end_model.specs.Deed.{Deed}
-use Rattle.end_model.specs.Readiness.{state_of, ticks}
-use Rattle.end_model.specs.Step.{on_fault, on_expiry, code_sent, deed_of}
-use Rattle.master_core.specs.declared.phase.Phase.{Phase}
-use Rattle.master_core.specs.Kit.{KitView}
-use Rattle.master_core.specs.After.{with_kit}
-use Rattle.master_core.specs.Master.{Outcome, drops, ends, refuses, answered_by, falls, at_limit, tick_of}
-use Rattle.master_core.specs.MasterView.{MasterView}
-use Rattle.master_core.specs.Now.{at_rest}
-use Rattle.master_core.specs.ViewOf.{notes_of, kit_of, phase_in, view_in, view_of}
 use Rattle.master_core.proofs.Sound.{Sound}
 
 -- bytes that are delivered are bytes

@@ -1,28 +1,12 @@
 -- What is known of a frame of a session that came, and how a master goes on by it and by the frame that follows.
+use Rattle.master_core.proofs.Common.{AreBytes, Chain, Command, Deed, MasterSettings, OfMaster, Setup, after_taken, begun, bytes_of, chain_sent, command_byte, first_of, frame_len, frame_of, frame_sent, is_empty, is_reset, notes_of, own_crc, own_link, padded, piece_from, receives, sends, taken_link, takes_frame}
 use Rattle.std.proofs.Common.{◌≡◌, ℕ, ◌≤◌, List, ◌∷◌, length, false, refl, arith}
 use Rattle.std.proofs.lemmas.Grind.{common_steps}
-use Rattle.fsoe_base.specs.declared.command.Command.{Command}
 use Rattle.fsoe_base.specs.declared.command.Command.TheVariants as command
-use Rattle.fsoe_base.specs.Command.{command_byte}
-use Rattle.fsoe_base.specs.Lengths.{frame_len}
-use Rattle.fsoe_frame.specs.Parts.{AreBytes, bytes_of, frame_of}
 use Rattle.fsoe_frame.proofs.Places.{Whole, whole}
-use Rattle.seq_chain.specs.declared.chain.Chain.{Chain}
-use Rattle.seq_chain.specs.Chain.{after_taken}
-use Rattle.seq_chain.specs.Session.{chain_sent, frame_sent}
-use Rattle.seq_chain.specs.Cover.{first_of}
 use Rattle.seq_chain.specs.Sealing as sealing
 use Rattle.param_load.specs.declared.entry.Move.TheVariants as move
-use Rattle.param_load.specs.declared.master_settings.MasterSettings.{MasterSettings}
-use Rattle.param_load.specs.Payload.{piece_from, padded}
-use Rattle.end_model.specs.Setup.{Setup, OfMaster, sends, receives}
-use Rattle.end_model.specs.Phases.{is_reset}
-use Rattle.end_model.specs.Deed.{Deed, is_empty}
-use Rattle.end_model.specs.Chain.{own_link, taken_link}
-use Rattle.end_model.specs.Step.{takes_frame, begun}
-use Rattle.end_model.proofs.Links.{own_crc}
 use Rattle.end_model.proofs.ReadBack.{read_back}
-use Rattle.master_core.specs.ViewOf.{notes_of}
 use Rattle.master_core.proofs.SameVerdict.{came}
 
 -- a frame of the slave's length

@@ -1,36 +1,15 @@
 -- A Reset frame that is taken: in state Reset it begins a session.
+use Rattle.master_core.proofs.Common.{Chain, Code, Command, Deed, MasterSettings, Notes, OfMaster, Outcome, Setup, State, accepts, answered_by, begins, begun, bytes_of, chain_sent, code, command_byte, deed_of, dropped, drops, first_of, frame_of, frame_sent, fresh, is_empty, makes_due, newest_crc, nonce, notes_of, on_reset_frame, own_link, padded, piece_from, piece_len, receives, seal, sends, session_payload, since, state_of, taken, taken_crc, takes_frame, view_in}
 use Rattle.std.proofs.Common.{◌≡◌, ℕ, ◌-◌, ◌*◌, ◌==◌, Bool, true, false, List, ◌∷◌, length, Option, Some, None, unwrap_or, if◌then◌else◌, refl, sym, ap, subst, ◌∙◌}
 use Rattle.std.specs.Option.{option_or}
-use Rattle.fsoe_base.specs.declared.command.Code.{Code}
-use Rattle.fsoe_base.specs.declared.command.Command.{Command}
 use Rattle.fsoe_base.specs.declared.command.Command.TheVariants as command
-use Rattle.fsoe_base.specs.declared.command.State.{State}
 use Rattle.fsoe_base.specs.declared.command.State.TheVariants as state
 use Rattle.fsoe_base.specs.declared.did.Dropped.TheVariants as why
-use Rattle.fsoe_base.specs.Command.{command_byte, code}
-use Rattle.fsoe_base.specs.Did.{dropped}
-use Rattle.fsoe_frame.specs.Parts.{bytes_of, frame_of}
-use Rattle.seq_chain.specs.declared.chain.Chain.{Chain}
-use Rattle.seq_chain.specs.Cover.{first_of}
 use Rattle.seq_chain.specs.Sealing as sealing
 use Rattle.param_load.specs.declared.entry.Move.TheVariants as move
-use Rattle.param_load.specs.declared.master_settings.MasterSettings.{MasterSettings}
-use Rattle.param_load.specs.Payload.{session_payload, piece_from, padded}
-use Rattle.end_model.specs.Setup.{Setup, OfMaster, sends, receives, piece_len}
-use Rattle.end_model.specs.Deed.{Deed, is_empty}
-use Rattle.end_model.specs.Chain.{since, taken, newest_crc, own_link, seal}
-use Rattle.end_model.specs.Payloads.{nonce}
-use Rattle.end_model.specs.Readiness.{state_of}
-use Rattle.end_model.specs.Step.{takes_frame, on_reset_frame, begun, deed_of}
-use Rattle.end_model.proofs.Links.{taken_crc}
 use Rattle.end_model.proofs.ReadBack.{read_back}
 use Rattle.master_core.specs.declared.phase.Phase.TheVariants as phase
-use Rattle.fsoe_base.specs.Did.{takes as accepts}
-use Rattle.seq_chain.specs.Chain.{fresh}
-use Rattle.seq_chain.specs.Session.{chain_sent, frame_sent}
-use Rattle.master_core.specs.Master.{Outcome, drops, makes_due, begins, answered_by}
 use Rattle.master_core.specs.Master as machine
-use Rattle.master_core.specs.ViewOf.{Notes, notes_of, view_in}
 use Rattle.master_core.proofs.Sound.{no_notes, Sound, SoundAt}
 use Rattle.master_core.proofs.Pieces.{piece_own}
 use Rattle.master_core.proofs.SameVerdict.{came}

@@ -1,22 +1,11 @@
 -- The law over all calls of a master: after any list of them it is after their deeds, or waits after them while a frame
 -- is due.
+use Rattle.master_core.proofs.Common.{Deed, Delivery, Did, IsRun, MasterIsAfter, MasterSettings, MasterView, Move, OfMaster, Setup, Waits, begun, events_of, is_due, nothing, run, step}
 use Rattle.std.proofs.Common.{◌≡◌, ℕ, List, [], ◌∷◌, Bool, true, false, Option, Some, None, if◌then◌else◌, refl, sym, ap, subst, ◌∙◌}
-use Rattle.fsoe_base.specs.declared.did.Did.{Did}
-use Rattle.fsoe_base.specs.Did.{nothing}
-use Rattle.param_load.specs.declared.entry.Move.{Move}
 use Rattle.param_load.specs.declared.entry.Move.TheVariants as move
-use Rattle.param_load.specs.declared.master_settings.MasterSettings.{MasterSettings}
-use Rattle.end_model.specs.Setup.{Setup, OfMaster}
-use Rattle.end_model.specs.Deed.{Deed}
-use Rattle.end_model.specs.Runs.{events_of, IsRun}
-use Rattle.end_model.specs.Step.{begun, step, run}
 use Rattle.end_model.proofs.Runs.{deed, same_deed, set_deed, run_of_events}
 use Rattle.end_model.specs.Reactions.{Reaction, Expires, SendsAgain, ResetsItself, Refuses, PeerResets, Answers}
 use Rattle.end_model.proofs.SoundRuns.{reacts}
-use Rattle.master_core.specs.MasterView.{MasterView}
-use Rattle.master_core.specs.Now.{is_due}
-use Rattle.master_core.specs.Standing.{MasterIsAfter}
-use Rattle.master_core.specs.Waiting.{Delivery, Waits}
 use Rattle.master_core.specs.Calls.{Call, Event, Setting, Accept, Reply, MadeEvent, MadeSetting, MadeAccept, MadeReply, Called, Pending, delivery_after, tells_due, left_by, pending, with_reply, deeds_of}
 
 -- where these deeds leave a master: it is after them, or waits after them in this delivery

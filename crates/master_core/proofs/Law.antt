@@ -1,29 +1,11 @@
 -- The law: a master that is after some deeds is, after an event, after these and the next one, and answers as that one
 -- does.
+use Rattle.master_core.proofs.Common.{Answers, Deed, Did, Follows, IsProper, IsRun, IsSetting, MasterIsAfter, MasterSettings, MasterView, Move, OfMaster, Phase, Shows, State, Terms, after, age, did_on, first_master, held, notes_of, nothing, offer, out, outputs, phase_in, state_of, terms, told_in, told_terms, view_of, zeros}
 use Rattle.std.proofs.Common.{◌≡◌, ◌≢◌, ℕ, List, [], Bool, Option, refl, sym, ap, subst, ◌∙◌}
-use Rattle.fsoe_base.specs.declared.command.State.{State}
 use Rattle.fsoe_base.specs.declared.command.State.TheVariants as state
-use Rattle.fsoe_base.specs.declared.did.Did.{Did}
-use Rattle.fsoe_base.specs.Did.{nothing}
-use Rattle.param_load.specs.declared.entry.Move.{Move}
-use Rattle.param_load.specs.declared.master_settings.MasterSettings.{MasterSettings}
-use Rattle.param_load.specs.declared.terms.Terms.{Terms}
-use Rattle.end_model.specs.Setup.{OfMaster}
-use Rattle.end_model.specs.Deed.{Deed}
-use Rattle.end_model.specs.Runs.{IsSetting, IsProper, IsRun}
-use Rattle.end_model.specs.Payloads.{terms}
-use Rattle.end_model.specs.Readiness.{state_of, age, told_in, told_terms, offer, held}
-use Rattle.end_model.specs.Step.{did_on}
-use Rattle.end_model.specs.Outputs.{zeros, outputs, out}
 use Rattle.end_model.proofs.Runs.{set_deed}
 use Rattle.end_model.proofs.Shown.{looking_back, fail_safe}
-use Rattle.master_core.specs.declared.phase.Phase.{Phase}
 use Rattle.master_core.specs.Phase as machine
-use Rattle.master_core.specs.After.{after}
-use Rattle.master_core.specs.Master.{first_master}
-use Rattle.master_core.specs.MasterView.{MasterView}
-use Rattle.master_core.specs.Standing.{MasterIsAfter, Follows, Answers, Shows}
-use Rattle.master_core.specs.ViewOf.{notes_of, phase_in, view_of}
 use Rattle.master_core.proofs.Agrees.{Agrees, AreRead}
 use Rattle.master_core.proofs.Agreed.{agrees, run-sound}
 

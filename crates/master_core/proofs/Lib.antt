@@ -14,3 +14,4 @@ pub mod TakenAnswers
 pub mod TakenData
 pub mod Taking
 pub mod Waiting
+pub mod Common

@@ -1,10 +1,8 @@
 -- When the pieces of a payload are all sent.
+use Rattle.master_core.proofs.Common.{MasterSettings, OfMaster, is_length, piece_len}
 use Rattle.std.proofs.Common.{◌≡◌, ℕ, zero, suc, ◌+◌, ◌-◌, ◌*◌, ◌/◌, ◌<◌, ◌≤◌, min, nat_le, nat_lt, Bool, true, false, not, IsTrue, refl, sym, ap, ◌∙◌, suc-mul, arith}
 use Rattle.std.proofs.Math.Nat.{le-div_iff_mul-le}
 use Rattle.std.proofs.lemmas.Bool.Decides.{nat_tests}
-use Rattle.fsoe_base.specs.Lengths.{is_length}
-use Rattle.param_load.specs.declared.master_settings.MasterSettings.{MasterSettings}
-use Rattle.end_model.specs.Setup.{OfMaster, piece_len}
 
 some-length : (l : ℕ) → IsTrue (is_length l) → 0 < l
 some-length l h = grind (arith, nat_tests)

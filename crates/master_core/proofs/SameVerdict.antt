@@ -1,33 +1,17 @@
 -- The tests of the machine end as those of looking back.
+use Rattle.master_core.proofs.Common.{Accepted, Code, Command, Deed, Dropped, Frame, MasterSettings, Notes, OfMaster, State, accepted, accepted_by, allowed, code, drops, first_of, fits, fits_next, frame_len, frame_of, kept, kit_of, master_allows, notes_of, on_reset_view, on_session, own_crc, phase_in, refuses, settles, since, state_of, taken_link, view_in}
 use Rattle.std.proofs.Common.{◌≡◌, ◌≢◌, ℕ, Bool, true, false, List, length, Option, refl, sym, ap, subst, ◌∙◌}
-use Rattle.fsoe_base.specs.declared.command.Code.{Code}
-use Rattle.fsoe_base.specs.declared.command.Command.{Command}
 use Rattle.fsoe_base.specs.declared.command.Command.TheVariants as command
-use Rattle.fsoe_base.specs.declared.command.State.{State}
 use Rattle.fsoe_base.specs.declared.command.State.TheVariants as state
-use Rattle.fsoe_base.specs.declared.did.Dropped.{Dropped}
 use Rattle.fsoe_base.specs.declared.did.Dropped.TheVariants as dropped
-use Rattle.fsoe_base.specs.Command.{code}
-use Rattle.fsoe_base.specs.Lengths.{frame_len}
-use Rattle.fsoe_frame.specs.Parts.{Frame, frame_of}
 use Rattle.seq_chain.specs.declared.opened.Opened.{Opened}
 use Rattle.seq_chain.specs.declared.opened.Opened.TheVariants as opened_as
-use Rattle.seq_chain.specs.Session.{fits_next}
-use Rattle.seq_chain.specs.Cover.{first_of}
 use Rattle.seq_chain.specs.Opened.{opened}
 use Rattle.seq_chain.specs.Sealing as sealing
-use Rattle.param_load.specs.declared.master_settings.MasterSettings.{MasterSettings}
-use Rattle.end_model.specs.Setup.{OfMaster}
-use Rattle.end_model.specs.Deed.{Deed}
-use Rattle.end_model.specs.Chain.{since, kept, taken_link, fits}
-use Rattle.end_model.specs.Readiness.{state_of, master_allows, allowed}
 use Rattle.end_model.specs.Verdict as model
 use Rattle.seq_chain.proofs.OpenedFrame as opens
 use Rattle.seq_chain.proofs.OpenedFrame.{Tested, tested}
-use Rattle.end_model.proofs.Links.{own_crc}
-use Rattle.master_core.specs.Master.{Accepted, drops, refuses, on_reset_view, settles, on_session, accepted_by, accepted}
 use Rattle.master_core.specs.Phase as machine
-use Rattle.master_core.specs.ViewOf.{Notes, notes_of, kit_of, phase_in, view_in}
 use Rattle.master_core.proofs.Sound.{SoundAt}
 
 -- the frame that came

@@ -1,23 +1,9 @@
 -- What a master shows while a frame is due is what it shows after the reply.
+use Rattle.master_core.proofs.Common.{Deed, Delivery, KitView, MasterSettings, MasterView, Phase, Setup, Shows, ShowsDue, State, Terms, Waits, age, held, is_due, offer, out, replied, replies, reply, state_of, told_terms, view_of, with_delivery}
 use Rattle.std.proofs.Common.{◌≡◌, ℕ, List, Bool, Option, Some, None, IsTrue, refl, sym, ap, ◌∙◌}
-use Rattle.fsoe_base.specs.declared.command.State.{State}
-use Rattle.param_load.specs.declared.master_settings.MasterSettings.{MasterSettings}
-use Rattle.param_load.specs.declared.terms.Terms.{Terms}
-use Rattle.end_model.specs.Deed.{Deed}
-use Rattle.end_model.specs.Setup.{Setup}
-use Rattle.end_model.specs.Outputs.{out}
-use Rattle.end_model.specs.Readiness.{state_of, age, told_terms, offer, held}
-use Rattle.master_core.specs.declared.phase.Phase.{Phase}
 use Rattle.master_core.specs.declared.phase.Phase.TheVariants as phase
 use Rattle.master_core.specs.declared.states.Due.{Due}
-use Rattle.master_core.specs.Kit.{KitView}
-use Rattle.master_core.specs.Master.{replies}
-use Rattle.master_core.specs.MasterView.{MasterView}
 use Rattle.master_core.specs.Phase as machine
-use Rattle.master_core.specs.Now.{is_due, replied, reply}
-use Rattle.master_core.specs.Standing.{Shows}
-use Rattle.master_core.specs.ViewOf.{view_of}
-use Rattle.master_core.specs.Waiting.{Delivery, with_delivery, Waits, ShowsDue}
 use Rattle.master_core.proofs.Accepting.{age_by, accepts_alike}
 use Rattle.master_core.proofs.Law.{state_shown, terms_shown, outputs_shown, age_shown, offer_shown, held_shown}
 use Rattle.master_core.proofs.Waiting.{replies_by}

@@ -1,13 +1,7 @@
 -- What holds of a master in each state, after every run.
+use Rattle.master_core.proofs.Common.{Deed, MasterSettings, Notes, OfMaster, State, fresh, notes_of, offer, state_of, ticks}
 use Rattle.std.proofs.Common.{◌≡◌, ◌<◌, List, [], length, replicate, Some, None, unwrap_or}
-use Rattle.fsoe_base.specs.declared.command.State.{State}
 use Rattle.fsoe_base.specs.declared.command.State.TheVariants as state
-use Rattle.seq_chain.specs.Chain.{fresh}
-use Rattle.param_load.specs.declared.master_settings.MasterSettings.{MasterSettings}
-use Rattle.end_model.specs.Setup.{OfMaster}
-use Rattle.end_model.specs.Deed.{Deed}
-use Rattle.end_model.specs.Readiness.{state_of, offer, ticks}
-use Rattle.master_core.specs.ViewOf.{Notes, notes_of}
 
 abbrev pub no_notes : MasterSettings → Notes
 no_notes ms = record { chain = fresh; kept = None; id = None; session = 0; connection = 0; parameter = 0; outputs = replicate ms.lengths.slave 0 }

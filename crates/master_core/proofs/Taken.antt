@@ -1,20 +1,11 @@
 -- A frame that is taken in place: the master goes on to where it settles the frame.
+use Rattle.master_core.proofs.Common.{Accepted, Code, Exchange, KitView, MasterView, Phase, SessionFrameView, answered, ends, makes_due, next_by, outcome, settles, takes}
 use Rattle.std.proofs.Common.{◌≡◌, true, false, Some, Result, Ok, Err, refl, ap, ◌∙◌}
-use Rattle.fsoe_base.specs.declared.command.Code.{Code}
 use Rattle.fsoe_base.specs.declared.did.Cause.TheVariants as cause
 use Rattle.fsoe_base.specs.Codes.{local_reset}
-use Rattle.fsoe_base.specs.Did.{takes}
 use Rattle.failsafe_io.specs.Timer.{started}
-use Rattle.seq_chain.specs.SessionFrame.{SessionFrameView}
 use Rattle.param_load.specs.declared.upload.Progress.{Progress}
 use Rattle.param_load.specs.declared.upload.Progress.TheVariants as progress
-use Rattle.param_load.specs.Download.{outcome}
-use Rattle.master_core.specs.declared.phase.Phase.{Phase}
-use Rattle.master_core.specs.declared.states.Exchange.{Exchange}
-use Rattle.master_core.specs.Kit.{KitView}
-use Rattle.master_core.specs.Master.{Accepted, makes_due, ends, settles}
-use Rattle.master_core.specs.MasterView.{MasterView}
-use Rattle.master_core.specs.States.{answered, next_by}
 
 -- a frame that is taken, with this phase after it
 abbrev taken : MasterView → SessionFrameView → Phase → Accepted

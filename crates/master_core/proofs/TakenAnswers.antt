@@ -1,34 +1,12 @@
 -- An answer in a handshake that passed the tests of a master: what the machine does is what looking back gives.
+use Rattle.master_core.proofs.Common.{AreBytes, Command, Deed, Exchange, MasterSettings, OfMaster, Outcome, Phase, SessionFrameView, State, Valid, Wrong, advanced, answered, answered_by, bytes_of, code, connection_download, contents, deed_of, exchange_of, first_data, is_answer, is_padded, is_reset, is_whole, judged_contents, kit_of, next_by, next_phase, nonce, notes_of, on_verdict, padded, parameter_download, pay, phase_in, piece_from, piece_len, pieces, resets, settles, since, takes_frame, unless, view_in, with_download}
 use Rattle.std.proofs.Common.{◌≡◌, ℕ, suc, ◌+◌, ◌-◌, ◌*◌, nat_lt, Bool, true, false, not, List, ◌∷◌, length, Some, unwrap_or, Ok, Err, if◌then◌else◌, refl, sym, ap, subst, ◌∙◌}
-use Rattle.fsoe_base.specs.declared.command.Command.{Command}
 use Rattle.fsoe_base.specs.declared.command.Command.TheVariants as command
-use Rattle.fsoe_base.specs.declared.command.State.{State}
 use Rattle.fsoe_base.specs.declared.command.State.TheVariants as state
 use Rattle.fsoe_base.specs.declared.did.Cause.TheVariants as cause
-use Rattle.fsoe_base.specs.Command.{code}
-use Rattle.fsoe_base.specs.Did.{resets}
-use Rattle.fsoe_frame.specs.Parts.{AreBytes, bytes_of}
-use Rattle.seq_chain.specs.SessionFrame.{SessionFrameView}
 use Rattle.param_load.specs.declared.entry.Move.TheVariants as move
-use Rattle.param_load.specs.declared.master_settings.MasterSettings.{MasterSettings}
 use Rattle.param_load.specs.declared.upload.Progress.TheVariants as progress
-use Rattle.param_load.specs.Download.{is_whole, is_answer, advanced}
-use Rattle.param_load.specs.Payload.{is_padded, piece_from, padded}
-use Rattle.end_model.specs.Setup.{OfMaster, piece_len}
-use Rattle.end_model.specs.Phases.{is_reset}
-use Rattle.end_model.specs.Deed.{Deed}
-use Rattle.end_model.specs.Chain.{since}
-use Rattle.end_model.specs.Payloads.{nonce, pay, pieces}
-use Rattle.end_model.specs.Step.{takes_frame, on_verdict, deed_of}
-use Rattle.end_model.specs.Verdict.{Valid, Wrong, judged_contents, contents, unless}
-use Rattle.master_core.specs.declared.phase.Phase.{Phase}
 use Rattle.master_core.specs.declared.phase.Phase.TheVariants as phase
-use Rattle.master_core.specs.declared.states.Exchange.{Exchange}
-use Rattle.master_core.specs.Kit.{connection_download, parameter_download}
-use Rattle.master_core.specs.Master.{Outcome, settles, answered_by}
-use Rattle.master_core.specs.Phase.{next_phase}
-use Rattle.master_core.specs.States.{answered, with_download, first_data, next_by}
-use Rattle.master_core.specs.ViewOf.{notes_of, kit_of, exchange_of, phase_in, view_in}
 use Rattle.master_core.proofs.Sound.{OfSession, OfConnection, OfParameter, Sound}
 use Rattle.master_core.proofs.Pieces.{some_piece, piece_own, next_place}
 use Rattle.master_core.proofs.SameVerdict.{came}

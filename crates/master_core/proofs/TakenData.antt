@@ -1,27 +1,13 @@
 -- A data frame that passed the tests of a master: what the machine does is what looking back gives.
+use Rattle.master_core.proofs.Common.{Chain, Command, Deed, MasterSettings, OfMaster, Outcome, SessionFrameView, Terms, answered_by, begun, bytes_of, code, data_answered, held, is_process, is_reset, judged_contents, kit_of, notes_of, offer, on_verdict, session_of, settles, since, takes_frame, terms_of, unless, view_in, with_data}
 use Rattle.std.proofs.Common.{◌≡◌, ℕ, Bool, true, false, List, ◌∷◌, length, replicate, Ok, Err, if◌then◌else◌, refl, sym, ap, ◌∙◌}
-use Rattle.fsoe_base.specs.declared.command.Command.{Command}
 use Rattle.fsoe_base.specs.declared.command.Command.TheVariants as command
 use Rattle.fsoe_base.specs.declared.command.State.TheVariants as state
 use Rattle.fsoe_base.specs.declared.did.Cause.TheVariants as cause
 use Rattle.fsoe_base.specs.Bytes.{all_zero}
-use Rattle.fsoe_base.specs.Command.{code}
-use Rattle.fsoe_frame.specs.Parts.{bytes_of}
-use Rattle.seq_chain.specs.declared.chain.Chain.{Chain}
-use Rattle.seq_chain.specs.SessionFrame.{SessionFrameView}
 use Rattle.param_load.specs.declared.entry.Move.TheVariants as move
-use Rattle.param_load.specs.declared.master_settings.MasterSettings.{MasterSettings}
-use Rattle.end_model.specs.Setup.{OfMaster}
-use Rattle.end_model.specs.Deed.{Deed}
-use Rattle.end_model.specs.Chain.{since}
-use Rattle.end_model.specs.Readiness.{offer, held}
-use Rattle.end_model.specs.Step.{takes_frame, on_verdict, begun, with_data}
-use Rattle.end_model.specs.Verdict.{judged_contents, unless}
 use Rattle.master_core.specs.declared.phase.Phase.TheVariants as phase
-use Rattle.master_core.specs.Master.{Outcome, settles, answered_by}
-use Rattle.master_core.specs.States.{data_answered}
 use Rattle.master_core.specs.declared.states.InData.{InData}
-use Rattle.master_core.specs.ViewOf.{session_of, notes_of, kit_of, view_in}
 use Rattle.master_core.proofs.Sound.{Sound}
 use Rattle.master_core.proofs.SameVerdict.{came}
 use Rattle.master_core.proofs.Agrees.{Agrees, master_at, same_master, resets-agree}
@@ -29,10 +15,6 @@ use Rattle.master_core.proofs.Arrived.{Arrived, next_frame, next_chain, chain_af
 use Rattle.master_core.proofs.Taking.{After, takes-agree}
 use Rattle.std.proofs.lemmas.List.{length-replicate}
 use Rattle.failsafe_io.specs.Offer.{data_command, data_load}
-use Rattle.param_load.specs.declared.terms.Terms.{Terms}
-use Rattle.end_model.specs.Phases.{is_reset}
-use Rattle.end_model.specs.Outputs.{is_process}
-use Rattle.param_load.specs.Download.{terms_of}
 
 -- state Data by its parts
 pub same_data : (t : Terms) (c c' : Chain) (o o' l l' : List ℕ) → c ≡ c' → o ≡ o' → l ≡ l'

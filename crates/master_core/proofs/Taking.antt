@@ -1,19 +1,9 @@
 -- A frame of a session that is taken, and the frame that follows it.
+use Rattle.master_core.proofs.Common.{AreBytes, Chain, Command, Deed, Exchange, MasterSettings, MasterView, OfMaster, Outcome, deed_of, takes_frame, view_of}
 use Rattle.std.proofs.Common.{◌≡◌, ℕ, suc, ◌+◌, ◌-◌, ◌*◌, ◌<◌, ◌/◌, nat_le, nat_lt, Bool, true, false, not, List, ◌∷◌, Option, Some, unwrap_or, if◌then◌else◌, refl, sym, ap, subst, ◌∙◌, suc-mul, arith}
 use Rattle.std.specs.Option.{option_or}
 use Rattle.std.proofs.Math.Nat.{zero-mul}
-use Rattle.fsoe_base.specs.declared.command.Command.{Command}
-use Rattle.fsoe_frame.specs.Parts.{AreBytes}
-use Rattle.seq_chain.specs.declared.chain.Chain.{Chain}
 use Rattle.param_load.specs.declared.entry.Move.TheVariants as move
-use Rattle.param_load.specs.declared.master_settings.MasterSettings.{MasterSettings}
-use Rattle.end_model.specs.Setup.{OfMaster}
-use Rattle.end_model.specs.Deed.{Deed}
-use Rattle.end_model.specs.Step.{takes_frame, deed_of}
-use Rattle.master_core.specs.Master.{Outcome}
-use Rattle.master_core.specs.MasterView.{MasterView}
-use Rattle.master_core.specs.declared.states.Exchange.{Exchange}
-use Rattle.master_core.specs.ViewOf.{view_of}
 use Rattle.master_core.proofs.Sound.{Sound}
 use Rattle.master_core.proofs.Pieces.{more_pieces}
 use Rattle.master_core.proofs.SameVerdict.{came}

@@ -1,25 +1,11 @@
 -- A master that accepted a frame: what is put, held or set meanwhile counts as if it had come before, and the reply
 -- ends the delivery.
+use Rattle.master_core.proofs.Common.{Accepts, AreBytes, Deed, Delivery, Did, Dropped, IsProper, IsRun, Keeps, KitView, MasterSettings, MasterView, Move, Now, OfMaster, Replies, accepted, after, is_due, its_deed, kit_of, replied, replies, reply, view_of}
 use Rattle.std.proofs.Common.{◌≡◌, ℕ, List, Bool, false, Option, IsTrue, length, refl, sym, ap, subst, ◌∙◌}
 use Rattle.fsoe_base.specs.declared.did.Cause.{Cause}
-use Rattle.fsoe_base.specs.declared.did.Did.{Did}
-use Rattle.fsoe_base.specs.declared.did.Dropped.{Dropped}
 use Rattle.fsoe_base.specs.declared.did.Took.{Took}
-use Rattle.fsoe_frame.specs.Parts.{AreBytes}
-use Rattle.param_load.specs.declared.entry.Move.{Move}
 use Rattle.param_load.specs.declared.entry.Move.TheVariants as move
-use Rattle.param_load.specs.declared.master_settings.MasterSettings.{MasterSettings}
 use Rattle.param_load.specs.Profile.{allows_id}
-use Rattle.end_model.specs.Setup.{OfMaster}
-use Rattle.end_model.specs.Deed.{Deed}
-use Rattle.end_model.specs.Runs.{IsProper, IsRun}
-use Rattle.master_core.specs.After.{after}
-use Rattle.master_core.specs.Kit.{KitView}
-use Rattle.master_core.specs.Master.{accepted, replies}
-use Rattle.master_core.specs.MasterView.{MasterView}
-use Rattle.master_core.specs.Now.{Now, is_due, replied, reply}
-use Rattle.master_core.specs.ViewOf.{kit_of, view_of}
-use Rattle.master_core.specs.Waiting.{Delivery, its_deed, Accepts, Keeps, Replies}
 use Rattle.master_core.proofs.Accepting.{kit_kept, commutes, accepts_alike}
 use Rattle.master_core.proofs.Agrees.{Agrees, AreRead}
 use Rattle.master_core.proofs.Agreed.{agrees, run-sound}

@@ -1,17 +1,10 @@
 -- A master of many connections that was just made.
+use Rattle.multi_master.proofs.Common.{AppView, IsMulti, IsNewMaster, IsWhere, MasterSettings, MasterView, MultiView, OfMaster, StandsFor, due_in, first_fault, first_input, first_pair, fresh, outputs_at, own_len, receives, settings_in}
 use Rattle.std.proofs.Common.{◌≡◌, ◌≤◌, ℕ, suc, List, [], ◌∷◌, map, length, replicate, All, Some, None, Bool, true, false, nat_lt, if◌then◌else◌, refl, ap, ap₂, ◌∙◌, arith}
 use Rattle.std.specs.List.{AllZip}
 use Rattle.std.proofs.lemmas.List.Elements.{All-nil, All-cons}
-use Rattle.param_load.specs.declared.master_settings.MasterSettings.{MasterSettings}
-use Rattle.end_model.specs.Setup.{OfMaster, receives}
-use Rattle.master_core.specs.MasterView.{MasterView}
 use Rattle.multi_master.specs.declared.fault.NewFault.TheVariants as fault
-use Rattle.multi_master.specs.Connection.{fresh, outputs_at}
-use Rattle.multi_master.specs.Calls.{AppView}
-use Rattle.multi_master.specs.New.{IsNewMaster, first_fault, first_pair}
-use Rattle.multi_master.specs.Puts.{own_len, due_in, first_input}
 use Rattle.multi_master.proofs.Keeping.{none_changed}
-use Rattle.multi_master.specs.Standing.{MultiView, settings_in, IsWhere, IsMulti, StandsFor}
 
 new-where : (settings : List MasterSettings) (ms : List MasterView) → AllZip IsNewMaster settings ms → AllZip IsWhere (map fresh settings) ms
 new-where [] [] h = tt

@@ -1,11 +1,9 @@
 -- Zeros that are put before an answer leave nothing.
+use Rattle.multi_master.proofs.Common.{Connection, IsWhere, MasterView, is_offer, offer_at, offer_len, with_event, with_offer}
 use Rattle.std.proofs.Common.{◌≡◌, ℕ, List, Bool, true, false, replicate, if◌then◌else◌, refl, sym, ap, ◌∙◌}
 use Rattle.std.specs.Cmp.Lexicographic.{same_text}
 use Rattle.param_load.specs.declared.entry.Move.TheVariants as move
-use Rattle.master_core.specs.MasterView.{MasterView}
 use Rattle.master_core.specs.ViewOf.{view_of}
-use Rattle.multi_master.specs.Connection.{Connection, with_event, offer_at, offer_len, is_offer, with_offer}
-use Rattle.multi_master.specs.Standing.{IsWhere}
 
 -- a master is where the last put leaves it
 last-put : (c : Connection) (m : MasterView) (first load : List ℕ) → IsWhere (with_event (move.Put load) (with_event (move.Put first) c)) m → IsWhere (with_event (move.Put load) c) m

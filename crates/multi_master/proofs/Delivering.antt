@@ -1,23 +1,11 @@
 -- A delivery to one of many connections, by what its master and the application do.
+use Rattle.multi_master.proofs.Common.{Accepts, Answer, AnswersFrame, AppView, Call, Connection, Deed, Deliver, Did, Follows, IsWhere, MasterSettings, MasterView, Meant, MultiView, PutsEach, Replies, RunsCycle, ShowsDue, StandsFor, after, answer, changed_from, cycle_in, deed, event_at, is_due, is_heard, meant, newest_at, next_deed, numbers_of, offer_at, offer_len, out, outputs_at, own_len, same_deed, settings_in, setup, with_cycle, with_event, with_offers}
 use Rattle.std.proofs.Common.{◌≡◌, ℕ, suc, List, [], ◌∷◌, map, slice_get, slice_set, Option, Some, None, Bool, true, false, if◌then◌else◌, refl, sym, ap, ap₂, subst, ◌∙◌}
 use Rattle.std.specs.List.{AllZip}
 use Rattle.std.specs.Option.{option_map_or}
 use Rattle.std.proofs.lemmas.List.{map-set}
-use Rattle.fsoe_base.specs.declared.did.Did.{Did}
-use Rattle.failsafe_io.specs.Application.{Answer}
 use Rattle.param_load.specs.declared.entry.Move.TheVariants as move
-use Rattle.param_load.specs.declared.master_settings.MasterSettings.{MasterSettings}
-use Rattle.end_model.specs.Deed.{Deed}
-use Rattle.end_model.specs.Outputs.{out}
-use Rattle.end_model.proofs.Runs.{deed, same_deed}
 use Rattle.master_core.specs.Calls.{tells_due}
-use Rattle.master_core.specs.MasterView.{MasterView}
-use Rattle.master_core.specs.Now.{is_due}
-use Rattle.master_core.specs.Waiting.{Accepts, Replies, ShowsDue}
-use Rattle.multi_master.specs.Connection.{Connection, setup, next_deed, with_event, outputs_at, offer_at, offer_len, with_offers}
-use Rattle.multi_master.specs.Calls.{AppView, Call, Deliver, Meant, event_at, answer, is_heard, cycle_in, with_cycle, after, meant, changed_from}
-use Rattle.multi_master.specs.Puts.{own_len, PutsEach, RunsCycle}
-use Rattle.multi_master.specs.Standing.{MultiView, settings_in, IsWhere, StandsFor, Follows, AnswersFrame, newest_at, numbers_of}
 use Rattle.multi_master.proofs.Following.{own_lens, cycle_answers, guards_alike}
 use Rattle.multi_master.proofs.Hearing.{replied}
 use Rattle.multi_master.proofs.Places.{at_place, map_set, set_there}

@@ -1,15 +1,8 @@
 -- What a call does, from what it does to the masters, the inputs and the application.
+use Rattle.multi_master.proofs.Common.{Answer, AnswersTick, AppView, Call, ChangeApp, Connection, Cycles, Did, Follows, GuardsBy, IsSound, IsWhere, MasterSettings, MasterView, Meant, MultiView, PutsEach, RunsCycle, StandsFor, Tick, TicksEach, all_tick, answer, changed_from, meant, numbers_of, offer_at, offer_len, outputs_at, own_len, with_cycle, with_offers}
 use Rattle.std.proofs.Common.{◌≡◌, ℕ, List, [], ◌∷◌, map, Some, Bool, true, false, refl, sym, ap, ap₂, subst, ◌∙◌}
 use Rattle.std.specs.List.{AllZip}
-use Rattle.fsoe_base.specs.declared.did.Did.{Did}
 use Rattle.failsafe_io.specs.declared.bit.Bit.{Bit}
-use Rattle.failsafe_io.specs.Application.{Answer, GuardsBy}
-use Rattle.param_load.specs.declared.master_settings.MasterSettings.{MasterSettings}
-use Rattle.master_core.specs.MasterView.{MasterView}
-use Rattle.multi_master.specs.Connection.{Connection, outputs_at, offer_at, offer_len, with_offers}
-use Rattle.multi_master.specs.Calls.{AppView, Call, Tick, ChangeApp, Meant, IsSound, all_tick, answer, with_cycle, meant, changed_from}
-use Rattle.multi_master.specs.Puts.{own_len, PutsEach, Cycles, RunsCycle, TicksEach}
-use Rattle.multi_master.specs.Standing.{MultiView, IsWhere, StandsFor, Follows, AnswersTick, numbers_of}
 use Rattle.multi_master.proofs.Putting.{puts_where, all_shown, offers_put, all_outputs_put, puts_told}
 use Rattle.multi_master.proofs.Ticking.{ticks_where, ticks_read, ticks_did, ticks_sent, told_ticked}
 

@@ -1,15 +1,9 @@
 -- A frame that is taken, or ends a session, among many masters: the answers are put while its master's frame is due.
+use Rattle.multi_master.proofs.Common.{Connection, Did, IsPutStep, IsWhere, MasterView, PutStep, Replies, Waits, is_due, is_offer, next_deed, outputs_at, with_event, with_offer, with_offers}
 use Rattle.std.proofs.Common.{◌≡◌, ℕ, zero, suc, List, [], ◌∷◌, map, slice_get, slice_set, Some, All, Bool, true, false, if◌then◌else◌, refl, sym, ap, subst, ◌∙◌}
 use Rattle.std.specs.List.{AllZip}
 use Rattle.std.proofs.lemmas.List.Elements.{All-head, All-tail}
-use Rattle.fsoe_base.specs.declared.did.Did.{Did}
 use Rattle.param_load.specs.declared.entry.Move.TheVariants as move
-use Rattle.master_core.specs.MasterView.{MasterView}
-use Rattle.master_core.specs.Now.{is_due}
-use Rattle.master_core.specs.Waiting.{Waits, Replies}
-use Rattle.multi_master.specs.Connection.{Connection, next_deed, with_event, outputs_at, is_offer, with_offer, with_offers}
-use Rattle.multi_master.specs.Puts.{PutStep, IsPutStep}
-use Rattle.multi_master.specs.Standing.{IsWhere}
 use Rattle.multi_master.proofs.Putting.{IsShown, delivery_at, shown_due, put_due, puts_where, all_shown, put_at_rest, shown_at_rest, outputs_put}
 
 -- the connection at a place, with the answer that was put there, replied: all masters are where their deeds leave them

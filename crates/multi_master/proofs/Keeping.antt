@@ -1,13 +1,9 @@
 -- What stays when answers are put, and when all masters tick.
+use Rattle.multi_master.proofs.Common.{AreNumbers, Did, IsMulti, IsNumber, IsPutStep, IsTickStep, MasterSettings, MasterView, PutsEach, TicksEach, due_in, own_len, settings_in}
 use Rattle.std.proofs.Common.{◌≡◌, ℕ, List, [], ◌∷◌, ◌++◌, map, length, take, drop, All, Bool, false, slice_get, slice_set, Some, refl, sym, ap, subst, ◌∙◌, arith}
 use Rattle.std.proofs.lemmas.Grind.{common_steps}
 use Rattle.std.proofs.lemmas.List.{map-set, set-set}
 use Rattle.std.proofs.lemmas.List.Elements.{All-head, All-tail, All-nil, All-cons, All-map, All-weaker}
-use Rattle.fsoe_base.specs.declared.did.Did.{Did}
-use Rattle.param_load.specs.declared.master_settings.MasterSettings.{MasterSettings}
-use Rattle.master_core.specs.MasterView.{MasterView}
-use Rattle.multi_master.specs.Puts.{own_len, due_in, IsPutStep, PutsEach, IsTickStep, TicksEach}
-use Rattle.multi_master.specs.Standing.{settings_in, IsMulti, IsNumber, AreNumbers}
 use Rattle.multi_master.proofs.Places.{map_set, same_length}
 
 -- the lengths of masters are those of their settings

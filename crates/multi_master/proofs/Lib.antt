@@ -11,3 +11,4 @@ pub mod Putting
 pub mod Reading
 pub mod Ticking
 pub mod Quiet
+pub mod Common

@@ -1,13 +1,10 @@
 -- Loops over all masters, place by place.
+use Rattle.multi_master.proofs.Common.{Did, IsNumber, IsPutStep, IsTickStep, MasterView, PutStep, PutsEach, TickStep, TicksEach, changed_steps}
 use Rattle.std.proofs.Common.{◌≡◌, ◌≤◌, ◌<◌, ℕ, suc, ◌+◌, List, [], ◌∷◌, ◌++◌, map, length, take, slice_get, slice_set, Some, Bool, true, false, All, if◌then◌else◌, refl, sym, ap, subst, ◌∙◌, append_assoc, arith}
 use Rattle.std.proofs.lemmas.Grind.{common_steps}
 use Rattle.std.proofs.lemmas.List.{append-nil, map-append, take_all, take_more, take_more_set}
 use Rattle.std.proofs.lemmas.List.Elements.{All-append, All-push, All-nil, All-cons, All-weaker}
 use Rattle.std.proofs.lemmas.Option.{get_or_from_slice_get, slice_get_within}
-use Rattle.fsoe_base.specs.declared.did.Did.{Did}
-use Rattle.master_core.specs.MasterView.{MasterView}
-use Rattle.multi_master.specs.Standing.{IsNumber}
-use Rattle.multi_master.specs.Puts.{PutStep, IsPutStep, PutsEach, changed_steps, TickStep, IsTickStep, TicksEach}
 use Rattle.multi_master.proofs.Places.{set_before}
 
 -- from a place on, a list is as it was

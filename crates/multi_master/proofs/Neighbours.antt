@@ -1,18 +1,12 @@
 -- Each connection's deeds are the run of its own events.
+use Rattle.multi_master.proofs.Common.{Answer, AppView, Call, ChangeApp, Connection, Deed, Deliver, MasterSettings, Meant, Move, Nonce, Tick, after, all_tick, connection, cycle_in, event_at, event_on, fresh, is_offer, meant, run_append, setup, with_cycle, with_event, with_offer, with_offers}
 use Rattle.std.proofs.Common.{◌≡◌, ℕ, zero, suc, ◌==◌, List, [], ◌∷◌, ◌++◌, map, slice_get, Option, Some, None, IfSome, Bool, true, false, if◌then◌else◌, refl, sym, ap, ap₂, subst, ◌∙◌, append_assoc, arith}
-use lib.Dec.{compare_is_eq}
-use Prim.Native.Nat.compare
-use Rattle.failsafe_io.specs.Application.{Answer}
-use Rattle.param_load.specs.declared.entry.Move.{Move}
 use Rattle.param_load.specs.declared.entry.Move.TheVariants as move
-use Rattle.param_load.specs.declared.master_settings.MasterSettings.{MasterSettings}
-use Rattle.end_model.specs.Deed.{Deed}
 use Rattle.end_model.specs.Runs.{events_of}
 use Rattle.end_model.specs.Step.{step, run}
-use Rattle.end_model.proofs.Runs.{run_append}
-use Rattle.multi_master.specs.Connection.{Connection, fresh, setup, with_event, is_offer, with_offer, with_offers}
-use Rattle.multi_master.specs.Calls.{AppView, Call, Deliver, Tick, Nonce, ChangeApp, Meant, connection, event_on, event_at, all_tick, cycle_in, with_cycle, after, meant}
 use Rattle.multi_master.specs.Own.{own_part, own_events, is_no_put, without_puts}
+use lib.Dec.{compare_is_eq}
+use Prim.Native.Nat.compare
 
 -- a connection went on by these events of its own, and by offers that were put
 pub record Grows (own : List Move) (old new : Connection) : Type 0 where

@@ -1,4 +1,5 @@
 -- Two lists side by side, at a place.
+use Rattle.multi_master.proofs.Common.{IsNumber, MasterView, settings_in}
 use Rattle.std.proofs.Common.{◌≡◌, ℕ, zero, suc, ◌<◌, ◌-◌, List, [], ◌∷◌, map, length, All, slice_get, slice_set, slice_index_or, Some, nat_eq, true, refl, sym, ap, subst, ◌∙◌, arith}
 use Rattle.std.specs.Cmp.Lexicographic.{pointwise}
 use Rattle.std.specs.List.{AllZip}
@@ -6,8 +7,6 @@ use Rattle.std.proofs.lemmas.Cmp.{nat_list_eq_equiv}
 use Rattle.std.proofs.lemmas.List.{length-map}
 use Rattle.std.proofs.lemmas.List.Elements.{All-get_or}
 use Rattle.std.proofs.lemmas.Option.{get_or_from_slice_get, slice_get_read, slice_get_within}
-use Rattle.master_core.specs.MasterView.{MasterView}
-use Rattle.multi_master.specs.Standing.{IsNumber, settings_in}
 
 -- what is at a place of the first list goes with what is at that place of the second
 pub record At {A B : Type 0} (R : A → B → Type 0) (xs : List A) (k : ℕ) (y : B) : Type 0 where

@@ -1,16 +1,10 @@
 -- The answers of a cycle, put master by master.
+use Rattle.multi_master.proofs.Common.{Connection, Delivery, Did, IsPutStep, IsWhere, MasterView, MayBePut, PutStep, Waits, changed_from, changed_steps, is_offer, numbers_of, offer_at, outputs_at, with_event, with_offer, with_offers}
 use Rattle.std.proofs.Common.{◌≡◌, ℕ, suc, List, [], ◌∷◌, ◌++◌, map, Bool, true, false, not, All, if◌then◌else◌, nat_eq, refl, sym, ap, ap₂, subst, ◌∙◌}
 use Rattle.std.specs.Cmp.Lexicographic.{pointwise, same_text}
 use Rattle.std.specs.List.{AllZip}
 use Rattle.std.proofs.lemmas.List.Elements.{All-head, All-tail}
-use Rattle.fsoe_base.specs.declared.did.Did.{Did}
 use Rattle.param_load.specs.declared.entry.Move.TheVariants as move
-use Rattle.master_core.specs.MasterView.{MasterView}
-use Rattle.master_core.specs.Waiting.{Delivery, Waits}
-use Rattle.multi_master.specs.Connection.{Connection, with_event, outputs_at, offer_at, is_offer, with_offer, with_offers}
-use Rattle.multi_master.specs.Calls.{changed_from}
-use Rattle.multi_master.specs.Puts.{PutStep, IsPutStep, MayBePut, changed_steps}
-use Rattle.multi_master.specs.Standing.{IsWhere, numbers_of}
 
 -- a step tells whether its answer wasn't the offer of its connection
 abbrev pub IsShown : Connection → PutStep → Type 0

@@ -1,22 +1,15 @@
 -- Events that leave offers and outputs as they are.
+use Rattle.multi_master.proofs.Common.{Connection, Deed, Did, MasterSettings, Move, OfMaster, Setup, deed, held_up, next_deed, out, out_after, outputs, outputs_at, setup, with_event, zeros}
 use Rattle.std.proofs.Common.{◌≡◌, ℕ, List, [], ◌∷◌, Option, Some, None, is_some, false, ◌||◌, if◌then◌else◌, refl, sym, ap, ap₂, ◌∙◌}
 use Rattle.fsoe_base.specs.declared.did.Cause.{Cause}
-use Rattle.fsoe_base.specs.declared.did.Did.{Did}
 use Rattle.fsoe_base.specs.declared.did.Took.{Took}
-use Rattle.param_load.specs.declared.entry.Move.{Move}
 use Rattle.param_load.specs.declared.entry.Move.TheVariants as move
-use Rattle.param_load.specs.declared.master_settings.MasterSettings.{MasterSettings}
-use Rattle.end_model.specs.Setup.{Setup, OfMaster}
-use Rattle.end_model.specs.Deed.{Deed}
-use Rattle.end_model.specs.Outputs.{outputs, out, zeros, held_up, out_after}
 use Rattle.end_model.specs.Reactions.{Reaction, Rests, Ages, Expires, SendsAgain, ResetsItself, Refuses, PeerResets, Answers}
 use Rattle.end_model.specs.Step.{step}
 use Rattle.end_model.specs.Runs.{IsRun}
-use Rattle.end_model.proofs.Runs.{deed}
 use Rattle.end_model.proofs.Shown.{looking_back, fail_safe}
 use Rattle.end_model.proofs.SoundRuns.{reacts}
 use Rattle.master_core.specs.Calls.{tells_due}
-use Rattle.multi_master.specs.Connection.{Connection, setup, next_deed, with_event, outputs_at}
 
 -- a tick that ends no session
 abbrev IsTick : Move → Type 0

@@ -1,17 +1,9 @@
 -- What is shown of one connection, and an event at one.
+use Rattle.multi_master.proofs.Common.{Answer, AppView, Call, Connection, Deed, Follows, IsSound, IsWhere, MasterSettings, MasterView, Meant, Move, MultiView, Nonce, Setup, ShowsAt, StandsFor, after, changed_by, cycle_in, event_at, event_on, meant, numbers_of, outputs_at, setup, with_event}
 use Rattle.std.proofs.Common.{◌≡◌, ℕ, zero, suc, List, [], ◌∷◌, map, slice_get, slice_set, Option, Some, None, IfSome, refl, sym, ap, subst, ◌∙◌}
 use Rattle.std.specs.List.{AllZip}
-use Rattle.failsafe_io.specs.Application.{Answer}
-use Rattle.param_load.specs.declared.entry.Move.{Move}
 use Rattle.param_load.specs.declared.entry.Move.TheVariants as move
-use Rattle.param_load.specs.declared.master_settings.MasterSettings.{MasterSettings}
-use Rattle.end_model.specs.Deed.{Deed}
-use Rattle.end_model.specs.Setup.{Setup}
-use Rattle.master_core.specs.MasterView.{MasterView}
 use Rattle.master_core.specs.Standing as core
-use Rattle.multi_master.specs.Connection.{Connection, setup, with_event, outputs_at}
-use Rattle.multi_master.specs.Calls.{AppView, Call, Nonce, Meant, IsSound, event_on, event_at, cycle_in, after, meant, changed_by}
-use Rattle.multi_master.specs.Standing.{MultiView, IsWhere, StandsFor, Follows, ShowsAt, numbers_of}
 use Rattle.multi_master.proofs.Places.{Placed, at_place, zip_set, map_set}
 
 -- a word of the master at a place is that word of its connection

@@ -1,14 +1,10 @@
 -- All masters tick.
+use Rattle.multi_master.proofs.Common.{Connection, IsTickStep, IsWhere, MasterView, MayBeRead, TickStep, changed_from, next_deed, outputs_at, setup, with_event}
 use Rattle.std.proofs.Common.{◌≡◌, ℕ, suc, List, [], ◌∷◌, map, All, Option, Some, None, refl, sym, ap, ◌∙◌}
 use Rattle.std.specs.List.{AllZip}
 use Rattle.std.proofs.lemmas.List.Elements.{All-head, All-tail}
 use Rattle.fsoe_base.specs.declared.did.Cause.{Cause}
 use Rattle.param_load.specs.declared.entry.Move.TheVariants as move
-use Rattle.master_core.specs.MasterView.{MasterView}
-use Rattle.multi_master.specs.Connection.{Connection, setup, next_deed, with_event, outputs_at}
-use Rattle.multi_master.specs.Calls.{changed_from}
-use Rattle.multi_master.specs.Puts.{TickStep, IsTickStep, MayBeRead}
-use Rattle.multi_master.specs.Standing.{IsWhere}
 use Rattle.multi_master.proofs.Quiet.{quiet_tick}
 
 tick-where : (c : Connection) (x : TickStep) → IsWhere c x.old → IsTickStep x → IsWhere (with_event move.Tick c) x.new

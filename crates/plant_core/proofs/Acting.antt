@@ -1,4 +1,5 @@
 -- What the slave or the master of a connection does and what is pushed, and what those of all connections do in a tick.
+use Rattle.plant_core.proofs.Common.{ActedTo, AllActed, AreNoted, Did, End, Entry, HasAgeParts, HaveParts, IsPlant, Lengths, LinkConf, LinkIs, LinkStands, LinkView, LinksAre, MasterActs, MasterNoted, Move, MultiValue, NotesOne, Placed, PushesParcel, SlaveActs, SlaveGoesOn, Told, Trace, Use, each_uses, fixed_in, fixed_of, frames_pushed, lengths_at, lengths_kept, map_set, one_each, one_each_to, place_of, same_length, sent_uses}
 use Rattle.std.proofs.Common.{◌≡◌, ◌≢◌, ◌≤◌, ℕ, zero, suc, ◌+◌, ◌*◌, ◌==◌, nat_lt, Bool, true, false, List, [], ◌∷◌, ◌++◌, take, drop, length, slice_get, slice_set, Option, Some, None, option_map, if◌then◌else◌, refl, sym, ap, ap₂, subst, ◌∙◌, append_assoc, arith}
 use Rattle.std.proofs.lemmas.Bool.{eqb-true, lt-ltb, le-ltb}
 use Rattle.std.proofs.lemmas.Bool.Decides.{nat_tests}
@@ -6,25 +7,9 @@ use Rattle.std.specs.Prelude.{IsSomeAnd}
 use Rattle.std.proofs.lemmas.Option.{get_or_from_slice_get, slice_get_within, slice_get-map}
 use Rattle.std.proofs.lemmas.List.{append-nil, drop-set-lt, drop_more, take_all, take_more_set}
 use Rattle.std.proofs.lemmas.List.Elements.{All-head, All-tail, All-push, All-set, All-weaker}
-use Rattle.fsoe_base.specs.declared.command.End.{End}
 use Rattle.fsoe_base.specs.declared.command.End.TheVariants as side
-use Rattle.fsoe_base.specs.declared.did.Did.{Did}
-use Rattle.fsoe_base.specs.declared.lengths.Lengths.{Lengths}
-use Rattle.param_load.specs.declared.entry.Entry.{Entry}
-use Rattle.param_load.specs.declared.entry.Move.{Move}
-use Rattle.black_channel.specs.Told.{Told, PushesParcel}
 use Rattle.black_channel.specs.declared.channel.Place.{Place}
-use Rattle.plant_conf.specs.declared.conf.LinkConf.{LinkConf}
 use Rattle.multi_master.specs.Standing as multi
-use Rattle.multi_master.specs.Standing.{MultiValue}
-use Rattle.multi_master.proofs.Places.{Placed, map_set, same_length}
-use Rattle.plant_model.specs.Uses.{Use, Trace}
-use Rattle.plant_model.specs.Gifts.{place_of, sent_uses, each_uses}
-use Rattle.plant_core.specs.Doing.{SlaveActs, MasterActs, one_each, one_each_to, frames_pushed, AllActed, ActedTo, HaveParts}
-use Rattle.plant_core.specs.Standing.{AreNoted, fixed_in, lengths_kept, LinkIs, LinksAre, IsPlant}
-use Rattle.reaction_bound.specs.Ages.{HasAgeParts}
-use Rattle.plant_core.specs.Link.{LinkView, LinkStands, SlaveGoesOn, MasterNoted, NotesOne, fixed_of}
-use Rattle.plant_model.specs.Fits.{lengths_at}
 use Rattle.plant_core.proofs.Linking.{each_at, each_from, each_set, each_count}
 
 -- one trace after another

@@ -1,49 +1,23 @@
 -- Acts that run a cycle: the offers that it changed are noted with them.
+use Rattle.plant_core.proofs.Common.{Act, AnswersFrame, AnswersTick, App, AppView, Beginning, Call, ChangeApp, Connection, Deed, Deliver, Delivers, Did, End, Entry, Event, GoesOn, Happen, HasAgeParts, HasWatchdog, HaveParts, IsOne, JournalStep, LinkConf, LinkIs, LinkStands, LinkView, LinksAre, MasterActs, MastersNoted, Meant, MultiView, OfMaster, OfSlave, OffersNoted, Parcel, Placed, PlantView, PullFrom, Setup, ShowsAt, SlavesTick, StandsFor, Tick, Told, Use, all_pushes, call_of, calls, changed, connection, deed_in, deeds, delivery_call, frames_of, frames_pushed, is_cut, journal, link_at, master_with, mastered, masters, meant, newer, newest_at, next_deed, next_entry, next_of, no_entry, nothing, offers_by, one_each, pair, pair_more, pair_own, pairs_by, peer, place_of, push_to, pushes_each, pushes_of, reaches_limit, sent_uses, settings, setup, state_of, told_terms, watchdog_in}
 use Rattle.std.proofs.Common.{false, true, ◌≡◌, ℕ, suc, Bool, List, [], ◌∷◌, ◌++◌, map, slice_get, slice_set, Option, Some, None, option_map, if◌then◌else◌, refl, sym, ap, ap₂, subst, ◌∙◌, append_assoc}
 use Rattle.std.specs.Option.{option_map_or}
 use Rattle.std.specs.Prelude.{IfSome, option_to_list}
 use Rattle.std.proofs.lemmas.Option.{slice_get-map}
-use Rattle.fsoe_base.specs.declared.command.End.{End}
 use Rattle.fsoe_base.specs.declared.command.End.TheVariants as side
-use Rattle.fsoe_base.specs.Did.{nothing}
 use Rattle.fsoe_base.specs.declared.command.Command.TheVariants as command
 use Rattle.fsoe_base.specs.declared.command.State.{State}
 use Rattle.fsoe_base.specs.declared.command.State.TheVariants as state
-use Rattle.fsoe_base.specs.declared.did.Did.{Did}
 use Rattle.fsoe_base.specs.declared.did.Took.{Took}
 use Rattle.param_load.specs.declared.terms.Terms.{Terms}
-use Rattle.param_load.specs.declared.entry.Entry.{Entry}
 use Rattle.param_load.specs.declared.entry.Move.TheVariants as move
-use Rattle.black_channel.specs.Told.{Told}
-use Rattle.black_channel.specs.declared.channel.Parcel.{Parcel}
-use Rattle.plant_conf.specs.declared.conf.LinkConf.{LinkConf}
-use Rattle.end_model.specs.Deed.{Deed}
-use Rattle.end_model.specs.Readiness.{reaches_limit, state_of, told_terms}
-use Rattle.end_model.specs.Setup.{Setup, OfMaster, OfSlave}
 use Rattle.end_model.specs.Step.{on_expiry}
-use Rattle.exchange_model.specs.Ends.{peer}
-use Rattle.exchange_model.specs.World.{deeds, deed_in, frames_of, next_entry}
-use Rattle.reaction_bound.specs.Ages.{HasAgeParts, HasWatchdog, watchdog_in}
-use Rattle.multi_master.specs.Calls.{AppView, Call, Deliver, Tick, ChangeApp, Meant, connection, meant}
-use Rattle.multi_master.specs.Connection.{Connection, next_deed, setup}
 use Rattle.multi_master.specs.Standing as multi
-use Rattle.multi_master.specs.Standing.{MultiView, StandsFor, AnswersFrame, AnswersTick, ShowsAt, changed, newest_at}
-use Rattle.multi_master.proofs.Places.{Placed}
 use Rattle.plant_model.specs.declared.event.PlantEvent.TheVariants as event
-use Rattle.plant_model.specs.declared.journal.JournalStep.{JournalStep}
 use Rattle.plant_model.specs.declared.journal.JournalStep.TheVariants as step
-use Rattle.plant_model.specs.Acts.{Beginning, Event, App, Act, Happen, PullFrom, settings, delivery_call, call_of, calls, masters, journal, is_cut, newer, push_to, pushes_of, all_pushes}
-use Rattle.plant_model.specs.Uses.{Use}
-use Rattle.plant_model.specs.Gifts.{place_of, sent_uses}
-use Rattle.plant_model.specs.Pair.{next_of, pair, link_at, pairs_by}
-use Rattle.plant_core.specs.Doing.{one_each, frames_pushed, SlavesTick, HaveParts, MastersNoted, MasterActs, OffersNoted, GoesOn, Delivers}
-use Rattle.plant_core.specs.Link.{LinkView, LinkStands}
-use Rattle.plant_core.specs.Standing.{PlantView, LinkIs, LinksAre}
 use Rattle.plant_core.proofs.Acting.{trace_append}
-use Rattle.plant_model.proofs.Growing.{IsOne, pair_more, pair_own, pushes_each, no_entry}
 use Rattle.plant_core.proofs.Linked.{whatever}
 use Rattle.plant_core.proofs.Linking.{from_one, each_at, each_map}
-use Rattle.plant_model.proofs.Masters.{master_with, mastered, offers_by}
 use Rattle.plant_core.proofs.Offering.{offers_send}
 use Rattle.plant_core.proofs.OneDeed.{act_done, one_links, one_pushes, quiet_pushes}
 use Rattle.plant_core.proofs.Readers.{told_by}

@@ -1,30 +1,17 @@
 -- What a plant shows by the number of a connection, which may not exist.
+use Rattle.plant_core.proofs.Common.{Act, Beginning, BoundSpec, EachLink, End, Entry, LinkConf, LinkIs, LinkView, PlantStands, PlantView, Shows, ShowsApp, ShowsOn, ShowsWorst, TellsStill, calls, deeds, is_cut, is_guarded, journal, kept_at, link_at, of_end, out, outputs_at, pair, pairs_by, settings}
 use Rattle.std.proofs.Common.{Bor, ◌≡◌, ◌≤◌, ◌<◌, ◌-◌, ◌&&◌, ℕ, zero, suc, Bool, false, not, List, [], ◌∷◌, length, slice_get, Option, Some, None, refl, sym, ap, ◌∙◌, arith}
 use Rattle.std.specs.Prelude.{IfSome, option_copied}
 use Rattle.std.specs.Slice.{IsItemAt}
 use Rattle.std.proofs.lemmas.Option.{slice_get_past, slice_get_read}
 use Rattle.std.specs.Option.{option_map_or}
 use Rattle.fsoe_base.specs.Image.{bit_of}
-use Rattle.fsoe_base.specs.declared.command.End.{End}
 use Rattle.fsoe_base.specs.declared.command.End.TheVariants as side
 use Rattle.failsafe_io.specs.declared.bit.Bit.{Bit}
-use Rattle.param_load.specs.declared.entry.Entry.{Entry}
-use Rattle.plant_conf.specs.declared.conf.BoundSpec.{BoundSpec}
-use Rattle.plant_conf.specs.declared.conf.LinkConf.{LinkConf}
-use Rattle.end_model.specs.Outputs.{out}
-use Rattle.exchange_model.specs.Ends.{of_end}
 use Rattle.exchange_model.specs.Fair.{offers_bit}
 use Rattle.exchange_model.specs.Items.{Unset, next_offered}
-use Rattle.exchange_model.specs.World.{deeds}
 use Rattle.reaction_bound.specs.Age.{told_age, worst_of}
 use Rattle.reaction_bound.specs.Ages as ages
-use Rattle.slave_core.specs.Standing.{Shows}
-use Rattle.multi_master.specs.Standing.{ShowsApp}
-use Rattle.plant_model.specs.Acts.{Beginning, Act, calls, is_cut, journal, settings}
-use Rattle.plant_model.specs.Bound.{is_guarded}
-use Rattle.plant_model.specs.Pair.{link_at, outputs_at, pair, pairs_by}
-use Rattle.plant_core.specs.Link.{LinkView}
-use Rattle.plant_core.specs.Standing.{TellsStill, EachLink, LinkIs, PlantStands, PlantView, kept_at, ShowsOn, ShowsWorst}
 use Rattle.plant_core.proofs.Linking.{each_at}
 
 -- what a look-up of an element gives

@@ -11,3 +11,4 @@ pub mod Pulling
 mod QuietTold
 mod Readers
 pub mod Worlds
+pub mod Common

@@ -1,31 +1,19 @@
 -- The slave of a connection and what notes its pair, after a deed of either end.
+use Rattle.plant_core.proofs.Common.{AgesNote, AgesView, Deed, Did, End, Entry, Fixed, HasAgeParts, Lengths, LinkConf, LinkStands, LinkView, MasterNoted, Move, NotesOne, NotesSlave, OfSlave, SlaveGoesOn, SlaveIsAfter, deed_in, deeds, delivered, new_ages, new_link, next_entry, same_end, watchdog_in}
 use Rattle.std.proofs.Common.{◌≡◌, ℕ, ◌+◌, List, [], ◌∷◌, Bool, true, false, ap, ap₂, ◌∙◌, refl, sym, subst, Option, Some, None, if◌then◌else◌}
 use Rattle.std.specs.Prelude.{IfSome, is_some}
 use Rattle.fsoe_base.specs.declared.command.Command.TheVariants as command
-use Rattle.fsoe_base.specs.declared.command.End.{End}
 use Rattle.fsoe_base.specs.declared.command.End.TheVariants as side
-use Rattle.fsoe_base.specs.declared.did.Did.{Did}
 use Rattle.fsoe_base.specs.declared.did.Took.{Took}
-use Rattle.fsoe_base.specs.declared.lengths.Lengths.{Lengths}
-use Rattle.param_load.specs.declared.entry.Entry.{Entry}
-use Rattle.param_load.specs.declared.entry.Move.{Move}
 use Rattle.param_load.specs.declared.slave_settings.SlaveSettings.{SlaveSettings}
-use Rattle.plant_conf.specs.declared.conf.LinkConf.{LinkConf}
-use Rattle.end_model.specs.Setup.{OfSlave}
-use Rattle.end_model.specs.Deed.{Deed, delivered}
 use Rattle.end_model.specs.Step.{step}
 use Rattle.exchange_model.specs.Honest.{is_tick}
 use Rattle.exchange_model.specs.Monitor.{MonitorView, NotesParts}
 use Rattle.exchange_model.specs.Monitor as monitor
-use Rattle.exchange_model.specs.World.{deeds, deed_in, next_entry}
-use Rattle.exchange_model.specs.Ends.{same_end}
-use Rattle.reaction_bound.specs.Ages.{AgesView, HasAgeParts, watchdog_in}
 use Rattle.reaction_bound.specs.Ages as ages
 use Rattle.slave_core.specs.SlaveView.{SlaveView}
 use Rattle.slave_core.specs.ViewOf.{view_of}
 use Rattle.slave_core.specs.Standing as slave_core
-use Rattle.slave_core.specs.Standing.{SlaveIsAfter}
-use Rattle.plant_core.specs.Link.{AgesNote, Fixed, LinkView, NotesSlave, new_ages, new_link, LinkStands, SlaveGoesOn, MasterNoted, NotesOne}
 
 pub is_new : (link : LinkConf) (aged : Bool) (new : LinkView) → SlaveIsAfter link.slave new.slave [] → new.monitor ≡ monitor.view_of [] → new.ages ≡ new_ages aged → new.cut ≡ false → new ≡ new_link aged link
 is_new link aged new slave noted ages_are cut = ap (λ (z : SlaveView). record new { slave = z }) slave.is

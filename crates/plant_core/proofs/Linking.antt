@@ -1,8 +1,6 @@
 -- What holds of each connection and of what is kept of it.
+use Rattle.plant_core.proofs.Common.{EachLink, LinkConf, LinkView}
 use Rattle.std.proofs.Common.{◌≡◌, ◌≢◌, ◌≤◌, ◌<◌, ℕ, zero, suc, ◌+◌, List, [], ◌∷◌, length, slice_get, slice_set, Some, refl, sym, ap, subst, arith}
-use Rattle.plant_conf.specs.declared.conf.LinkConf.{LinkConf}
-use Rattle.plant_core.specs.Link.{LinkView}
-use Rattle.plant_core.specs.Standing.{EachLink}
 
 -- the number of a connection by its place
 pub from_one : (n place : ℕ) → n ≡ suc place → n ≡ 1 + place

@@ -1,19 +1,10 @@
 -- What a plant keeps of its connections before anything happened.
+use Rattle.plant_core.proofs.Common.{AreNoted, BoundSpec, Did, EachLink, Fixed, IsPlant, Lengths, LinkConf, LinkIs, LinkView, MultiValue, fixed_in, is_named, lengths_in, lengths_kept, links_made, new_link, pairs_by}
 use Rattle.std.proofs.Common.{◌≡◌, ◌≤◌, ◌<◌, ◌+◌, ◌*◌, ℕ, zero, suc, Bool, false, List, [], ◌∷◌, ◌++◌, get_or, length, map, take, slice_get, Some, refl, sym, ap, ap₂, subst, ◌∙◌, arith}
 use Rattle.std.proofs.lemmas.List.Elements.{All-cons, All-nil}
 use Rattle.std.specs.Prelude.{Err, Ok, Result, if◌then◌else◌, is_err, is_ok}
 use Rattle.std.proofs.lemmas.Option.{slice_get_read}
-use Rattle.fsoe_base.specs.declared.did.Did.{Did}
-use Rattle.fsoe_base.specs.declared.lengths.Lengths.{Lengths}
-use Rattle.plant_conf.specs.declared.conf.BoundSpec.{BoundSpec}
-use Rattle.plant_conf.specs.declared.conf.LinkConf.{LinkConf}
 use Rattle.multi_master.specs.Standing as multi
-use Rattle.multi_master.specs.Standing.{MultiValue}
-use Rattle.plant_model.specs.Fits.{lengths_in}
-use Rattle.plant_core.specs.Link.{Fixed, LinkView, new_link}
-use Rattle.plant_core.specs.Making.{is_named, links_made}
-use Rattle.plant_core.specs.Standing.{AreNoted, EachLink, IsPlant, LinkIs, fixed_in, lengths_kept}
-use Rattle.plant_model.specs.Pair.{pairs_by}
 use Rattle.plant_core.proofs.Linked.{new_stands}
 
 -- one connection more

@@ -1,28 +1,15 @@
 -- The offers that a cycle changed, in the journal and at their connections.
+use Rattle.plant_core.proofs.Common.{AllSound, AppView, Call, Connection, End, IsOne, IsSound, JournalStep, LinkConf, LinkView, LinksAre, MasterNoted, Meant, MultiView, OffersNoted, ShowsAt, ShowsChanged, StandsFor, changed, changed_by, changed_from, connection, cycle_in, frames_of, is_offer, meant, next_of, nothing, numbers_of, offer_at, offer_step, pair, pairs_by, with_frame}
 use Rattle.std.proofs.Common.{◌≡◌, ◌≤◌, ℕ, zero, suc, ◌+◌, ◌==◌, Bool, true, false, List, [], ◌∷◌, ◌++◌, map, take, length, slice_get, slice_set, Option, Some, None, option_map, if◌then◌else◌, refl, sym, ap, ap₂, subst, ◌∙◌, append_assoc, arith}
 use Rattle.std.specs.Option.{option_map_or}
 use Rattle.std.specs.Prelude.{IfSome}
 use Rattle.std.proofs.lemmas.Option.{slice_get-map}
 use Rattle.std.proofs.lemmas.List.{append-nil, map-append, take_all}
-use Rattle.fsoe_base.specs.Did.{nothing}
-use Rattle.fsoe_base.specs.declared.command.End.{End}
 use Rattle.fsoe_base.specs.declared.command.End.TheVariants as side
 use Rattle.failsafe_io.specs.Application.{Answer}
 use Rattle.param_load.specs.declared.entry.Move.TheVariants as move
 use Rattle.param_load.specs.declared.master_settings.MasterSettings.{MasterSettings}
-use Rattle.plant_conf.specs.declared.conf.LinkConf.{LinkConf}
-use Rattle.exchange_model.specs.World.{frames_of}
-use Rattle.multi_master.specs.Calls.{AppView, Call, Meant, IsSound, connection, cycle_in, meant, changed_from, changed_by}
-use Rattle.multi_master.specs.Connection.{Connection, offer_at, is_offer}
-use Rattle.multi_master.specs.Standing.{MultiView, StandsFor, AllSound, ShowsAt, ShowsChanged, changed, numbers_of}
-use Rattle.plant_model.specs.declared.journal.JournalStep.{JournalStep}
 use Rattle.plant_model.specs.declared.journal.JournalStep.TheVariants as step
-use Rattle.plant_model.specs.Acts.{offer_step}
-use Rattle.plant_model.specs.Pair.{next_of, pair, pairs_by}
-use Rattle.plant_core.specs.Doing.{OffersNoted}
-use Rattle.plant_core.specs.Link.{LinkView, MasterNoted}
-use Rattle.plant_core.specs.Standing.{LinksAre}
-use Rattle.plant_model.proofs.Growing.{IsOne, with_frame}
 use Rattle.plant_core.proofs.OneDeed.{one_links, one_frames}
 
 -- what a connection offers, as a step

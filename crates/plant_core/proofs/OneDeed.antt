@@ -1,44 +1,21 @@
 -- Acts in which one end of one connection does something, and no cycle is run.
+use Rattle.plant_core.proofs.Common.{Act, Beginning, Call, Delivers, End, Entry, Event, Fits, GoesOn, Happen, HasDone, IsOne, JournalStep, LinkConf, LinkIs, LinkStands, LinkView, LinksAre, MasterNoted, Move, MultiView, Nonce, OfSlave, Parcel, Placed, PlantView, PullFrom, SlaveActs, StandsFor, Told, Trace, Use, all_pushes, call_of, calls, cut_after, delivery_call, each_none, each_one, event_call, frames_next, frames_of, is_cut, journal, lengths_kept, link_at, next_of, next_uses, no_entry, not_same, nothing, offers_by, pair, pair_one, pair_other, pair_own, pairs_by, peer, place_of, pushes_each, pushes_of, same_end, sent_in, sent_uses, settings, slave_move, steps_of, with_frame}
 use Rattle.std.proofs.Common.{◌≡◌, ◌≢◌, ◌≤◌, length, ℕ, suc, ◌==◌, Bool, true, false, List, [], ◌∷◌, ◌++◌, slice_get, slice_set, Option, Some, None, if◌then◌else◌, refl, sym, ap, ap₂, subst, ◌∙◌, arith}
 use Rattle.std.specs.Prelude.{IfSome, IsTrue, option_to_list}
 use Rattle.std.proofs.lemmas.Bool.{eq-eqb, le-leb}
 use Rattle.std.proofs.lemmas.List.{append-nil}
-use Rattle.fsoe_base.specs.Did.{nothing}
-use Rattle.fsoe_base.specs.declared.command.End.{End}
 use Rattle.fsoe_base.specs.declared.command.End.TheVariants as side
-use Rattle.end_model.specs.Setup.{OfSlave}
 use Rattle.end_model.specs.Runs.{IsProper}
 use Rattle.param_load.specs.Profile.{allows_id}
 use Rattle.param_load.specs.declared.profile.Profile.{Profile}
 use Rattle.param_load.specs.declared.profile.Profile.TheVariants as profile
-use Rattle.param_load.specs.declared.entry.Entry.{Entry}
-use Rattle.param_load.specs.declared.entry.Move.{Move}
 use Rattle.param_load.specs.declared.entry.Move.TheVariants as move
-use Rattle.black_channel.specs.Told.{Told}
-use Rattle.black_channel.specs.declared.channel.Parcel.{Parcel}
-use Rattle.plant_conf.specs.declared.conf.LinkConf.{LinkConf}
-use Rattle.exchange_model.specs.Ends.{peer, same_end}
-use Rattle.exchange_model.specs.World.{frames_of}
-use Rattle.multi_master.specs.Calls.{Call, Nonce}
 use Rattle.multi_master.specs.Standing as multi
-use Rattle.multi_master.specs.Standing.{MultiView, StandsFor}
 use Rattle.plant_model.specs.declared.event.PlantEvent.{PlantEvent}
 use Rattle.plant_model.specs.declared.event.PlantEvent.TheVariants as event
-use Rattle.plant_model.specs.declared.journal.JournalStep.{JournalStep}
 use Rattle.plant_model.specs.declared.journal.JournalStep.TheVariants as step
-use Rattle.plant_model.specs.Acts.{Beginning, Event, Act, Happen, PullFrom, settings, event_call, delivery_call, call_of, calls, steps_of, journal, cut_after, is_cut, pushes_of, all_pushes}
-use Rattle.plant_model.specs.Uses.{Use, Trace}
-use Rattle.plant_model.specs.Gifts.{place_of, sent_uses}
-use Rattle.plant_model.specs.Fits.{Fits}
-use Rattle.plant_model.specs.Pair.{next_of, pair, link_at, pairs_by}
-use Rattle.plant_core.specs.Doing.{next_uses, slave_move, SlaveActs, GoesOn, Delivers}
-use Rattle.plant_core.specs.Link.{LinkView, LinkStands, MasterNoted}
-use Rattle.plant_core.specs.Standing.{PlantView, LinkIs, LinksAre, HasDone, lengths_kept}
-use Rattle.plant_model.proofs.Growing.{not_same, no_entry, IsOne, pair_one, pair_own, pair_other, with_frame, sent_in, frames_next, pushes_each, each_none, each_one}
-use Rattle.multi_master.proofs.Places.{Placed}
 use Rattle.plant_core.proofs.Acting.{kept_fits}
 use Rattle.plant_core.proofs.Linking.{from_one, each_at, each_map, each_set}
-use Rattle.plant_model.proofs.Masters.{offers_by}
 
 -- one entry more at a connection
 pub one_links : (links : List LinkConf) (cut : ℕ → Bool) (steps : List JournalStep) (s : JournalStep) (n : ℕ) (end : End) (what : Move) (place : ℕ) (vs : List LinkView) (old new : LinkView)

@@ -1,16 +1,10 @@
 -- The lowest connection whose pair has an other entry.
+use Rattle.plant_core.proofs.Common.{AllNoted, EachLink, Entry, JournalStep, LinkConf, LinkIs, LinkView, PlantView, TellsOther, has_other, is_cut, lowest_other, pair, pairs_by}
 use Rattle.std.proofs.lemmas.List.{drop_more}
 use Rattle.std.proofs.Common.{◌≡◌, ◌≤◌, ◌<◌, ℕ, zero, suc, ◌+◌, List, [], ◌∷◌, length, get_or, drop, subst, Option, Some, None, Bool, true, false, if◌then◌else◌, refl, sym, ap, ◌∙◌, arith}
 use Rattle.std.specs.Prelude.{is_some}
-use Rattle.param_load.specs.declared.entry.Entry.{Entry}
-use Rattle.plant_conf.specs.declared.conf.LinkConf.{LinkConf}
 use Rattle.exchange_model.specs.Monitor.{view_of}
 use Rattle.exchange_model.specs.Other.{first_other}
-use Rattle.plant_model.specs.declared.journal.JournalStep.{JournalStep}
-use Rattle.plant_model.specs.Acts.{is_cut}
-use Rattle.plant_core.specs.Link.{LinkView}
-use Rattle.plant_model.specs.Pair.{pair, has_other, lowest_other, pairs_by}
-use Rattle.plant_core.specs.Standing.{PlantView, EachLink, LinkIs, AllNoted, TellsOther}
 
 -- what is left to look through gives what all gives
 pub record Left (k : ℕ) (confs : List LinkConf) (links : List LinkView) (steps : List JournalStep) (all : Option ℕ) : Type 0 where

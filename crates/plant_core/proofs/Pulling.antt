@@ -1,43 +1,21 @@
 -- The pulls of a tick, a plant's start, and how it goes on by a line of its script.
+use Rattle.plant_core.proofs.Common.{Act, App, AppView, Beginning, Begins, BoundSpec, Call, ChangeApp, Delivers, DoesLine, EachLink, End, Entry, Event, Fits, Follows, GoesOn, Happen, HasDone, IsOne, JournalStep, Lengths, LinkConf, LinkIs, LinkStands, LinkView, LinksAre, Move, MultiValue, MultiView, OffersNoted, Parcel, PlantView, PullFrom, Pulls, PullsParcel, Said, StandsFor, Start, Starts, Told, Trace, Use, all_pushes, call_of, calls, changed, delivery_call, each_uses, frames_of, is_cut, is_tick, journal, lengths_in, lengths_kept, line_step, link_at, links_made, master_in, next_of, offers, pair, pair_other, pairs_by, peer, place_of, pushes_each, pushes_of, sent_in, sent_uses, settings, uses, uses_after, uses_of}
 use Rattle.std.proofs.Common.{◌≡◌, ◌≢◌, ◌≤◌, ◌<◌, ◌⊎◌, inl, inr, ℕ, zero, suc, ◌+◌, ◌-◌, ◌*◌, Bool, false, List, [], ◌∷◌, ◌++◌, map, All, length, Option, Some, None, if◌then◌else◌, refl, sym, ap, ap₂, subst, ◌∙◌, append_assoc, arith}
 use Rattle.std.proofs.Math.Nat.{suc-mul}
 use Rattle.std.proofs.lemmas.List.{append-nil}
 use Rattle.std.proofs.lemmas.List.Elements.{All-append, All-cons, All-nil}
 use Rattle.std.proofs.lemmas.Option.{slice_get_past}
-use Rattle.fsoe_base.specs.declared.command.End.{End}
 use Rattle.fsoe_base.specs.declared.command.End.TheVariants as side
-use Rattle.fsoe_base.specs.declared.lengths.Lengths.{Lengths}
-use Rattle.param_load.specs.declared.entry.Entry.{Entry}
-use Rattle.param_load.specs.declared.entry.Move.{Move}
 use Rattle.param_load.specs.declared.entry.Move.TheVariants as move
 use Rattle.slave_core.specs.SlaveView.{SlaveView}
-use Rattle.black_channel.specs.Told.{Told, Begins, PullsParcel}
-use Rattle.black_channel.specs.declared.channel.Parcel.{Parcel}
-use Rattle.plant_conf.specs.declared.conf.LinkConf.{LinkConf}
-use Rattle.exchange_model.specs.Ends.{peer}
-use Rattle.exchange_model.specs.World.{frames_of}
-use Rattle.multi_master.specs.Calls.{AppView, Call, ChangeApp}
 use Rattle.multi_master.specs.Standing as multi
-use Rattle.multi_master.specs.Standing.{MultiValue, MultiView, StandsFor, changed}
 use Rattle.plant_model.specs.declared.event.PlantEvent.{PlantEvent}
 use Rattle.plant_model.specs.declared.event.PlantEvent.TheVariants as event
-use Rattle.plant_model.specs.declared.journal.JournalStep.{JournalStep}
 use Rattle.plant_model.specs.declared.journal.JournalStep.TheVariants as step
-use Rattle.plant_model.specs.Acts.{Beginning, Said, Event, App, Act, Start, Happen, PullFrom, settings, delivery_call, call_of, calls, offers, journal, is_cut, pushes_of, all_pushes, uses_of, uses_after, uses, line_step}
-use Rattle.plant_model.specs.Uses.{Use, Trace}
-use Rattle.plant_model.specs.Gifts.{place_of, sent_uses, each_uses}
-use Rattle.plant_model.specs.Pair.{next_of, pairs_by, pair, link_at, is_tick}
-use Rattle.plant_core.specs.Doing.{OffersNoted, GoesOn, Delivers, Pulls, DoesLine}
-use Rattle.plant_core.specs.Standing.{lengths_kept, PlantView, EachLink, LinkIs, LinksAre, HasDone, Starts, Follows}
 use Rattle.plant_model.specs.Past.{SaidFits, said_in}
-use Rattle.plant_model.specs.Fits.{lengths_in, Fits}
-use Rattle.plant_core.specs.Link.{LinkView, LinkStands}
-use Rattle.plant_conf.specs.declared.conf.BoundSpec.{BoundSpec}
-use Rattle.plant_core.specs.Making.{links_made, master_in}
 use Rattle.plant_core.proofs.Acting.{trace_append}
 use Rattle.plant_core.proofs.Made.{made_stand}
 use Rattle.plant_model.proofs.Lines.{line_said}
-use Rattle.plant_model.proofs.Growing.{IsOne, pair_other, sent_in, pushes_each}
 use Rattle.plant_core.proofs.Linking.{each_count, each_from}
 use Rattle.plant_core.proofs.Offering.{offers_send}
 use Rattle.plant_core.proofs.OneDeed.{act_done, frame_in, one_frames, apart, quiet_calls, quiet_journal, quiet_pushes}

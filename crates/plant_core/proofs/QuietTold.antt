@@ -1,25 +1,12 @@
 -- A plant tells whether a bound is still.
+use Rattle.plant_core.proofs.Common.{Act, Beginning, BoundSpec, JournalStep, LinkConf, LinkIs, LinkView, OfSlave, Placed, PlantStands, PlantView, ShowsApp, TellsStill, calls, deeds, held, is_cut, is_guarded, is_off, journal, link_at, of_end, offer, pair, pairs_by, settings, slave_offers}
 use Rattle.std.proofs.Common.{◌≡◌, ℕ, Bool, false, ◌&&◌, not, List, Option, Some, sym, ap, ap₂, subst, ◌∙◌}
 use Rattle.std.specs.Option.{option_map_or}
 use Rattle.fsoe_base.specs.declared.command.End.TheVariants as side
 use Rattle.fsoe_base.specs.Image.{bit_of}
-use Rattle.plant_conf.specs.declared.conf.BoundSpec.{BoundSpec}
-use Rattle.plant_conf.specs.declared.conf.LinkConf.{LinkConf}
-use Rattle.end_model.specs.Readiness.{held, offer}
-use Rattle.end_model.specs.Setup.{OfSlave}
-use Rattle.exchange_model.specs.Ends.{of_end}
 use Rattle.exchange_model.specs.Items.{Unset, next_offered}
 use Rattle.exchange_model.specs.Fair.{offers_bit}
-use Rattle.exchange_model.specs.World.{deeds}
 use Rattle.slave_core.specs.Standing as slave_core
-use Rattle.multi_master.specs.Standing.{ShowsApp}
-use Rattle.multi_master.proofs.Places.{Placed}
-use Rattle.plant_model.specs.declared.journal.JournalStep.{JournalStep}
-use Rattle.plant_model.specs.Acts.{Beginning, Act, settings, calls, journal, is_cut}
-use Rattle.plant_model.specs.Bound.{slave_offers, is_off, is_guarded}
-use Rattle.plant_core.specs.Standing.{TellsStill, PlantView, LinkIs, PlantStands}
-use Rattle.plant_core.specs.Link.{LinkView}
-use Rattle.plant_model.specs.Pair.{pair, link_at, pairs_by}
 use Rattle.plant_model.proofs.KeptOff.{offers_is}
 use Rattle.plant_core.proofs.Linking.{from_one, each_at}
 

@@ -1,28 +1,14 @@
 -- What a plant shows of an end is what the pair of its connection tells.
+use Rattle.plant_core.proofs.Common.{Act, Beginning, Connection, Deed, Did, HasLink, IsPlant, JournalStep, LinkConf, LinkIs, LinkView, MultiView, OfMaster, OfSlave, Placed, PlantStands, PlantValue, PlantView, Setup, ShowsAt, ShowsPair, calls, deeds, is_cut, journal, link_at, master_with, mastered, masters, out, pair, pairs_by, settings, setup, some_at, state_of}
 use Rattle.std.proofs.Common.{◌≡◌, ◌≤◌, ◌<◌, ℕ, zero, suc, List, length, slice_get, Option, Some, option_map, sym, ap, subst, ◌∙◌, arith}
 use Rattle.std.specs.Prelude.{IsSomeAnd}
 use Rattle.fsoe_base.specs.declared.command.End.TheVariants as side
 use Rattle.fsoe_base.specs.declared.command.State.{State}
-use Rattle.fsoe_base.specs.declared.did.Did.{Did}
-use Rattle.plant_conf.specs.declared.conf.LinkConf.{LinkConf}
-use Rattle.end_model.specs.Deed.{Deed}
-use Rattle.end_model.specs.Outputs.{out}
-use Rattle.end_model.specs.Readiness.{state_of}
-use Rattle.end_model.specs.Setup.{Setup, OfMaster, OfSlave}
-use Rattle.exchange_model.specs.World.{deeds}
 use Rattle.slave_core.specs.Standing as slave_core
-use Rattle.multi_master.specs.Connection.{Connection, setup, outputs_at}
+use Rattle.multi_master.specs.Connection.{outputs_at}
 use Rattle.multi_master.specs.Standing as multi
-use Rattle.multi_master.specs.Standing.{MultiView, ShowsAt}
-use Rattle.multi_master.proofs.Places.{Placed, some_at}
-use Rattle.plant_model.specs.declared.journal.JournalStep.{JournalStep}
-use Rattle.plant_model.specs.Acts.{Beginning, Act, settings, calls, masters, journal, is_cut}
-use Rattle.plant_core.specs.Link.{LinkView}
 use Rattle.plant_model.specs.Pair as pairs
-use Rattle.plant_model.specs.Pair.{pair, link_at, pairs_by}
-use Rattle.plant_core.specs.Standing.{PlantView, PlantValue, IsPlant, HasLink, LinkIs, PlantStands, ShowsPair}
 use Rattle.plant_core.proofs.Linking.{from_one, each_at, each_count}
-use Rattle.plant_model.proofs.Masters.{master_with, mastered}
 
 -- a word of the slave is that word of its deeds in the pair
 pub slave_shown : {X : Type 0} (v : PlantView) (k place : ℕ) (l : LinkView) (shown : X) (word : Setup → List Deed → X) → Placed v.links k place l → slave_core.Shows l.slave shown word

@@ -1,32 +1,20 @@
 -- The pairs of a plant are worlds of proper events, since both ends of each are where their deeds leave them; so what
 -- holds of worlds holds of them.
+use Rattle.plant_core.proofs.Common.{Act, Beginning, Connection, IsWhere, JournalStep, LinkConf, LinkIs, OfMaster, PlantStands, PlantView, Reacts, all_at, deeds, is_cut, journal, master_with, mastered, masters, pair, pairs_by}
 use Rattle.std.proofs.Common.{◌≡◌, ℕ, zero, suc, List, [], ◌∷◌, slice_get, Some, All, sym, subst, arith}
 use Rattle.std.specs.List.{AllZip}
 use Rattle.fsoe_base.specs.declared.command.End.TheVariants as side
 use Rattle.plant_conf.specs.Kept.{HasSameLengths}
-use Rattle.plant_conf.specs.declared.conf.LinkConf.{LinkConf}
-use Rattle.end_model.specs.Setup.{OfMaster}
 use Rattle.end_model.specs.Runs.{IsRun}
-use Rattle.exchange_model.specs.World.{deeds}
 use Rattle.master_core.specs.MasterView.{MasterView}
-use Rattle.multi_master.specs.Connection.{Connection}
-use Rattle.multi_master.specs.Standing.{IsWhere}
-use Rattle.multi_master.proofs.Places.{all_at}
-use Rattle.plant_model.specs.declared.journal.JournalStep.{JournalStep}
-use Rattle.plant_model.specs.Acts.{Beginning, Act, masters, is_cut, journal}
 use Rattle.plant_model.specs.FairPairs.{PairsAreFair}
-use Rattle.plant_model.specs.Pair.{pair, pairs_by}
-use Rattle.plant_core.specs.Standing.{PlantView, LinkIs, PlantStands}
 use Rattle.plant_model.proofs.Cycled.{sound_acts}
-use Rattle.plant_model.proofs.Masters.{master_with, mastered}
 use Rattle.plant_core.proofs.Linking.{kept_at}
 use Rattle.plant_model.proofs.FairPlant.{AreWorlds, world_of_runs, worlds_are_fair}
 use Rattle.plant_model.proofs.Reacting.{worlds_react}
 use Rattle.plant_model.proofs.Broken.{worlds_broken}
-use Rattle.plant_model.specs.Bound.{Reacts}
 use Rattle.plant_model.specs.Broken.{BrokenByOther}
 use Rattle.plant_model.specs.Promises.{AllSound}
-use Rattle.plant_model.specs.Acts.{journal}
 
 -- what stands beside a place of the first list
 zip_at : (cs : List Connection) (ms : List MasterView) (place : ℕ) (c : Connection) → AllZip IsWhere cs ms → slice_get cs place ≡ Some c → (m : MasterView) × IsWhere c m

@@ -1,19 +1,12 @@
 -- A tick is late for a bound only where a pair has another entry: from the first of the still moments that reach it on
 -- the bound is quiet. Acts and what is heard are listed newest first.
+use Rattle.plant_model.proofs.Common.{Act, AllSound, Beginning, BoundSpec, Happen, HasLinks, JournalStep, LinkConf, PullFrom, Said, StaysOff, first_of_both, is_guarded, is_off, is_on, is_still, is_tick, journal, limit, line_step, offers, steps_of, ticks}
 use Rattle.std.proofs.Common.{◌≡◌, ◌≤◌, ℕ, zero, suc, ◌+◌, ◌-◌, Bool, true, false, cond, ◌||◌, List, [], ◌∷◌, ◌++◌, Option, None, refl, sym, ap, ap₂, subst, ◌∙◌, arith}
 use Rattle.std.specs.Option.{option_map_or}
 use Rattle.std.proofs.Math.Dec.{leb-suc-zero}
 use Rattle.std.proofs.lemmas.List.{append-nil}
-use Rattle.plant_conf.specs.declared.conf.BoundSpec.{BoundSpec}
-use Rattle.plant_conf.specs.declared.conf.LinkConf.{LinkConf}
-use Rattle.exchange_model.specs.Other.{first_of_both}
 use Rattle.reaction_bound.specs.Reaction as reaction
-use Rattle.plant_model.specs.declared.journal.JournalStep.{JournalStep}
-use Rattle.plant_model.specs.Acts.{Beginning, Said, Act, Happen, PullFrom, line_step, offers, steps_of, journal}
-use Rattle.plant_model.specs.Bound.{is_off, is_guarded, is_still, StaysOff, HasLinks, limit, is_on}
 use Rattle.plant_model.specs.BoundLines.{limit_by, limit_of, is_driven, is_ticking, heard, heard_before}
-use Rattle.plant_model.specs.Pair.{is_tick, ticks}
-use Rattle.plant_model.specs.Promises.{AllSound}
 use Rattle.plant_model.proofs.Reacting.{Clean, clean_at, clean_before, steps_off}
 use Rattle.plant_model.proofs.Since.{act_ticks, is_tick_act}
 use Rattle.plant_model.proofs.StillTicks.{Pulls, both_first, of_tick, quiet_on, stays_still}

@@ -1,31 +1,16 @@
 -- Which acts run a cycle, and that its answer is sound.
+use Rattle.plant_model.proofs.Common.{Act, AllSound, Answer, Beginning, Call, Cycles, Deed, Deliver, End, Entry, Event, Happen, IsSound, JournalStep, LinkConf, MasterSettings, OfMaster, Parcel, PullFrom, call_of, calls, changed_by, connection, cycle_in, deeds, delivery_call, is_heard, journal, link_at, master_hears, masters, meant, next_of, offer_step, pair, place_of, settings, tells_hearing}
 use Rattle.std.proofs.Common.{◌≡◌, ℕ, zero, suc, ◌==◌, Bool, true, false, List, [], ◌∷◌, ◌++◌, map, slice_get, Option, Some, None, if◌then◌else◌, refl, sym, ap, ◌∙◌, append_assoc}
 use Rattle.std.specs.Prelude.{is_some, option_and_then, option_to_list, IfSome}
 use Rattle.std.proofs.lemmas.List.{append-nil}
 use Rattle.fsoe_base.specs.Did.{nothing}
-use Rattle.fsoe_base.specs.declared.command.End.{End}
 use Rattle.fsoe_base.specs.declared.command.End.TheVariants as side
-use Rattle.failsafe_io.specs.Application.{Answer}
-use Rattle.param_load.specs.declared.entry.Entry.{Entry}
 use Rattle.param_load.specs.declared.entry.Move.TheVariants as move
-use Rattle.param_load.specs.declared.master_settings.MasterSettings.{MasterSettings}
-use Rattle.black_channel.specs.declared.channel.Parcel.{Parcel}
-use Rattle.plant_conf.specs.declared.conf.LinkConf.{LinkConf}
-use Rattle.end_model.specs.Deed.{Deed}
-use Rattle.end_model.specs.Setup.{OfMaster}
 use Rattle.end_model.specs.Step.{did_on}
-use Rattle.exchange_model.specs.World.{deeds}
 use Rattle.master_core.specs.Calls.{tells_due}
-use Rattle.multi_master.specs.Calls.{Call, Deliver, IsSound, connection, is_heard, cycle_in, meant, changed_by}
 use Rattle.multi_master.specs.Standing as multi
 use Rattle.plant_model.specs.declared.event.PlantEvent.TheVariants as event
-use Rattle.plant_model.specs.declared.journal.JournalStep.{JournalStep}
 use Rattle.plant_model.specs.declared.journal.JournalStep.TheVariants as step
-use Rattle.plant_model.specs.Acts.{Beginning, Event, Act, Happen, PullFrom, settings, delivery_call, call_of, calls, masters, offer_step, journal}
-use Rattle.plant_model.specs.Gifts.{place_of}
-use Rattle.plant_model.specs.Pair.{next_of, pair, link_at}
-use Rattle.plant_model.specs.JournalLaws.{tells_hearing, master_hears, Cycles}
-use Rattle.plant_model.specs.Promises.{AllSound}
 use Rattle.plant_model.proofs.Growing.{pair_own, pair_one}
 use Rattle.plant_model.proofs.Masters.{mastered, offers_by}
 

@@ -1,29 +1,16 @@
 -- A pair is a world of proper events where the deeds of both its ends are runs; and the law of the pair holds of
 -- worlds.
+use Rattle.plant_model.proofs.Common.{End, Entry, Fair, IsNextEntry, IsWorld, JournalStep, LinkConf, MasterSettings, Move, OfMaster, OfSlave, SameLengths, SlaveSettings, before_other, deed_in, deeds, end_of_event, entry_on, frames_of, going_on, link_at, move_from, next_entry, own_events, pair, peer, same_end, setup_of, world_after}
 use Rattle.std.proofs.Common.{◌≡◌, ℕ, zero, suc, List, [], ◌∷◌, slice_get, Option, Some, None, if◌then◌else◌, refl, sym, ap}
 use Rattle.std.specs.Prelude.{IfSome}
-use Rattle.fsoe_base.specs.declared.command.End.{End}
 use Rattle.fsoe_base.specs.declared.command.End.TheVariants as side
 use Rattle.fsoe_base.specs.declared.lengths.Lengths.{Lengths}
-use Rattle.param_load.specs.declared.entry.Entry.{Entry}
-use Rattle.param_load.specs.declared.entry.Move.{Move}
-use Rattle.param_load.specs.declared.master_settings.MasterSettings.{MasterSettings}
-use Rattle.param_load.specs.declared.slave_settings.SlaveSettings.{SlaveSettings}
 use Rattle.schedule_file.specs.declared.event.Event.{Event}
 use Rattle.plant_conf.specs.Kept.{HasSameLengths}
-use Rattle.plant_conf.specs.declared.conf.LinkConf.{LinkConf}
-use Rattle.end_model.specs.Setup.{OfMaster, OfSlave}
 use Rattle.end_model.specs.Runs.{IsRun}
-use Rattle.exchange_model.specs.Ends.{same_end, peer}
-use Rattle.exchange_model.specs.Fair.{Fair}
-use Rattle.exchange_model.specs.Other.{before_other}
-use Rattle.exchange_model.specs.World.{setup_of, deed_in, deeds, frames_of, end_of_event, move_from, next_entry, entry_on, going_on, world_after, SameLengths}
-use Rattle.exchange_model.specs.Schedules.{IsNextEntry, IsWorld}
 use Rattle.exchange_model.proofs.Fairness.Headline.{fair_world}
 use Rattle.exchange_model.proofs.Worlds.Others.{before_is_clean, before_is_world}
-use Rattle.plant_model.specs.declared.journal.JournalStep.{JournalStep}
 use Rattle.plant_model.specs.FairPairs.{PairsAreFair}
-use Rattle.plant_model.specs.Pair.{pair, own_events, link_at}
 
 -- each entry is the next one of its end after those before it
 abbrev pub AreNext : MasterSettings → SlaveSettings → List Entry → Type 0

@@ -1,22 +1,10 @@
 -- What the channel gave, and how often it gave nothing, by the journal.
+use Rattle.plant_model.proofs.Common.{Act, App, Beginning, End, Event, Happen, IsPast, JournalStep, LinkConf, Parcel, Pull, PullFrom, Said, Start, Use, all_pushes, changed_by, counted, cycle_of, empty_pulls, frames_of, gifts, is_cut, is_tick, is_tick_event, journal, line_step, masters, newer, offer_step, offers, one_if_left, pair, peer, pulled_in, push_to, pushes_of, short_ticks, steps_of, uses, uses_after, uses_of}
 use Rattle.std.proofs.Common.{◌≡◌, ℕ, zero, suc, ◌+◌, ◌-◌, Bool, true, false, List, [], ◌∷◌, ◌++◌, map, Option, Some, None, if◌then◌else◌, refl, sym, ap, ap₂, ◌∙◌, append_assoc, arith}
 use Rattle.std.specs.Prelude.{option_to_list}
 use Rattle.std.proofs.lemmas.List.{append-nil}
-use Rattle.fsoe_base.specs.declared.command.End.{End}
 use Rattle.fsoe_base.specs.declared.command.End.TheVariants as side
-use Rattle.black_channel.specs.declared.channel.Parcel.{Parcel}
-use Rattle.plant_conf.specs.declared.conf.LinkConf.{LinkConf}
-use Rattle.exchange_model.specs.Ends.{peer}
-use Rattle.exchange_model.specs.World.{frames_of}
-use Rattle.multi_master.specs.Calls.{changed_by}
-use Rattle.plant_model.specs.declared.journal.JournalStep.{JournalStep}
 use Rattle.plant_model.specs.declared.journal.JournalStep.TheVariants as step
-use Rattle.plant_model.specs.Acts.{Beginning, Said, Event, App, Act, Start, Happen, PullFrom, offer_step, offers, steps_of, journal, is_cut, newer, push_to, pushes_of, all_pushes, uses_of, uses_after, uses, masters, cycle_of, line_step}
-use Rattle.plant_model.specs.Pair.{pair, is_tick, is_tick_event}
-use Rattle.plant_model.specs.JournalLaws.{pulled_in, one_if_left, short_ticks}
-use Rattle.plant_model.specs.Past.{IsPast}
-use Rattle.plant_model.specs.Uses.{Use, Pull}
-use Rattle.plant_model.specs.Gifts.{gifts, counted, empty_pulls}
 use Rattle.plant_model.proofs.Lines.{past_fits, room_after}
 
 gifts_append : (xs ys : List Use) → gifts (xs ++ ys) ≡ gifts xs ++ gifts ys

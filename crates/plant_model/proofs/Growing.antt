@@ -1,30 +1,16 @@
 -- How the entries of a pair grow with the journal, and which frames are pushed then.
+use Rattle.plant_model.proofs.Common.{End, Entry, JournalStep, LinkConf, MasterSettings, Move, PlantEvent, SlaveSettings, Use, deeds, each_uses, end_of_event, entry_at, entry_on, frames_of, going_on, if_same, is_empty, move_from, newer, next_entry, next_of, own_events, own_part, pair, pairs_by, peer, place_of, push_to, pushes_of, same_end, script_part, sent_uses, setup_of, world, world_after}
 use Rattle.std.proofs.Common.{◌≡◌, ◌≢◌, ◌⊎◌, inl, inr, ◌<◌, ℕ, zero, suc, ◌+◌, ◌-◌, ◌==◌, Bool, true, false, List, [], ◌∷◌, ◌++◌, map, take, reverse, length, slice_get, Option, Some, if◌then◌else◌, refl, sym, ap, ap₂, subst, ◌∙◌, arith}
 use Rattle.std.proofs.lemmas.Grind.{flat_map-append}
 use Rattle.std.proofs.lemmas.List.{append-nil}
 use Rattle.std.proofs.lemmas.Bool.{eq-eqb}
 use Rattle.std.proofs.lemmas.Bool.Decides.{eqb_tells}
-use Rattle.fsoe_base.specs.declared.command.End.{End}
 use Rattle.fsoe_base.specs.declared.command.End.TheVariants as side
-use Rattle.param_load.specs.declared.entry.Entry.{Entry}
-use Rattle.param_load.specs.declared.entry.Move.{Move}
 use Rattle.param_load.specs.declared.entry.Move.TheVariants as move
-use Rattle.param_load.specs.declared.master_settings.MasterSettings.{MasterSettings}
-use Rattle.param_load.specs.declared.slave_settings.SlaveSettings.{SlaveSettings}
 use Rattle.schedule_file.specs.declared.event.Event.{Event}
 use Rattle.schedule_file.specs.declared.event.Event.TheVariants as at
-use Rattle.plant_conf.specs.declared.conf.LinkConf.{LinkConf}
-use Rattle.end_model.specs.Deed.{is_empty}
-use Rattle.exchange_model.specs.Ends.{same_end, peer}
-use Rattle.exchange_model.specs.World.{setup_of, deeds, frames_of, end_of_event, move_from, next_entry, entry_on, entry_at, going_on, world_after, world}
-use Rattle.plant_model.specs.declared.event.PlantEvent.{PlantEvent}
 use Rattle.plant_model.specs.declared.event.PlantEvent.TheVariants as event
-use Rattle.plant_model.specs.declared.journal.JournalStep.{JournalStep}
 use Rattle.plant_model.specs.declared.journal.JournalStep.TheVariants as journal_step
-use Rattle.plant_model.specs.Acts.{newer, push_to, pushes_of}
-use Rattle.plant_model.specs.Uses.{Use}
-use Rattle.plant_model.specs.Gifts.{place_of, sent_uses, each_uses}
-use Rattle.plant_model.specs.Pair.{next_of, if_same, script_part, own_part, own_events, pair, pairs_by}
 
 -- an event names no frame
 abbrev pub IsPlain : Event → Type 0

@@ -1,36 +1,18 @@
 -- The bits of a bound at the master of many connections and in the pairs: what the application reads is what the master
 -- of a pair has, and what it answers is what that master offers. Acts and entries are listed newest first.
+use Rattle.plant_model.proofs.Common.{Act, Answer, Beginning, Call, Connection, Deliver, End, Entry, FailSafe, IsWorld, LinkConf, MasterSettings, Meant, Move, Nonce, OfMaster, SameLengths, Setup, SlaveSettings, after, bit_at, call_of, calls, cycle_in, cycle_of, deed_in, deeds, event_at, inputs_after, is_held, journal, last_put, link_at, masters, meant, next_offered, of_end, offer_at, offered_put, offers_after, offers_bit, outputs_at, outputs_due, pair, put_after, received_len, same_end, sends, settings, setup_of, with_cycle}
 use Rattle.std.proofs.Common.{◌≡◌, ℕ, zero, suc, Bool, true, false, ◌&&◌, not, List, [], ◌∷◌, ◌++◌, map, get_or, replicate, slice_get, Option, Some, None, if◌then◌else◌, refl, sym, ap, ap₂, ◌∙◌}
 use Rattle.std.specs.Prelude.{option_and_then, option_to_list}
-use Rattle.fsoe_base.specs.declared.command.End.{End}
 use Rattle.fsoe_base.specs.declared.command.End.TheVariants as side
 use Rattle.fsoe_base.specs.Image.{bit_of}
-use Rattle.failsafe_io.specs.Application.{Answer}
 use Rattle.failsafe_io.specs.declared.bit.Bit.{Bit}
-use Rattle.failsafe_io.specs.Bits.{bit_at}
 use Rattle.fb_net.proofs.Bits.{zero_bit}
-use Rattle.param_load.specs.declared.entry.Entry.{Entry}
-use Rattle.param_load.specs.declared.entry.Move.{Move}
 use Rattle.param_load.specs.declared.entry.Move.TheVariants as move
-use Rattle.param_load.specs.declared.master_settings.MasterSettings.{MasterSettings}
-use Rattle.param_load.specs.declared.slave_settings.SlaveSettings.{SlaveSettings}
-use Rattle.plant_conf.specs.declared.conf.LinkConf.{LinkConf}
 use Rattle.end_model.specs.Outputs.{out}
 use Rattle.end_model.specs.Readiness.{offer_after, offer, held_after, held}
-use Rattle.end_model.specs.Setup.{Setup, OfMaster, sends}
-use Rattle.exchange_model.specs.Ends.{same_end, of_end}
-use Rattle.exchange_model.specs.Fair.{received_len, outputs_due, offers_bit}
-use Rattle.exchange_model.specs.Items.{FailSafe, put_after, last_put, is_held, offered_put, next_offered}
-use Rattle.exchange_model.specs.World.{setup_of, deed_in, deeds, SameLengths}
-use Rattle.exchange_model.specs.Schedules.{IsWorld}
 use Rattle.exchange_model.proofs.Fairness.Shown.{due_is_out, receives_is}
 use Rattle.exchange_model.proofs.Worlds.Projection.{told, deeds_are_run}
-use Rattle.multi_master.specs.Calls.{Call, Deliver, Nonce, Meant, event_at, cycle_in, with_cycle, after, meant}
-use Rattle.multi_master.specs.Connection.{Connection, outputs_at, offer_at}
 use Rattle.multi_master.proofs.Neighbours.{event_keeps}
-use Rattle.plant_model.specs.Acts.{Beginning, Act, settings, call_of, calls, masters, cycle_of, journal}
-use Rattle.plant_model.specs.Bound.{inputs_after, offers_after}
-use Rattle.plant_model.specs.Pair.{pair, link_at}
 use Rattle.plant_model.proofs.Masters.{master_with, mastered}
 
 -- whether an end is held, and what it put last, by its entries and by its deeds

@@ -14,3 +14,4 @@ mod Since
 mod SpareApps
 mod StillTicks
 mod Traces
+pub mod Common

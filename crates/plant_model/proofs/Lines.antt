@@ -1,14 +1,8 @@
 -- Where the lines of the script and the pulls stand in a journal.
+use Rattle.plant_model.proofs.Common.{Act, App, Beginning, Event, Happen, IsPast, JournalStep, Parcel, PullFrom, PullsFit, Said, Start, changed_by, cycle_of, is_tick, is_tick_event, journal, line_step, line_steps, masters, offer_step, offers, said_in, steps_of, with_line}
 use Rattle.std.proofs.Common.{◌≡◌, ◌<◌, ℕ, suc, ◌-◌, List, [], ◌∷◌, ◌++◌, map, Option, Some, None, if◌then◌else◌, refl, sym, ap, ap₂, subst, ◌∙◌, arith}
 use Rattle.std.proofs.lemmas.List.{append-nil, map-append}
-use Rattle.black_channel.specs.declared.channel.Parcel.{Parcel}
-use Rattle.multi_master.specs.Calls.{changed_by}
-use Rattle.plant_model.specs.declared.journal.JournalStep.{JournalStep}
 use Rattle.plant_model.specs.declared.journal.JournalStep.TheVariants as step
-use Rattle.plant_model.specs.Acts.{Beginning, Said, Event, App, Act, Start, Happen, PullFrom, masters, cycle_of, offer_step, offers, steps_of, journal, line_step}
-use Rattle.plant_model.specs.JournalLaws.{PullsFit, line_steps}
-use Rattle.plant_model.specs.Pair.{is_tick, is_tick_event}
-use Rattle.plant_model.specs.Past.{IsPast, said_in, with_line}
 
 -- how many parcels may still come after these steps
 abbrev pub room_after : ℕ → List JournalStep → ℕ

@@ -1,27 +1,16 @@
 -- The masters of a plant did what their pairs in the journal say: connection by connection both have the same deeds.
+use Rattle.plant_model.proofs.Common.{Act, Answer, App, AppView, Beginning, Call, Connection, End, Entry, Happen, JournalStep, LinkConf, MastersAgree, Move, PullFrom, SaysEvent, Start, calls, changed_by, changed_from, connection, cycle_in, cycle_of, deeds, delivery_call, event_on, fresh, is_offer, journal, link_at, masters, meant, next_of, offer_step, own_events, own_part, pair, settings, with_cycle, with_event, with_offers, world_after}
 use Rattle.std.proofs.Common.{◌≡◌, ℕ, zero, suc, ◌+◌, ◌<◌, ◌==◌, List, [], ◌∷◌, ◌++◌, map, slice_get, Option, Some, None, IfSome, Bool, true, false, if◌then◌else◌, refl, sym, ap, ap₂, subst, ◌∙◌, append_assoc, arith}
 use Rattle.std.specs.Prelude.{IsSomeAnd, option_and_then, option_map, option_to_list}
 use Rattle.std.proofs.lemmas.Bool.{eq-eqb}
 use Rattle.std.proofs.lemmas.List.{append-nil}
-use Rattle.fsoe_base.specs.declared.command.End.{End}
 use Rattle.fsoe_base.specs.declared.command.End.TheVariants as side
-use Rattle.failsafe_io.specs.Application.{Answer}
-use Rattle.param_load.specs.declared.entry.Entry.{Entry}
-use Rattle.param_load.specs.declared.entry.Move.{Move}
 use Rattle.param_load.specs.declared.entry.Move.TheVariants as move
 use Rattle.schedule_file.specs.declared.event.Event.{Event}
 use Rattle.schedule_file.specs.declared.event.Event.TheVariants as at
-use Rattle.plant_conf.specs.declared.conf.LinkConf.{LinkConf}
-use Rattle.exchange_model.specs.World.{deeds, world_after}
-use Rattle.multi_master.specs.Connection.{Connection, fresh, with_event, is_offer, with_offers}
-use Rattle.multi_master.specs.Calls.{AppView, Call, connection, event_on, cycle_in, with_cycle, meant, changed_from, changed_by}
 use Rattle.multi_master.proofs.Ticking.{told_ticked}
 use Rattle.plant_model.specs.declared.event.PlantEvent.TheVariants as event
-use Rattle.plant_model.specs.declared.journal.JournalStep.{JournalStep}
 use Rattle.plant_model.specs.declared.journal.JournalStep.TheVariants as step
-use Rattle.plant_model.specs.Pair.{own_part, own_events, pair, link_at, next_of}
-use Rattle.plant_model.specs.Acts.{Beginning, Event as SaysEvent, App, Act, Start, Happen, PullFrom, delivery_call, calls, settings, masters, cycle_of, offer_step, journal}
-use Rattle.plant_model.specs.JournalLaws.{MastersAgree}
 use Rattle.plant_model.proofs.Growing.{IsOne, not_same, pair_more, pair_one, pair_other, pair_own, no_entry}
 
 -- a master that did what a pair with these entries says, and so those of these connections by a journal, the first of

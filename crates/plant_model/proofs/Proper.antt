@@ -1,10 +1,10 @@
 -- What a journal means for a connection is proper events, so that the law of the pair holds.
+use Rattle.plant_model.proofs.Common.{End, Fair, IsProperEvent, JournalStep, LinkConf, PlantEvent, SameLengths, before_other, if_same, link_at, own_events, own_part, pair, script_part}
 use Rattle.std.proofs.Common.{◌≡◌, ℕ, zero, suc, ◌≤◌, ◌==◌, Bool, true, false, List, [], ◌∷◌, length, map, All, refl, sym, ap, subst, ◌∙◌, arith}
 use Rattle.std.specs.Prelude.{Option, Some, None, IfSome, IsSomeAnd, IsTrue, option_map, if◌then◌else◌}
 use Rattle.std.proofs.lemmas.Bool.{eqb-true, le-leb}
 use Rattle.std.proofs.lemmas.List.Elements.{All-append, All-cons, All-head, All-tail}
 use Rattle.std.proofs.lemmas.Option.{slice_get-map}
-use Rattle.fsoe_base.specs.declared.command.End.{End}
 use Rattle.fsoe_base.specs.declared.command.End.TheVariants as side
 use Rattle.fsoe_base.specs.declared.lengths.Lengths.{Lengths}
 use Rattle.fsoe_base.specs.LengthsOf.{length_of}
@@ -13,20 +13,12 @@ use Rattle.param_load.specs.declared.profile.Profile.{Profile}
 use Rattle.param_load.specs.declared.profile.Profile.TheVariants as profile
 use Rattle.schedule_file.specs.declared.event.Event.{Event}
 use Rattle.schedule_file.specs.declared.event.Event.TheVariants as at
-use Rattle.plant_conf.specs.declared.conf.LinkConf.{LinkConf}
-use Rattle.exchange_model.specs.Fair.{Fair}
-use Rattle.exchange_model.specs.Other.{before_other}
-use Rattle.exchange_model.specs.World.{SameLengths}
-use Rattle.exchange_model.specs.Schedules.{IsProperEvent}
 use Rattle.plant_conf.specs.Kept.{HasSameLengths}
 use Rattle.exchange_model.proofs.Fairness.Headline.{fair_before}
-use Rattle.plant_model.specs.declared.event.PlantEvent.{PlantEvent}
 use Rattle.plant_model.specs.declared.event.PlantEvent.TheVariants as event
-use Rattle.plant_model.specs.declared.journal.JournalStep.{JournalStep}
 use Rattle.plant_model.specs.declared.journal.JournalStep.TheVariants as step
 use Rattle.plant_model.specs.FairPairs.{StepFits, PairsAreFair}
 use Rattle.plant_model.specs.Fits.{EventFits, lengths_in, lengths_at}
-use Rattle.plant_model.specs.Pair.{if_same, script_part, own_part, own_events, pair, link_at}
 
 abbrev Proper : LinkConf → Event → Type 0
 Proper link one = IsProperEvent link.master link.slave one

@@ -1,34 +1,17 @@
 -- Why a drive is off in time. The master of the e-stop has its bit as 0 from some tick on; each cycle from that tick's
 -- on answers the drive's bit as 0, so that its master offers it so; and its slave has it as 0 some ticks later. Acts
 -- and entries are listed newest first, steps oldest first.
+use Rattle.plant_model.proofs.Common.{Act, Answer, Beginning, BoundSpec, End, Entry, Event, Happen, HasLinks, IsWorld, JournalStep, LinkConf, NoOther, Reacts, SameLengths, StaysOff, Unset, WasOffered, bit_at, cycle_of, deeds, inputs_after, is_off, is_on, is_tick, journal, link_at, next_offered, of_end, offers, offers_after, offers_bit, older_clean, older_world, outputs_due, pair, peer, received_len, setup_of, slave_offers, steps_of, ticks, ticks_of}
 use Rattle.std.proofs.Common.{◌≡◌, ◌≤◌, ◌<◌, ◌⊎◌, inl, inr, ℕ, zero, suc, ◌+◌, ◌-◌, ◌*◌, Bool, true, false, not, List, [], ◌∷◌, ◌++◌, Option, Some, None, refl, sym, ap, ap₂, subst, ◌∙◌, append_assoc, arith}
 use Rattle.std.specs.Prelude.{IfSome, IsTrue, cond, is_some}
 use Rattle.std.specs.Option.{option_map_or}
 use Rattle.std.proofs.lemmas.Bool.{cases_lt}
 use Rattle.std.proofs.lemmas.List.{append-nil}
 use Rattle.std.proofs.lemmas.List.Sums.{sum_by-append}
-use Rattle.fsoe_base.specs.declared.command.End.{End}
 use Rattle.fsoe_base.specs.declared.command.End.TheVariants as side
 use Rattle.fsoe_base.specs.Image.{bit_of}
-use Rattle.failsafe_io.specs.Application.{Answer}
-use Rattle.failsafe_io.specs.Bits.{bit_at}
-use Rattle.param_load.specs.declared.entry.Entry.{Entry}
-use Rattle.plant_conf.specs.declared.conf.BoundSpec.{BoundSpec}
-use Rattle.plant_conf.specs.declared.conf.LinkConf.{LinkConf}
 use Rattle.end_model.specs.Outputs.{out}
-use Rattle.exchange_model.specs.Ends.{peer, of_end}
-use Rattle.exchange_model.specs.Fair.{received_len, outputs_due, offers_bit}
-use Rattle.exchange_model.specs.Items.{Unset, next_offered}
-use Rattle.exchange_model.specs.Offering.{ticks_of, WasOffered}
-use Rattle.exchange_model.specs.Other.{NoOther}
-use Rattle.exchange_model.specs.World.{setup_of, deeds, SameLengths}
-use Rattle.exchange_model.specs.Schedules.{IsWorld}
 use Rattle.exchange_model.proofs.Offering.Offered.{was_offered}
-use Rattle.exchange_model.proofs.Offering.Older.{older_world, older_clean}
-use Rattle.plant_model.specs.declared.journal.JournalStep.{JournalStep}
-use Rattle.plant_model.specs.Acts.{Beginning, Event, Act, Happen, cycle_of, offers, steps_of, journal}
-use Rattle.plant_model.specs.Bound.{slave_offers, is_off, inputs_after, offers_after, StaysOff, HasLinks, is_on, Reacts}
-use Rattle.plant_model.specs.Pair.{pair, link_at, is_tick, ticks}
 use Rattle.plant_model.proofs.Cycled.{cycles}
 use Rattle.plant_model.proofs.FairPlant.{AreWorlds}
 use Rattle.plant_model.proofs.KeptOff.{out_due, input_is, offered_zero, act_keeps}

@@ -1,29 +1,15 @@
 -- How the entries of a pair grow with the acts of a plant: the ticks that came, and what an end offered where it sent
 -- data. Acts and entries are listed newest first, steps oldest first.
+use Rattle.plant_model.proofs.Common.{Act, App, Beginning, End, Entry, Event, Happen, JournalStep, LinkConf, Move, Parcel, PlantEvent, PullFrom, Start, changed_by, cycle_of, deeds, is_tick, journal, line_step, masters, next_of, offer_step, offers, pair, same_end, setup_of, steps_of, ticked, ticks, ticks_joined, ticks_of}
 use Rattle.std.proofs.Common.{◌≡◌, ◌≤◌, ℕ, ◌+◌, ◌==◌, Bool, true, false, List, [], ◌∷◌, ◌++◌, map, Some, None, if◌then◌else◌, refl, sym, ap, subst, ◌∙◌, append_assoc, arith}
 use Rattle.std.proofs.lemmas.List.{append-nil}
 use Rattle.std.proofs.lemmas.List.Sums.{sum_by-append}
 use Rattle.std.specs.Prelude.{IsTrue, cond}
-use Rattle.fsoe_base.specs.declared.command.End.{End}
 use Rattle.fsoe_base.specs.declared.command.End.TheVariants as side
-use Rattle.black_channel.specs.declared.channel.Parcel.{Parcel}
-use Rattle.param_load.specs.declared.entry.Entry.{Entry}
-use Rattle.param_load.specs.declared.entry.Move.{Move}
 use Rattle.param_load.specs.declared.entry.Move.TheVariants as move
-use Rattle.plant_conf.specs.declared.conf.LinkConf.{LinkConf}
-use Rattle.end_model.specs.Deed.{ticked}
 use Rattle.end_model.specs.Phases.{is_data_frame}
-use Rattle.exchange_model.specs.Ends.{same_end}
-use Rattle.exchange_model.specs.Offering.{ticks_of}
-use Rattle.exchange_model.specs.World.{setup_of, deeds}
-use Rattle.exchange_model.proofs.Offering.Older.{ticks_joined}
-use Rattle.multi_master.specs.Calls.{changed_by}
-use Rattle.plant_model.specs.declared.event.PlantEvent.{PlantEvent}
 use Rattle.plant_model.specs.declared.event.PlantEvent.TheVariants as event
-use Rattle.plant_model.specs.declared.journal.JournalStep.{JournalStep}
 use Rattle.plant_model.specs.declared.journal.JournalStep.TheVariants as step
-use Rattle.plant_model.specs.Acts.{Beginning, Event, App, Act, Start, Happen, PullFrom, masters, cycle_of, line_step, offer_step, offers, steps_of, journal}
-use Rattle.plant_model.specs.Pair.{next_of, pair, is_tick, ticks}
 use Rattle.plant_model.proofs.Growing.{IsOne, pair_more, pair_one, no_entry}
 use Rattle.plant_model.proofs.Sends.{BringsNone, SentWhile, no_data, sent_append}
 

@@ -1,33 +1,16 @@
 -- Where the moments of a plant are still for a bound, it is quiet: no act of a tick but the line of the script changes
 -- what a slave offers, nor which application runs, and each cycle keeps off what the application guards. Acts are listed
 -- newest first, steps oldest first.
+use Rattle.plant_model.proofs.Common.{Act, AllSound, Answer, App, Beginning, BoundSpec, Deliver, End, Entry, Event, Happen, IsSound, JournalStep, LinkConf, Meant, Move, Offered, Parcel, PullFrom, Said, StaysOff, Unset, bit_at, calls, changed_by, cycle_in, cycle_of, delivery_call, is_guarded, is_off, is_still, is_tick, journal, line_step, link_at, masters, meant, next_of, next_offered, of_end, offer_at, offer_step, offers, offers_bit, outputs_at, pair, settings, with_cycle}
 use Rattle.std.proofs.Common.{◌≡◌, ℕ, ◌==◌, Bool, true, false, ◌&&◌, not, List, [], ◌∷◌, ◌++◌, map, Option, Some, None, if◌then◌else◌, refl, sym, ap, ap₂, ◌∙◌, append_assoc}
 use Rattle.std.specs.Prelude.{IfSome, option_to_list}
 use Rattle.std.specs.Option.{option_map_or}
 use Rattle.std.proofs.lemmas.List.{append-nil}
-use Rattle.fsoe_base.specs.declared.command.End.{End}
 use Rattle.fsoe_base.specs.declared.command.End.TheVariants as side
-use Rattle.failsafe_io.specs.Application.{Answer}
 use Rattle.failsafe_io.specs.declared.bit.Bit.{Bit}
-use Rattle.failsafe_io.specs.Bits.{bit_at}
-use Rattle.black_channel.specs.declared.channel.Parcel.{Parcel}
-use Rattle.param_load.specs.declared.entry.Entry.{Entry}
-use Rattle.param_load.specs.declared.entry.Move.{Move}
 use Rattle.param_load.specs.declared.entry.Move.TheVariants as move
-use Rattle.plant_conf.specs.declared.conf.BoundSpec.{BoundSpec}
-use Rattle.plant_conf.specs.declared.conf.LinkConf.{LinkConf}
-use Rattle.exchange_model.specs.Ends.{of_end}
-use Rattle.exchange_model.specs.Items.{Offered, Unset, next_offered}
-use Rattle.exchange_model.specs.Fair.{offers_bit}
-use Rattle.multi_master.specs.Calls.{Deliver, Meant, IsSound, cycle_in, with_cycle, meant, changed_by}
-use Rattle.multi_master.specs.Connection.{outputs_at, offer_at}
 use Rattle.plant_model.specs.declared.event.PlantEvent.TheVariants as event
-use Rattle.plant_model.specs.declared.journal.JournalStep.{JournalStep}
 use Rattle.plant_model.specs.declared.journal.JournalStep.TheVariants as step
-use Rattle.plant_model.specs.Acts.{Beginning, Said, Event, App, Act, Happen, PullFrom, settings, delivery_call, calls, masters, cycle_of, offer_step, offers, journal, line_step}
-use Rattle.plant_model.specs.Bound.{is_off, is_guarded, is_still, StaysOff}
-use Rattle.plant_model.specs.Pair.{next_of, pair, link_at, is_tick}
-use Rattle.plant_model.specs.Promises.{AllSound}
 use Rattle.plant_model.proofs.Growing.{IsOne, pair_more, pair_one}
 
 -- a cycle keeps off what is guarded

@@ -1,13 +1,11 @@
 -- What the uses of a channel make of what it tells.
+use Rattle.plant_model.proofs.Common.{Begin, EmptiesRose, GivesHeld, GrewBy, Parcel, Pull, Push, RoseBy, ToldHolds, ToldLists, Trace, Use, counted, empty_pulls, gifts, held_after, pushes}
 use Rattle.std.proofs.Common.{◌≡◌, ℕ, ◌≤◌, List, [], ◌∷◌, ◌++◌, refl, sym, ap, subst, ◌∙◌, arith}
 use Rattle.std.specs.Prelude.{Option, Some, None, IfSome, option_map, option_to_list}
 use Rattle.std.proofs.lemmas.List.{append-nil, append_assoc}
 use Rattle.fsoe_io.specs.Faults.{Rose}
 use Rattle.black_channel.specs.Holds.{Holds, begun, pushed, pulled}
 use Rattle.black_channel.specs.Told.{Told, GrowsByGift}
-use Rattle.black_channel.specs.declared.channel.Parcel.{Parcel}
-use Rattle.plant_model.specs.Uses.{Use, Begin, Push, Pull, Trace}
-use Rattle.plant_model.specs.Gifts.{GrewBy, pushes, gifts, counted, empty_pulls, held_after, GivesHeld, ToldLists, ToldHolds, RoseBy, EmptiesRose}
 
 no_more : (told : Option (List Parcel)) → GrewBy [] told told
 no_more None = tt

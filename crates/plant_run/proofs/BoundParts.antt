@@ -1,18 +1,11 @@
 -- The lines of the bounds that wait.
+use Rattle.plant_run.proofs.Common.{Act, Beginning, BoundSpec, LinkConf, PlantStands, PlantView, ReactionView, ShowsBound, ShowsWorst, age_text, bit_text, bounds_waiting, broken_of, broken_text, heard_of, limit_of, line_by, lines_by, reactions_after, view_of}
 use Rattle.std.proofs.Common.{◌≡◌, ℕ, suc, List, ◌++◌, slice_get, Option, Some, option_map, sym, ap, ap₂, ◌∙◌}
 use Rattle.std.specs.Prelude.{codes, decimal}
 use Rattle.std.proofs.lemmas.Option.{slice_get-map}
 use Rattle.fsoe_base.specs.declared.command.End.TheVariants as side
 use Rattle.plant_conf.specs.ConfView.{ConfView}
-use Rattle.plant_conf.specs.declared.conf.BoundSpec.{BoundSpec}
-use Rattle.plant_conf.specs.declared.conf.LinkConf.{LinkConf}
-use Rattle.reaction_bound.specs.Kept.{ReactionView, view_of}
-use Rattle.reaction_bound.specs.Reaction.{broken_of}
 use Rattle.reaction_bound.specs.Reaction as reaction
-use Rattle.plant_model.specs.Acts.{Beginning, Act}
-use Rattle.plant_model.specs.BoundLines.{age_text, bit_text, broken_text, limit_of, line_by, heard_of}
-use Rattle.plant_core.specs.Standing.{PlantStands, PlantView, ShowsWorst}
-use Rattle.plant_run.specs.Watching.{ShowsBound, bounds_waiting, lines_by, reactions_after}
 use Rattle.plant_run.proofs.LinkLines.{drop_at, some_is}
 
 -- the line of a bound with these numbers

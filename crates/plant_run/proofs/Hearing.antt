@@ -1,30 +1,13 @@
 -- A plant that runs can tell the reactions of its bounds of a line more, and tells the ages of their connections.
+use Rattle.plant_run.proofs.Common.{Act, AppView, AreAged, Beginning, BoundSpec, CanHear, EntryOf, GivenStands, Happen, HasRoom, HearsLine, IsAged, KindOf, LinkConf, PlantLine, PlantStands, PlantView, PullFrom, ReactionView, ScriptHeading, Start, Terms, Told, fixed_in, heard_before, heard_of, is_driven, is_named, is_tick, is_ticking, limit_of, line_step, links_made, reactions_after, reactions_by, said_in, view_of}
 use Rattle.std.proofs.Common.{◌≡◌, ◌≤◌, ◌<◌, ◌+◌, ◌^◌, ◌==◌, ◌||◌, ℕ, zero, suc, Bool, true, false, List, [], ◌∷◌, All, length, slice_get, Option, Some, None, if◌then◌else◌, refl, sym, ap, subst, ◌∙◌, arith}
 use Rattle.std.specs.Prelude.{IfSome, IsSome, option_map}
 use Rattle.std.proofs.lemmas.Bool.{eq-eqb}
 use Rattle.std.proofs.lemmas.List.{length-map, length_push}
 use Rattle.std.proofs.lemmas.List.Elements.{All-cons, All-nil}
 use Rattle.std.proofs.lemmas.Option.{slice_get-map}
-use Rattle.black_channel.specs.Told.{Told}
-use Rattle.plant_conf.specs.declared.conf.BoundSpec.{BoundSpec}
-use Rattle.plant_conf.specs.declared.conf.LinkConf.{LinkConf}
-use Rattle.fb_net.specs.declared.kind_of.EntryOf.{EntryOf}
-use Rattle.fb_net.specs.declared.kind_of.KindOf.{KindOf}
-use Rattle.multi_master.specs.Calls.{AppView}
-use Rattle.reaction_bound.specs.Kept.{ReactionView, view_of}
 use Rattle.reaction_bound.specs.Reaction as reaction
-use Rattle.plant_model.specs.Acts.{Act, Beginning, Start, Happen, PullFrom, line_step}
-use Rattle.plant_model.specs.BoundLines.{is_driven, is_ticking, limit_of, heard_before, heard_of}
-use Rattle.plant_model.specs.Past.{said_in}
-use Rattle.plant_run.specs.Given.{GivenStands}
 use Rattle.plant_core.specs.Link.{Fixed, LinkView, fixed_of, new_link}
-use Rattle.plant_core.specs.Making.{is_named, links_made}
-use Rattle.plant_model.specs.Pair.{is_tick}
-use Rattle.plant_run.specs.Reporting.{Terms}
-use Rattle.plant_run.specs.Script.{ScriptHeading}
-use Rattle.plant_core.specs.Standing.{PlantStands, PlantView, fixed_in, IsAged}
-use Rattle.plant_run.specs.Watching.{AreAged, CanHear, HasRoom, HearsLine, reactions_after, reactions_by}
-use Rattle.plant_model.specs.declared.event.PlantLine.{PlantLine}
 
 if_ticks : (tick on : Bool) (before : List reaction.Heard) → reaction.ticks (if tick then reaction.Tick on ∷ before else before) ≤ suc (reaction.ticks before)
 if_ticks true on before = omega arith

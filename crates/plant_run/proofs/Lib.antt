@@ -9,3 +9,4 @@ mod Scripted
 mod TakenApps
 mod TicksText
 mod Watched
+pub mod Common

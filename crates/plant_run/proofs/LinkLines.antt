@@ -1,4 +1,5 @@
 -- The lines of the connections that wait.
+use Rattle.plant_run.proofs.Common.{Act, AppView, Beginning, EntryOf, GivenStands, JournalStep, KindOf, LinkConf, PlantLine, PlantStands, PlantView, ReactionView, ScriptHeading, ShowsPair, Terms, Told, link_at, link_line, link_lines, links_made, outputs_at, pair, state_at, waiting}
 use Rattle.std.proofs.Common.{◌≡◌, ◌<◌, ◌+◌, ℕ, zero, suc, List, [], ◌∷◌, ◌++◌, drop, length, slice_get, refl, sym, ap, ap₂, ◌∙◌, arith}
 use Rattle.std.specs.Prelude.{IsSomeAnd, Option, Some, None, codes, decimal}
 use Rattle.hex.specs.Hex.{encode_lower}
@@ -6,22 +7,6 @@ use Rattle.fsoe_base.specs.Command.{state_name}
 use Rattle.fsoe_base.specs.declared.command.End.TheVariants as side
 use Rattle.fsoe_base.specs.declared.command.State.{State}
 use Rattle.param_load.specs.declared.entry.Entry.{Entry}
-use Rattle.plant_conf.specs.declared.conf.LinkConf.{LinkConf}
-use Rattle.plant_model.specs.declared.journal.JournalStep.{JournalStep}
-use Rattle.plant_model.specs.Acts.{Beginning, Act}
-use Rattle.black_channel.specs.Told.{Told}
-use Rattle.fb_net.specs.declared.kind_of.EntryOf.{EntryOf}
-use Rattle.fb_net.specs.declared.kind_of.KindOf.{KindOf}
-use Rattle.multi_master.specs.Calls.{AppView}
-use Rattle.reaction_bound.specs.Kept.{ReactionView}
-use Rattle.plant_model.specs.declared.event.PlantLine.{PlantLine}
-use Rattle.plant_run.specs.Script.{ScriptHeading}
-use Rattle.plant_run.specs.Given.{GivenStands, waiting}
-use Rattle.plant_model.specs.Pair.{link_at, outputs_at, pair, state_at}
-use Rattle.plant_model.specs.PlantReport.{link_line, link_lines}
-use Rattle.plant_run.specs.Reporting.{Terms}
-use Rattle.plant_core.specs.Standing.{PlantStands, PlantView, ShowsPair}
-use Rattle.plant_core.specs.Making.{links_made}
 use Rattle.plant_core.proofs.Acting.{same_count}
 use Rattle.plant_core.proofs.Made.{made_count}
 use Rattle.std.proofs.lemmas.Option.{slice_get_past}

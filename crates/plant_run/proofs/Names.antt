@@ -1,4 +1,5 @@
 -- A field of a line is no longer than the line.
+use Rattle.plant_run.proofs.Common.{FieldsFit}
 use Rattle.std.proofs.Common.{◌≡◌, ℕ, suc, ◌≤◌, Bool, true, false, List, [], ◌∷◌, length, All, refl, subst, arith}
 use Rattle.std.specs.Prelude.{Ok}
 use Rattle.std.specs.List.{onto_first}
@@ -7,7 +8,6 @@ use Rattle.std.proofs.lemmas.List.Splits.{slice_split-cons_yes, slice_split-cons
 use Rattle.schedule_file.specs.Field.{is_space, fields_of}
 use Rattle.schedule_file.specs.Fields.{one_field}
 use Rattle.schedule_file.specs.declared.line_buf.TheConstants.{MAX_LINE}
-use Rattle.plant_run.specs.Running.{FieldsFit}
 
 -- each of these has at most n bytes
 abbrev IsShort : ℕ → List ℕ → Type 0

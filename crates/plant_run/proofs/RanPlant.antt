@@ -1,35 +1,19 @@
 -- What a run over a script leaves is what a plant did.
+use Rattle.plant_run.proofs.Common.{Act, AppView, Ended, EntryOf, GivenStands, KindOf, Lengths, LinkConf, PlantLine, PlantView, ReactionView, ScriptHeading, Terms, Told, journal, link_at, plant_reporting, reactions_after, said, said_in}
 use Rattle.std.proofs.Common.{◌≡◌, ℕ, List, [], Option, Some, None, refl, sym, ap, subst, ◌∙◌, inl, inr}
 use Rattle.std.specs.Prelude.{IfSome}
 use Rattle.std.proofs.lemmas.List.{append-nil}
 use Rattle.std.specs.List.{IsDistinct}
-use Rattle.fsoe_base.specs.declared.lengths.Lengths.{Lengths}
-use Rattle.fsoe_io.specs.declared.status.Ended.{Ended}
 use Rattle.fsoe_io.specs.declared.status.Status.{Status}
 use Rattle.fsoe_io.specs.declared.status.Status.TheVariants as status
-use Rattle.black_channel.specs.Told.{Told}
 use Rattle.exchange_model.specs.Fair.{Fair}
-use Rattle.plant_conf.specs.declared.conf.LinkConf.{LinkConf}
-use Rattle.reaction_bound.specs.Kept.{ReactionView}
 use Rattle.file_run.specs.Left.{Done, LeavesAs, MayFailIn}
 use Rattle.file_run.specs.Running.{Leaves}
 use Rattle.file_run.specs.Outside.{Outside}
 use Rattle.file_run.specs.Ran.{RanOver}
 use Rattle.file_run.specs.Reporting.{Reporting}
-use Rattle.plant_model.specs.Acts.{Act, journal}
 use Rattle.plant_model.specs.FairPairs.{PairsAreFair}
-use Rattle.plant_model.specs.Pair.{link_at}
 use Rattle.plant_run.specs.Ran.{IsReportOf, RanPlant}
-use Rattle.plant_run.specs.Reporting.{Terms, plant_reporting}
-use Rattle.plant_run.specs.Given.{GivenStands}
-use Rattle.fb_net.specs.declared.kind_of.EntryOf.{EntryOf}
-use Rattle.fb_net.specs.declared.kind_of.KindOf.{KindOf}
-use Rattle.multi_master.specs.Calls.{AppView}
-use Rattle.plant_run.specs.Script.{ScriptHeading}
-use Rattle.plant_core.specs.Standing.{PlantView}
-use Rattle.plant_model.specs.Past.{said, said_in}
-use Rattle.plant_run.specs.Watching.{reactions_after}
-use Rattle.plant_model.specs.declared.event.PlantLine.{PlantLine}
 use Rattle.plant_core.proofs.Worlds.{broken_by_other, plants_are_fair, reacts, sound}
 
 -- a relation of a header, its events, their text and an end

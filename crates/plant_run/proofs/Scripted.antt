@@ -1,29 +1,13 @@
 -- What a plant reports of its script, as far as it ran.
+use Rattle.plant_run.proofs.Common.{Act, Beginning, Ended, IsPast, JournalStep, LinkConf, Named, Parcel, PlantLine, PlantReports, PlantView, RunCloses, RunStands, Said, Script, ScriptHeading, Start, Terms, bound_lines, is_tick, journal, journal_after, last_lines, lengths_in, line_said, line_step, plant_reporting, refused_line, report_end, report_text, run_stop, said, said_in, script_format, take_app, tick_lines, ticks_text, with_line}
 use Rattle.std.proofs.Common.{◌≡◌, ℕ, ◌+◌, Bool, true, false, List, [], ◌∷◌, ◌++◌, length, map, if◌then◌else◌, refl, sym, ap, subst, ◌∙◌, append_assoc, arith, eq-eqb}
 use Rattle.std.specs.Prelude.{Option, None}
 use Rattle.std.proofs.lemmas.Bool.{ne_eqb}
 use Rattle.std.proofs.lemmas.List.{append-nil, length-append}
-use Rattle.fsoe_io.specs.declared.status.Ended.{Ended}
 use Rattle.schedule_file.specs.Input.{NoApp, Stop, AtEnd, Refused, input_read}
-use Rattle.file_run.specs.Report.{refused_line}
 use Rattle.file_run.specs.Reporting.{IsPrefix, ReportsSoFar, input_stopped}
 use Rattle.file_run.specs.Machine.{EndsReport, EndsUnmet}
-use Rattle.plant_conf.specs.declared.conf.LinkConf.{LinkConf}
-use Rattle.black_channel.specs.declared.channel.Parcel.{Parcel}
-use Rattle.plant_model.specs.declared.event.PlantLine.{PlantLine}
 use Rattle.plant_model.specs.declared.event.PlantLine.TheVariants as line
-use Rattle.plant_model.specs.declared.journal.JournalStep.{JournalStep}
-use Rattle.plant_model.specs.Acts.{Beginning, Act, Said, Start, journal, line_step}
-use Rattle.plant_model.specs.BoundLines.{bound_lines}
-use Rattle.plant_model.specs.Fits.{lengths_in}
-use Rattle.plant_model.specs.Pair.{is_tick}
-use Rattle.plant_model.specs.PlantReport.{last_lines, report_end, report_text, tick_lines, ticks_text}
-use Rattle.plant_run.specs.Reporting.{PlantReports, Terms, journal_after, plant_reporting, run_stop}
-use Rattle.plant_run.specs.Running.{RunCloses, RunStands}
-use Rattle.plant_run.specs.Script.{Script, ScriptHeading, script_format}
-use Rattle.plant_model.specs.Past.{IsPast, Named, said, said_in, take_app, with_line}
-use Rattle.plant_model.proofs.Lines.{line_said}
-use Rattle.plant_core.specs.Standing.{PlantView}
 use Rattle.plant_run.proofs.TicksText.{after_line, text_after}
 
 -- lines at which nothing was pulled

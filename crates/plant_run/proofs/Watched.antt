@@ -1,22 +1,13 @@
 -- The reactions of a plant's bounds are told of each line of its script.
+use Rattle.plant_run.proofs.Common.{Act, Beginning, BoundSpec, Hears, HearsLine, HearsOne, JournalStep, LinkConf, PlantStands, PlantView, Quiet, ReactionView, ShowsOn, TellsStill, Tick, heard, is_driven, limit_by, limit_of, link_at, reactions_by, view_of}
 use Rattle.std.proofs.Common.{◌≡◌, ◌≤◌, ◌+◌, ◌*◌, ℕ, Bool, true, false, List, ◌∷◌, take, map, length, slice_get, slice_set, Option, Some, None, option_map, refl, sym, ap, ap₂, subst, ◌∙◌, arith}
 use Rattle.std.specs.Option.{option_map_or}
 use Rattle.std.proofs.Math.ListN.{length-set}
 use Rattle.std.proofs.lemmas.List.{take_all}
 use Rattle.std.proofs.lemmas.Option.{slice_get_within, slice_get-map}
-use Rattle.plant_conf.specs.declared.conf.BoundSpec.{BoundSpec}
-use Rattle.plant_conf.specs.declared.conf.LinkConf.{LinkConf}
-use Rattle.reaction_bound.specs.Kept.{Hears, ReactionView, view_of}
-use Rattle.reaction_bound.specs.Reaction.{Quiet, Tick}
 use Rattle.reaction_bound.specs.Reaction as reaction
 use Rattle.multi_master.proofs.Looping.{Untouched, next_taken, untouched_more, written_more}
-use Rattle.plant_model.specs.declared.journal.JournalStep.{JournalStep}
-use Rattle.plant_model.specs.Acts.{Act, Beginning}
-use Rattle.plant_core.specs.Standing.{TellsStill, PlantStands, PlantView, ShowsOn}
 use Rattle.plant_model.specs.Bound.{is_on}
-use Rattle.plant_model.specs.BoundLines.{heard, is_driven, limit_by, limit_of}
-use Rattle.plant_model.specs.Pair.{link_at}
-use Rattle.plant_run.specs.Watching.{HearsLine, HearsOne, reactions_by}
 
 limit_cases : (o p : Option LinkConf) (a b : Option ℕ) → a ≡ option_map (λ (l : LinkConf). l.master.watchdog) o → b ≡ option_map (λ (l : LinkConf). l.master.watchdog) p → (m n : ℕ) → a ≡ Some m → b ≡ Some n → 2 * m + 2 * n ≡ limit_by o p
 limit_cases None p a b e f m n g h = absurd (cc (e, g))

@@ -1,8 +1,7 @@
 -- Slots of a plan without a fault lie inside the output image, and share no byte of it.
+use Rattle.process_image.proofs.Common.{Place, Plan, first_fault, first_outside, first_pair, first_with, lie_inside, outside_or, overlap, pair_or, share, spans_of}
 use Rattle.std.proofs.Common.{◌≡◌, ◌≤◌, ◌⊎◌, ℕ, ◌+◌, ◌&&◌, ◌||◌, List, [], ◌∷◌, length, Option, Some, None, Bool, true, false, nat_lt, nat_le, if◌then◌else◌, refl, arith}
 use Rattle.std.proofs.lemmas.Bool.Decides.{nat_tests}
-use Rattle.process_image.specs.Fault.{first_outside, first_with, pair_or, first_pair, outside_or, first_fault}
-use Rattle.process_image.specs.Places.{Place, Plan, lie_inside, overlap, share, spans_of}
 use Rattle.process_image.specs.declared.fault.SlotFault.{SlotFault}
 use Rattle.process_image.specs.declared.fault.SlotFault.TheVariants as fault
 use Rattle.process_image.proofs.Giving.{len_at, AwayFrom, AreApart}

@@ -1,22 +1,11 @@
 -- Images that were just made.
+use Rattle.process_image.proofs.Common.{AreNumbered, ImagesView, IsNew, IsNewSeat, IsSeatOf, IsSound, IsSoundSeat, Place, Seat, Setup, Slot, StandsFor, bytes_at, first_fault, frame_len, frame_of, is_length, places_from, plan_of, receives, sends, setup_of, with_bytes, with_frames}
 use Rattle.std.proofs.Common.{◌≡◌, ◌≤◌, ℕ, zero, suc, ◌+◌, ◌-◌, List, [], ◌∷◌, ◌++◌, map, length, take, drop, replicate, All, None, IsTrue, refl, sym, ap, ap₂, ◌∙◌, arith, inl, inr}
 use Rattle.std.specs.List.{AllZip}
 use Rattle.std.proofs.lemmas.Bool.{cases_eq}
 use Rattle.std.proofs.lemmas.Bool.Decides.{nat_tests}
 use Rattle.std.proofs.lemmas.List.{length-replicate}
 use Rattle.std.proofs.lemmas.List.Elements.{All-head, All-tail, All-nil, All-cons}
-use Rattle.fsoe_base.specs.Lengths.{is_length, frame_len}
-use Rattle.end_model.specs.Setup.{Setup, sends, receives}
-use Rattle.end_core.specs.Core.{setup_of}
-use Rattle.end_core.specs.Standing.{IsNew}
-use Rattle.process_image.specs.Calls.{frame_of, with_frames}
-use Rattle.process_image.specs.Fault.{first_fault, places_from, plan_of}
-use Rattle.process_image.specs.Places.{AreNumbered, Place}
-use Rattle.process_image.specs.Image.{bytes_at, with_bytes}
-use Rattle.process_image.specs.Sound.{IsSoundSeat, IsSound, IsNewSeat}
-use Rattle.process_image.specs.Standing.{ImagesView, IsSeatOf, StandsFor}
-use Rattle.process_image.specs.declared.seat.Seat.{Seat}
-use Rattle.process_image.specs.declared.slot.Slot.{Slot}
 use Rattle.process_image.proofs.Apart.{AreInside, plan_inside, few_places}
 use Rattle.process_image.proofs.Faults.{places_count}
 use Rattle.process_image.proofs.Giving.{len_at}

@@ -1,9 +1,7 @@
 -- How many slots there are, and where each stands.
+use Rattle.process_image.proofs.Common.{HasSlot, ImagesView, Seat, setup_of, slots_in}
 use Rattle.std.proofs.Common.{◌≡◌, ◌≤◌, ◌-◌, ℕ, suc, List, [], ◌∷◌, map, length, get_or, slice_get, Some, refl, sym, ap, subst, ◌∙◌, arith}
 use Rattle.std.proofs.lemmas.Option.{slice_get_read}
-use Rattle.end_core.specs.Core.{setup_of}
-use Rattle.process_image.specs.Standing.{HasSlot, ImagesView, slots_in}
-use Rattle.process_image.specs.declared.seat.Seat.{Seat}
 
 count-setups : (seats : List Seat) → length (map (λ seat. setup_of seat.core) seats) ≡ length seats
 count-setups [] = refl

@@ -1,17 +1,11 @@
 -- The frames that are delivered to a slot, and samples that change nothing.
+use Rattle.process_image.proofs.Common.{ImageEvent, Move, Place, Plan, and_move, contents, delivery, frame_of, if_named, input, last_frame, move_in, moves, next_deed, output, run, sampled, told, with_bytes, with_frames}
 use Rattle.std.proofs.Common.{◌≡◌, ℕ, List, [], ◌∷◌, ◌++◌, replicate, Option, Some, None, Bool, true, false, nat_eq, if◌then◌else◌, refl, sym, ap, ap₂, ◌∙◌}
 use Rattle.std.specs.Prelude.{option_map}
 use Rattle.std.specs.Cmp.Lexicographic.{pointwise}
 use Rattle.std.proofs.lemmas.Cmp.{nat_list_eq_equiv}
-use Rattle.param_load.specs.declared.entry.Move.{Move}
 use Rattle.param_load.specs.declared.entry.Move.TheVariants as move
-use Rattle.end_model.specs.Step.{run}
-use Rattle.process_image.specs.Calls.{contents, delivery, if_named, move_in, and_move, moves, next_deed, last_frame, frame_of, with_frames, output}
-use Rattle.process_image.specs.Image.{with_bytes, input, sampled}
 use Rattle.process_image.specs.Own.{Unwritten, at_samples, distinct_after, frames_in}
-use Rattle.process_image.specs.Places.{Place, Plan}
-use Rattle.process_image.specs.Standing.{told}
-use Rattle.process_image.specs.declared.event.ImageEvent.{ImageEvent}
 use Rattle.process_image.specs.declared.event.ImageEvent.TheVariants as event
 
 -- where nothing was written since, what was sampled last is the input image

@@ -1,19 +1,10 @@
 -- The text of each kind of event.
+use Rattle.process_image.proofs.Common.{AnswersReset, AreNumbered, Did, DoesEvent, Follows, HasSlot, ImageEvent, ImagesView, Move, Place, Plan, ShowsAt, StandsFor, TellsEvent, deeds, entry_line, event_lines, if_named, move_in, move_line, next_deed, nothing, told_line}
 use Rattle.std.proofs.Common.{◌≡◌, ◌≤◌, ◌<◌, ◌+◌, ◌==◌, ℕ, zero, suc, List, [], ◌∷◌, ◌++◌, Bool, true, false, length, slice_get, Option, Some, None, refl, sym, ap, subst, ◌∙◌, arith}
 use Rattle.std.specs.Prelude.{option_map, if◌then◌else◌}
 use Rattle.std.proofs.lemmas.Bool.Decides.{nat_tests}
 use Rattle.std.proofs.lemmas.List.{append-nil}
-use Rattle.fsoe_base.specs.Did.{nothing}
-use Rattle.fsoe_base.specs.declared.did.Did.{Did}
-use Rattle.param_load.specs.declared.entry.Move.{Move}
 use Rattle.param_load.specs.declared.entry.Move.TheVariants as move
-use Rattle.process_image.specs.Calls.{if_named, move_in, deeds, next_deed}
-use Rattle.process_image.specs.Places.{AreNumbered, Place, Plan}
-use Rattle.process_image.specs.Report.{entry_line, move_line, event_lines}
-use Rattle.process_image.specs.Standing.{ImagesView, StandsFor, Follows, HasSlot, ShowsAt, AnswersReset}
-use Rattle.process_image.specs.SlotLines.{told_line}
-use Rattle.process_image.specs.Telling.{DoesEvent, TellsEvent}
-use Rattle.process_image.specs.declared.event.ImageEvent.{ImageEvent}
 use Rattle.process_image.specs.declared.event.ImageEvent.TheVariants as event
 use Rattle.process_image.proofs.ToldLines.{number_at, shown_entry}
 

@@ -1,10 +1,8 @@
 -- The first fault of slots, test by test.
+use Rattle.process_image.proofs.Common.{Place, Slot, first_fault, first_outside, first_pair, outside_or, places_from, plan_of}
 use Rattle.std.proofs.Common.{◌≡◌, ◌≤◌, ◌<◌, ℕ, suc, List, [], ◌∷◌, length, Option, Some, true, false, nat_lt, if◌then◌else◌, refl, sym, ap, ◌∙◌, arith}
 use Rattle.std.proofs.lemmas.Bool.Decides.{nat_tests}
-use Rattle.process_image.specs.Fault.{first_outside, first_pair, outside_or, first_fault, places_from, plan_of}
-use Rattle.process_image.specs.Places.{Place}
 use Rattle.process_image.specs.declared.fault.SlotFault.TheVariants as fault
-use Rattle.process_image.specs.declared.slot.Slot.{Slot}
 
 pub places_count : (n : ℕ) (slots : List Slot) → length (places_from n slots) ≡ length slots
 places_count n [] = refl

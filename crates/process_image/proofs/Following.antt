@@ -1,27 +1,11 @@
 -- What stood for some calls stands for one more.
+use Rattle.process_image.proofs.Common.{Core, Deed, ImageEvent, ImagesView, IsAfter, IsRun, IsSeatOf, IsSeatStep, Makes, Move, OfMaster, OfSlave, Place, Plan, Seat, SeatStep, Setup, StandsFor, after_steps, and_move, contents, deeds, frame_len, frame_of, input, is_empty, last_frame, move_in, moves, run, sampled, sends, setup_is, setup_of, step}
 use Rattle.std.proofs.Common.{◌≡◌, ℕ, ◌==◌, List, [], ◌∷◌, map, length, replicate, Option, Some, None, Bool, true, false, if◌then◌else◌, refl, sym, ap, subst, ◌∙◌, arith}
 use Rattle.std.specs.List.{AllZip}
 use Rattle.std.proofs.lemmas.Bool.Decides.{nat_tests}
 use Rattle.std.proofs.lemmas.List.{length-replicate}
-use Rattle.fsoe_base.specs.Lengths.{frame_len}
-use Rattle.param_load.specs.declared.entry.Move.{Move}
-use Rattle.end_model.specs.Deed.{Deed, is_empty}
-use Rattle.end_model.specs.Setup.{Setup, OfMaster, OfSlave, sends}
-use Rattle.end_model.specs.Step.{step, run}
-use Rattle.end_model.specs.Runs.{IsRun}
 use Rattle.end_model.proofs.Runs.{run_append}
-use Rattle.end_core.proofs.Either.{setup_is}
-use Rattle.end_core.specs.Core.{setup_of}
-use Rattle.end_core.specs.Standing.{IsAfter}
-use Rattle.end_core.specs.declared.one_end.Core.{Core}
 use Rattle.end_core.specs.declared.one_end.Core.TheVariants as core
-use Rattle.process_image.specs.Calls.{move_in, and_move, moves, deeds, contents, last_frame, frame_of}
-use Rattle.process_image.specs.Image.{input, sampled}
-use Rattle.process_image.specs.Places.{Place, Plan}
-use Rattle.process_image.specs.Standing.{ImagesView, IsSeatOf, StandsFor}
-use Rattle.process_image.specs.Steps.{SeatStep, Makes, IsSeatStep, after_steps}
-use Rattle.process_image.specs.declared.event.ImageEvent.{ImageEvent}
-use Rattle.process_image.specs.declared.seat.Seat.{Seat}
 use Rattle.process_image.proofs.Apart.{plan_apart}
 use Rattle.process_image.proofs.Giving.{Gives, len_at, steps_give}
 use Rattle.process_image.proofs.SentLength.{next_long}

@@ -1,10 +1,7 @@
 -- The output image while slots send, one after another.
+use Rattle.process_image.proofs.Common.{Place, SeatStep, after_steps, spans_of, with_bytes, with_frames, with_sent}
 use Rattle.std.proofs.Common.{◌≡◌, ℕ, ◌+◌, ◌≤◌, ◌⊎◌, ◌==◌, List, [], ◌∷◌, length, Bool, true, false, if◌then◌else◌, refl, sym, ap, ◌∙◌, arith, inl, inr}
 use Rattle.std.specs.List.{AllZip}
-use Rattle.process_image.specs.Calls.{with_frames}
-use Rattle.process_image.specs.Image.{with_bytes}
-use Rattle.process_image.specs.Places.{Place, spans_of}
-use Rattle.process_image.specs.Steps.{SeatStep, with_sent, after_steps}
 use Rattle.process_image.proofs.WithBytes.{again, in_front, behind, same_size}
 
 -- the bytes of a frame that the end of a slot sends

@@ -1,9 +1,7 @@
 -- A `slot` line leaves fewer lines of a header to come.
+use Rattle.process_image.proofs.Common.{ImageHeading, SlotHeader, Stage, slot_begun, slots_begun, slots_of}
 use Rattle.std.proofs.Common.{◌≡◌, ◌≤◌, ◌<◌, ◌+◌, ◌-◌, ◌*◌, ℕ, List, [], ◌∷◌, ◌++◌, length, length-append, refl, arith}
-use Rattle.process_image.specs.Header.{ImageHeading, slot_begun, slots_begun, slots_of}
 use Rattle.process_image.specs.LinesLeft.{own_left, image_lines_left}
-use Rattle.process_image.specs.declared.header.SlotHeader.{SlotHeader}
-use Rattle.process_image.specs.declared.header.Stage.{Stage}
 use Rattle.process_image.specs.declared.header.Stage.TheVariants as stage
 
 one-slot : (n m left : ℕ) → m ≡ n + 1 → n + 1 ≤ 64 → 1031 + 1032 * (64 - m) < left + 1032 * (64 - n)

@@ -1,15 +1,8 @@
 -- What stays when all slots do their part.
+use Rattle.process_image.proofs.Common.{Did, DoesEach, ImagesView, IsSampleStep, IsSeatStep, IsSound, IsSoundSeat, IsTickStep, MaySend, Seat, SeatStep, Setup, did_in, frame_len, receives, sends, setup_of, told_by}
 use Rattle.std.proofs.Common.{◌≡◌, ◌≤◌, ℕ, suc, List, [], ◌∷◌, map, length, take, drop, ◌++◌, Option, All, refl, sym, ap, ap₂, subst, ◌∙◌, arith}
 use Rattle.std.proofs.lemmas.Grind.{common_steps}
 use Rattle.std.proofs.lemmas.List.Elements.{All-head, All-tail, All-nil, All-cons}
-use Rattle.fsoe_base.specs.Lengths.{frame_len}
-use Rattle.fsoe_base.specs.declared.did.Did.{Did}
-use Rattle.end_model.specs.Setup.{Setup, sends, receives}
-use Rattle.end_core.specs.Core.{setup_of}
-use Rattle.process_image.specs.Sound.{IsSoundSeat, MaySend, IsSound}
-use Rattle.process_image.specs.Standing.{ImagesView}
-use Rattle.process_image.specs.Steps.{SeatStep, IsSeatStep, DoesEach, IsSampleStep, IsTickStep, told_by, did_in}
-use Rattle.process_image.specs.declared.seat.Seat.{Seat}
 
 -- a step leaves a slot sound
 step-sound : (si so : ℕ) (x : SeatStep) → IsSoundSeat si so x.old → IsSeatStep x → IsSoundSeat si so x.new

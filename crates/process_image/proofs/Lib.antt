@@ -26,3 +26,4 @@ pub mod WithBytes
 pub mod Worked
 pub mod Written
 pub mod Zips
+pub mod Common

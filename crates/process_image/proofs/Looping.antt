@@ -1,12 +1,9 @@
 -- Loops over all slots, step by step.
+use Rattle.process_image.proofs.Common.{AreLinesOf, Does, DoesEach, IsLineOf, Seat, SeatStep, Tells, TellsEach, after_steps, with_bytes, with_sent}
 use Rattle.std.proofs.Common.{◌≡◌, ◌≤◌, ℕ, zero, suc, ◌+◌, ◌<◌, List, [], ◌∷◌, ◌++◌, map, length, slice_get, slice_set, Some, All, ◌==◌, Bool, true, false, if◌then◌else◌, append_assoc, refl, sym, ap, subst, ◌∙◌, arith}
 use Rattle.std.proofs.lemmas.Bool.Decides.{nat_tests}
 use Rattle.std.proofs.lemmas.Grind.{common_steps}
 use Rattle.std.proofs.lemmas.List.Elements.{All-push, All-nil}
-use Rattle.process_image.specs.Image.{with_bytes}
-use Rattle.process_image.specs.Steps.{SeatStep, Does, DoesEach, with_sent, after_steps}
-use Rattle.process_image.specs.SlotLines.{IsLineOf, AreLinesOf, Tells, TellsEach}
-use Rattle.process_image.specs.declared.seat.Seat.{Seat}
 use Rattle.process_image.proofs.WithBytes.{same_size}
 
 -- some steps are done, and what is left follows

@@ -1,24 +1,12 @@
 -- A call that is a move of one slot, or of none.
+use Rattle.process_image.proofs.Common.{AreNumbered, Core, Did, Follows, ImageEvent, ImagesView, IsAtRest, IsSeatOf, IsSeatStep, IsSoundSeat, Move, Place, Seat, SeatStep, after_steps, contents, if_named, input, move_in, nothing, sampled, setup_of, with_bytes, with_sent}
 use Rattle.std.proofs.Common.{◌≡◌, ◌<◌, ℕ, zero, suc, ◌+◌, ◌==◌, List, [], ◌∷◌, map, slice_get, slice_set, All, Some, None, Bool, true, false, if◌then◌else◌, refl, sym, ap, subst, ◌∙◌, arith}
 use Rattle.std.specs.List.{AllZip}
 use Rattle.std.proofs.lemmas.Bool.Decides.{nat_tests}
 use Rattle.std.proofs.lemmas.List.Elements.{All-head, All-tail}
-use Rattle.fsoe_base.specs.Did.{nothing}
-use Rattle.fsoe_base.specs.declared.did.Did.{Did}
-use Rattle.param_load.specs.declared.entry.Move.{Move}
 use Rattle.param_load.specs.declared.entry.Move.TheVariants as move
-use Rattle.end_core.specs.Core.{setup_of, IsAtRest}
 use Rattle.end_core.specs.Standing as end_core
-use Rattle.end_core.specs.declared.one_end.Core.{Core}
-use Rattle.process_image.specs.Calls.{move_in, if_named, contents}
-use Rattle.process_image.specs.Places.{AreNumbered, Place}
-use Rattle.process_image.specs.Image.{with_bytes, input, sampled}
-use Rattle.process_image.specs.Sound.{IsSoundSeat}
-use Rattle.process_image.specs.Standing.{ImagesView, IsSeatOf, Follows}
-use Rattle.process_image.specs.Steps.{SeatStep, IsSeatStep, with_sent, after_steps}
-use Rattle.process_image.specs.declared.event.ImageEvent.{ImageEvent}
 use Rattle.process_image.specs.declared.event.ImageEvent.TheVariants as event
-use Rattle.process_image.specs.declared.seat.Seat.{Seat}
 use Rattle.process_image.proofs.Following.{IsPart, stands_more}
 use Rattle.process_image.proofs.Seats.{stays, still}
 use Rattle.process_image.proofs.Zips.{all_at}

@@ -1,23 +1,11 @@
 -- What is shown of one slot.
+use Rattle.process_image.proofs.Common.{AnswersReset, Deed, Did, ImagesView, IsSeatOf, IsSoundSeat, Place, Seat, Setup, ShowsAt, bytes_at, deeds, entry_told, frame_len, frame_of, last_frame, numbered, output, sends, setup_is, setup_of, setups_of, told_line}
 use Rattle.std.proofs.Common.{◌≡◌, ◌≤◌, ◌+◌, ◌-◌, ℕ, zero, suc, take, drop, length-take, arith, Bool, true, false, List, [], ◌∷◌, map, length, slice_get, Option, Some, IfSome, option_map, refl, sym, ap, ◌∙◌}
 use Rattle.std.specs.Prelude.{if◌then◌else◌}
 use Rattle.std.proofs.lemmas.Bool.Decides.{nat_tests}
-use Rattle.fsoe_base.specs.declared.did.Did.{Did}
 use Rattle.param_load.specs.declared.entry.Move.TheVariants as move
-use Rattle.end_model.specs.Deed.{Deed}
-use Rattle.end_model.specs.Setup.{Setup, sends}
 use Rattle.end_model.proofs.ReadBack.{valid_length}
-use Rattle.end_core.proofs.Either.{setup_is}
-use Rattle.end_core.specs.Core.{setup_of}
 use Rattle.end_core.specs.Standing as end_core
-use Rattle.fsoe_base.specs.Lengths.{frame_len}
-use Rattle.process_image.specs.Calls.{deeds, frame_of, last_frame, output}
-use Rattle.process_image.specs.Image.{bytes_at}
-use Rattle.process_image.specs.Places.{Place, numbered}
-use Rattle.process_image.specs.Sound.{IsSoundSeat}
-use Rattle.process_image.specs.Standing.{ImagesView, IsSeatOf, ShowsAt, AnswersReset, setups_of}
-use Rattle.process_image.specs.SlotLines.{entry_told, told_line}
-use Rattle.process_image.specs.declared.seat.Seat.{Seat}
 use Rattle.process_image.proofs.Beginning.{frame_most}
 use Rattle.process_image.proofs.Frames.{holds_frames}
 use Rattle.process_image.proofs.Giving.{len_at}

@@ -1,47 +1,26 @@
 -- A run of images over the events of an input.
+use Rattle.process_image.proofs.Common.{DoesEvent, FitsImages, HasSlot, ImageEvent, ImageHeading, ImagesView, IsEndOf, IsMadeOf, IsNew, IsPlanOf, IsSeatOf, IsSlotOf, LineCause, OfMaster, OfSlave, Place, Plan, Refused, RunStands, RunView, Seat, Setup, Slot, SlotHeader, StandsFor, by_word, bytes_said, deeds, encode_lower, end_terms, event_in, event_lines, fields_of, heading_profile, image_format, image_reporting, last_lines, lines_of_events, map_ok, next_field, no_field, number_16, number_32, numbered, one_field, own_length, places_from, plan_of, profile_of, report_of, sends, setup_is, setup_of, setups_of, slots_of, value_or}
 use Rattle.std.proofs.Common.{◌≡◌, ◌≤◌, ◌+◌, ◌==◌, ℕ, zero, suc, List, [], ◌∷◌, ◌++◌, Bool, true, false, length, map, reverse, slice_get, Option, Some, None, IfSome, append_assoc, refl, sym, ap, ap₂, subst, ◌∙◌, arith}
 use Rattle.std.specs.Prelude.{◌<◌, nat_le, All, IfOk, IsTrue, Result, Ok, Err, codes, if◌then◌else◌}
 use Rattle.std.specs.List.{AllZip}
 use Rattle.std.proofs.lemmas.Bool.Decides.{nat_tests}
 use Rattle.std.proofs.lemmas.List.{append-nil, reverse-append, length-reverse}
 use Rattle.std.proofs.lemmas.List.Elements.{All-nil, All-cons}
-use Rattle.hex.specs.Hex.{encode_lower}
 use Rattle.fsoe_io.specs.declared.status.Status.TheVariants as status
 use Rattle.param_load.specs.Profile.{allows_id}
 use Rattle.schedule_file.specs.EventLine.{switch_of}
-use Rattle.schedule_file.specs.Field.{bytes_said, fields_of}
-use Rattle.schedule_file.specs.Fields.{map_ok, by_word, next_field, no_field, one_field, number_16, number_32, value_or}
-use Rattle.schedule_file.specs.Input.{Refused, own_length, heading_profile}
 use Rattle.schedule_file.proofs.Sound.{each, known}
-use Rattle.schedule_file.specs.declared.line_cause.LineCause.{LineCause}
 use Rattle.schedule_file.specs.declared.line_cause.LineCause.TheVariants as cause
 use Rattle.file_run.specs.Machine.{IsSaid, EndsReport}
 use Rattle.file_run.specs.Report.{events_line}
 use Rattle.file_run.specs.Reporting.{ReportsSoFar, IsPrefix, ended_at}
-use Rattle.end_model.specs.Setup.{Setup, OfMaster, OfSlave, sends}
-use Rattle.end_model.specs.Runs.{profile_of}
-use Rattle.end_core.proofs.Either.{setup_is}
-use Rattle.end_core.specs.Core.{setup_of}
-use Rattle.end_core.specs.Standing.{IsNew}
-use Rattle.process_image.specs.Calls.{deeds}
 use Rattle.process_image.specs.EventLine.{end_at, id_at, image_said, image_line, word_of}
-use Rattle.process_image.specs.Header.{ImageHeading, slots_of}
-use Rattle.process_image.specs.Places.{Place, Plan, numbered}
-use Rattle.process_image.specs.Fault.{places_from, plan_of, IsMadeOf}
-use Rattle.process_image.specs.Ran.{image_format, image_reporting}
-use Rattle.process_image.specs.Telling.{RunView, RunStands, DoesEvent, FitsImages}
-use Rattle.process_image.specs.Report.{IsEndOf, IsSlotOf, IsPlanOf, end_terms, event_in, event_lines, lines_of_events, last_lines, report_of}
-use Rattle.process_image.specs.Standing.{ImagesView, IsSeatOf, StandsFor, HasSlot, setups_of}
-use Rattle.process_image.specs.declared.event.ImageEvent.{ImageEvent}
 use Rattle.process_image.specs.declared.event.ImageEvent.TheVariants as event
 use Rattle.process_image.specs.declared.event.ImageLine.{ImageLine}
 use Rattle.process_image.specs.declared.event.ImageLine.TheVariants as line
 use Rattle.process_image.specs.declared.event_line.SlotEnd.{SlotEnd}
 use Rattle.process_image.specs.declared.event_line.Word.{Word}
 use Rattle.process_image.specs.declared.event_line.Word.TheVariants as word
-use Rattle.process_image.specs.declared.header.SlotHeader.{SlotHeader}
-use Rattle.process_image.specs.declared.seat.Seat.{Seat}
-use Rattle.process_image.specs.declared.slot.Slot.{Slot}
 use Rattle.process_image.proofs.Beginning.{numbered_so}
 
 -- the lines of the first events come first

@@ -1,23 +1,11 @@
 -- One slot at a sample and at a tick.
+use Rattle.process_image.proofs.Common.{AddsLine, Answers, Core, Did, Does, IsAtRest, IsLineOf, IsSampleStep, IsSoundSeat, IsTickStep, Move, Seat, SeatStep, Shows, Tells, answer_in, bytes_at, delivery, did_in, entry_told, frame_len, nothing, seat_contents, sends, setup_of, told_by, with_bytes, with_sent}
 use Rattle.std.proofs.Common.{◌≡◌, ℕ, ◌+◌, ◌-◌, ◌*◌, ◌==◌, ◌≤◌, List, [], length, take, drop, min, Option, Some, None, option_map, Bool, true, false, if◌then◌else◌, nat_eq, refl, sym, ap, subst, ◌∙◌, arith}
 use Rattle.std.proofs.lemmas.Grind.{common_steps}
 use Rattle.std.proofs.lemmas.List.{append-nil, length-take, length-drop}
 use Rattle.std.specs.Cmp.Lexicographic.{pointwise, same_text}
-use Rattle.fsoe_base.specs.Did.{nothing}
-use Rattle.fsoe_base.specs.Lengths.{frame_len}
-use Rattle.fsoe_base.specs.declared.did.Did.{Did}
-use Rattle.param_load.specs.declared.entry.Move.{Move}
 use Rattle.param_load.specs.declared.entry.Move.TheVariants as move
-use Rattle.end_model.specs.Setup.{sends}
-use Rattle.end_core.specs.Core.{setup_of, IsAtRest}
-use Rattle.end_core.specs.Standing.{Follows, Answers, Shows}
-use Rattle.end_core.specs.declared.one_end.Core.{Core}
-use Rattle.process_image.specs.Calls.{delivery}
-use Rattle.process_image.specs.Image.{bytes_at, with_bytes}
-use Rattle.process_image.specs.Sound.{IsSoundSeat}
-use Rattle.process_image.specs.Steps.{SeatStep, Does, IsSampleStep, IsTickStep, told_by, did_in, answer_in, seat_contents, with_sent}
-use Rattle.process_image.specs.SlotLines.{IsLineOf, Tells, AddsLine, entry_told}
-use Rattle.process_image.specs.declared.seat.Seat.{Seat}
+use Rattle.end_core.specs.Standing.{Follows}
 
 -- a frame has some bytes
 some-bytes : (b : Bool) (l : ℕ) → (0 == (if b then 6 else 3 + 2 * l)) ≡ false

@@ -1,4 +1,5 @@
 -- A frame that an end sends has as many bytes as its frames have.
+use Rattle.process_image.proofs.Common.{Deed, Did, IsProper, IsRun, Move, OfMaster, OfSlave, Setup, after_phase, answer, begun, code_sent, did_on, download_frame, frame_len, goes_on, held, is_empty, is_length, master_answer, offer, piece_len, receives, sealed, sends, sent_on, slave_answer, step, with_data, with_piece}
 use Rattle.std.proofs.Common.{◌≡◌, ℕ, zero, suc, ◌+◌, ◌-◌, ◌*◌, ◌/◌, ◌≤◌, List, [], ◌∷◌, ◌++◌, length, take, replicate, nat_lt, Bool, true, false, Option, Some, None, IsTrue, if◌then◌else◌, refl, sym, ap, ◌∙◌, arith, inl, inr}
 use Rattle.std.proofs.lemmas.Bool.{cases_eq}
 use Rattle.std.proofs.lemmas.Bool.Decides.{nat_tests}
@@ -6,28 +7,20 @@ use Rattle.std.proofs.lemmas.List.{length-append, length-replicate, length-take}
 use Rattle.fsoe_base.specs.declared.command.Command.{Command}
 use Rattle.fsoe_base.specs.declared.command.Command.TheVariants as command
 use Rattle.fsoe_base.specs.declared.did.Cause.{Cause}
-use Rattle.fsoe_base.specs.declared.did.Did.{Did}
 use Rattle.fsoe_base.specs.declared.did.Took.{Took}
 use Rattle.fsoe_base.specs.Bytes.{low_high}
 use Rattle.fsoe_base.specs.Command.{command_byte}
-use Rattle.fsoe_base.specs.Lengths.{is_length, frame_len}
 use Rattle.fsoe_frame.specs.Layout.{groups, with_crcs}
 use Rattle.fsoe_frame.specs.Parts.{Frame}
 use Rattle.seq_chain.specs.Reset.{reset_load, reset_crcs, reset_frame}
 use Rattle.seq_chain.specs.Sealing as sealing
-use Rattle.param_load.specs.declared.entry.Move.{Move}
 use Rattle.param_load.specs.declared.entry.Move.TheVariants as move
 use Rattle.param_load.specs.declared.master_settings.MasterSettings.{MasterSettings}
 use Rattle.param_load.specs.declared.slave_settings.SlaveSettings.{SlaveSettings}
 use Rattle.param_load.specs.Payload.{padded}
-use Rattle.end_model.specs.Setup.{Setup, OfMaster, OfSlave, sends, receives, piece_len}
 use Rattle.end_model.specs.Phases.{phase_of, is_guarded}
-use Rattle.end_model.specs.Deed.{Deed, is_empty}
 use Rattle.end_model.specs.Chain.{taken, since, newest_crc, own, own_link, seal}
 use Rattle.end_model.specs.Payloads.{conn_id, pay, pieces, session_id, count_in}
-use Rattle.end_model.specs.Readiness.{offer, held}
-use Rattle.end_model.specs.Step.{begun, answer, slave_answer, master_answer, after_phase, goes_on, download_frame, with_piece, with_data, sealed, sent_on, code_sent, did_on, step}
-use Rattle.end_model.specs.Runs.{IsProper, IsRun}
 use Rattle.end_model.proofs.ReadBack.{valid_length, count_crcs, count_groups}
 
 -- the bytes of a frame

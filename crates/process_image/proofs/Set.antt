@@ -1,19 +1,8 @@
 -- Images at which the end of one slot was called.
+use Rattle.process_image.proofs.Common.{Core, ImagesView, IsAtRest, IsSetting, IsSound, IsSoundSeat, Move, Seat, Setup, frame_len, nothing, numbered, receives, sends, set_answers, setup_of, setups_of}
 use Rattle.std.proofs.Common.{◌≡◌, ◌≤◌, ℕ, zero, suc, List, [], ◌∷◌, map, length, slice_get, slice_set, All, Option, Some, IfSome, sym, ap, subst, ◌∙◌}
 use Rattle.std.proofs.lemmas.List.{length-set}
-use Rattle.fsoe_base.specs.Did.{nothing}
-use Rattle.fsoe_base.specs.Lengths.{frame_len}
-use Rattle.param_load.specs.declared.entry.Move.{Move}
-use Rattle.end_model.specs.Runs.{IsSetting}
-use Rattle.end_model.specs.Setup.{Setup, sends, receives}
-use Rattle.end_core.proofs.Either.{set_answers}
-use Rattle.end_core.specs.Core.{setup_of, IsAtRest}
 use Rattle.end_core.specs.Standing as end_core
-use Rattle.end_core.specs.declared.one_end.Core.{Core}
-use Rattle.process_image.specs.Sound.{IsSoundSeat, IsSound}
-use Rattle.process_image.specs.Standing.{ImagesView, setups_of}
-use Rattle.process_image.specs.Places.{numbered}
-use Rattle.process_image.specs.declared.seat.Seat.{Seat}
 use Rattle.process_image.proofs.One.{Moved}
 use Rattle.process_image.proofs.Zips.{all_at, all_set, map_set}
 

@@ -1,15 +1,11 @@
 -- Each input of images has a report: a header that is whole says settings of each end.
+use Rattle.process_image.proofs.Common.{AreNumbered, ImageEvent, ImageHeading, IsEndOf, IsImageReport, IsPlanOf, IsSlotOf, OfMaster, OfSlave, Place, Plan, Setup, SlotHeader, Stage, Stop, by_word, end_of, fields_of, fits_images, heading_is_whole, image_format, input_read, is_end_line, is_open, kind_after, line_taken, may_end, next_field, node_heading_after, number_16, one_field, own_taken, report_of, size_line, size_taken, slot_begun, slot_line, slot_taken, slots_begun, slots_of, with_last}
 use Rattle.std.proofs.Common.{◌≡◌, ◌+◌, ℕ, suc, List, [], ◌∷◌, All, length, reverse, Option, Some, None, IfSome, refl}
 use Rattle.std.specs.Prelude.{IfOk, Ok, Err, if◌then◌else◌}
 use Rattle.std.specs.List.{AllZip}
 use Rattle.std.proofs.lemmas.List.Elements.{All-head, All-tail, All-nil, All-push}
 use Rattle.fsoe_base.specs.declared.command.End.{End}
 use Rattle.fsoe_base.specs.declared.command.End.TheVariants as side
-use Rattle.schedule_file.specs.Field.{fields_of}
-use Rattle.schedule_file.specs.Fields.{by_word, next_field, one_field, number_16}
-use Rattle.schedule_file.specs.Header.{heading_is_whole}
-use Rattle.schedule_file.specs.Input.{Stop, input_read}
-use Rattle.schedule_file.specs.NodeHeader.{kind_after, is_end_line, may_end, node_heading_after}
 use Rattle.schedule_file.specs.declared.header_kind.HeaderKind.TheVariants as kind
 use Rattle.schedule_file.specs.declared.line_cause.LineCause.TheVariants as cause
 use Rattle.schedule_file.proofs.Headed.{either, headed}
@@ -17,14 +13,6 @@ use Rattle.schedule_file.proofs.Sound.{Sound, each, known, after_sound, new_soun
 use Rattle.std.specs.Prelude.{codes, ◌&&◌, ◌==◌, nat_le, not}
 use Rattle.std.specs.Str.{bytes_eq}
 use Rattle.file_run.specs.Report.{last_line}
-use Rattle.end_model.specs.Setup.{Setup, OfMaster, OfSlave}
-use Rattle.process_image.specs.Places.{AreNumbered, Place, Plan}
-use Rattle.process_image.specs.Header.{ImageHeading, slot_begun, slots_begun, slots_of, end_of, size_line, slot_line, size_taken, is_open, slot_taken, fits_images, with_last, own_taken, line_taken}
-use Rattle.process_image.specs.Ran.{image_format}
-use Rattle.process_image.specs.Report.{IsEndOf, IsSlotOf, IsPlanOf, IsImageReport, report_of}
-use Rattle.process_image.specs.declared.event.ImageEvent.{ImageEvent}
-use Rattle.process_image.specs.declared.header.SlotHeader.{SlotHeader}
-use Rattle.process_image.specs.declared.header.Stage.{Stage}
 use Rattle.process_image.specs.declared.header.Stage.TheVariants as stage
 use Rattle.process_image.proofs.Runs.{tested}
 

@@ -1,25 +1,11 @@
 -- A sample and a tick of all slots, and what they tell.
+use Rattle.process_image.proofs.Common.{AnswersSample, AnswersTick, Did, DoesEach, DoesEvent, Follows, ImageEvent, ImagesView, IsSampleStep, IsSeatOf, IsSound, IsSoundSeat, IsTickStep, Makes, Move, Place, Plan, Seat, SeatStep, Setup, StandsFor, TellsEach, bytes_at, contents, deeds, delivery, did_in, frame_len, input, move_in, next_deed, receives, sampled, seat_contents, setup_is, spans_of, told, told_by}
 use Rattle.std.proofs.Common.{◌≡◌, ℕ, List, [], ◌∷◌, map, length, All, Option, Some, None, option_map, refl, sym, ap, ap₂, subst, ◌∙◌}
 use Rattle.std.specs.List.{AllZip}
 use Rattle.std.proofs.lemmas.List.Elements.{All-head, All-tail}
-use Rattle.fsoe_base.specs.Lengths.{frame_len}
-use Rattle.fsoe_base.specs.declared.did.Did.{Did}
-use Rattle.param_load.specs.declared.entry.Move.{Move}
 use Rattle.param_load.specs.declared.entry.Move.TheVariants as move
-use Rattle.end_model.specs.Setup.{Setup, receives}
-use Rattle.end_core.proofs.Either.{setup_is}
 use Rattle.end_core.specs.Standing as end_core
-use Rattle.process_image.specs.Calls.{move_in, contents, delivery, deeds, next_deed}
-use Rattle.process_image.specs.Image.{bytes_at, input, sampled}
-use Rattle.process_image.specs.Places.{Place, Plan, spans_of}
-use Rattle.process_image.specs.Sound.{IsSound, IsSoundSeat}
-use Rattle.process_image.specs.Standing.{ImagesView, IsSeatOf, StandsFor, Follows, AnswersSample, AnswersTick, told}
-use Rattle.process_image.specs.Steps.{SeatStep, Makes, IsSampleStep, IsTickStep, DoesEach, told_by, did_in, seat_contents}
-use Rattle.process_image.specs.declared.event.ImageEvent.{ImageEvent}
 use Rattle.process_image.specs.declared.event.ImageEvent.TheVariants as event
-use Rattle.process_image.specs.declared.seat.Seat.{Seat}
-use Rattle.process_image.specs.SlotLines.{TellsEach}
-use Rattle.process_image.specs.Telling.{DoesEvent}
 use Rattle.process_image.proofs.Following.{IsPart, stands_more}
 use Rattle.process_image.proofs.Keeping.{does_setups, images_sound}
 use Rattle.process_image.proofs.ToldLines.{lines_are}

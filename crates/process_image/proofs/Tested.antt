@@ -1,45 +1,29 @@
 -- The slots of a header fit its images, line by line.
+use Rattle.process_image.proofs.Common.{Fit, Heading, ImageHeading, IsApart, IsEndOf, IsMadeOf, IsTested, LineCause, OfMaster, OfSlave, Setup, Slot, SlotHeader, Stage, and_placed, end_of, end_of_kind, fields_of, fields_taken, first_fault, first_outside, first_pair, first_with, fits_images, frame_len, heading_after, heading_is_whole, heading_spans, heading_with, image_heading_is_whole, is_done, is_end_line, is_placed, kind_after, lie_inside, map_ok, no_field, node_heading_after, one_hex_field, overlap, own_length, pair_or, places_from, plan_of, profile_given, profile_taken, receives, sends, setup_of, slot_spans, slots_begun, slots_of, tested_by, title_taken, ◌>>=◌}
 use Rattle.std.proofs.Common.{◌≡◌, ◌≤◌, ◌⊎◌, inl, inr, ℕ, suc, List, [], ◌∷◌, ◌++◌, Bool, true, false, length, map, refl, sym, ap, ap₂, subst, ◌∙◌}
 use Rattle.std.specs.Prelude.{◌&&◌, ◌||◌, not, IsTrue, IfOk, Option, Some, None, Result, Ok, Err, if◌then◌else◌}
 use Rattle.std.specs.List.{AllZip, list_any}
 use Rattle.std.proofs.lemmas.Bool.{false≢true}
 use Rattle.std.proofs.lemmas.Result.{IfOk-weaker}
 use Rattle.std.specs.Str.{bytes_eq}
-use Rattle.fsoe_base.specs.Lengths.{frame_len}
 use Rattle.fsoe_base.specs.declared.command.End.{End}
 use Rattle.fsoe_base.specs.declared.command.End.TheVariants as side
 use Rattle.schedule_file.specs.EventLine.{delivered_len}
-use Rattle.schedule_file.specs.Field.{fields_of}
-use Rattle.schedule_file.specs.Fields.{◌>>=◌, map_ok, no_field, one_hex_field}
-use Rattle.schedule_file.specs.Header.{Heading, heading_after, heading_is_whole, heading_with, fields_taken, profile_given, profile_taken, title_taken}
 use Rattle.schedule_file.specs.HeaderKind.{title_of}
 use Rattle.schedule_file.specs.HeaderLine.{header_line, lengths_line, master_line, profile_line, slave_line, rule_line, range_line}
 use Rattle.schedule_file.specs.HeaderPart.{master_with_app, slave_with_bytes, slave_with_pairs}
-use Rattle.schedule_file.specs.Input.{own_length}
-use Rattle.schedule_file.specs.NodeHeader.{kind_after, node_heading_after, is_end_line}
 use Rattle.schedule_file.specs.Place.{admitted, header_word_of, is_last, is_start, may_stand}
 use Rattle.schedule_file.specs.declared.header_kind.HeaderKind.{HeaderKind}
 use Rattle.schedule_file.specs.declared.header_line.HeaderLine.{HeaderLine}
 use Rattle.schedule_file.specs.declared.header_line.HeaderLine.TheVariants as says
 use Rattle.schedule_file.specs.declared.header_line.LengthsLine.{LengthsLine}
-use Rattle.schedule_file.specs.declared.line_cause.LineCause.{LineCause}
 use Rattle.schedule_file.specs.declared.line_cause.LineCause.TheVariants as cause
 use Rattle.schedule_file.specs.declared.place.Place.{Place}
 use Rattle.schedule_file.specs.declared.place.Place.TheVariants as place
 use Rattle.schedule_file.specs.declared.place.Word.{Word}
 use Rattle.schedule_file.specs.declared.place.Word.TheVariants as word
 use Rattle.schedule_file.proofs.Headed.{either}
-use Rattle.end_model.specs.Setup.{Setup, OfMaster, OfSlave, sends, receives}
-use Rattle.end_core.specs.Core.{setup_of}
-use Rattle.process_image.specs.Fault.{first_outside, first_with, pair_or, first_pair, first_fault, places_from, plan_of, slot_spans, IsMadeOf}
-use Rattle.process_image.specs.Header.{ImageHeading, end_of, end_of_kind, heading_spans, fits_images, image_heading_is_whole, is_done, slots_begun, slots_of}
-use Rattle.process_image.specs.Places.{lie_inside, overlap}
-use Rattle.process_image.specs.Report.{IsEndOf}
-use Rattle.process_image.specs.Tested.{IsApart, Fit, is_placed, and_placed, tested_by, IsTested}
-use Rattle.process_image.specs.declared.header.SlotHeader.{SlotHeader}
-use Rattle.process_image.specs.declared.header.Stage.{Stage}
 use Rattle.process_image.specs.declared.header.Stage.TheVariants as stage
-use Rattle.process_image.specs.declared.slot.Slot.{Slot}
 use Rattle.process_image.specs.declared.spans.Spans.{Spans}
 use Rattle.process_image.proofs.Faults.{tested}
 

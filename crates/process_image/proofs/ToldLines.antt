@@ -1,25 +1,11 @@
 -- The lines of an event, slot by slot.
+use Rattle.process_image.proofs.Common.{AreLinesOf, AreNumbered, Deed, Did, ImageEvent, ImagesView, IsAfter, IsLineOf, IsRun, IsSeatOf, Makes, Move, Place, Plan, Seat, SeatStep, Setup, ShowsAt, StandsFor, deeds, entry_line, entry_told, event_lines, is_empty, last_frame, move_in, move_line, next_deed, state_of, told_line}
 use Rattle.std.proofs.Common.{◌≡◌, ◌+◌, ℕ, zero, suc, List, [], ◌∷◌, ◌++◌, Bool, true, false, not, length, slice_get, Option, Some, None, codes, decimal, refl, sym, ap, ap₂, subst, ◌∙◌, arith}
 use Rattle.std.specs.Prelude.{option_map, if◌then◌else◌}
 use Rattle.std.specs.List.{AllZip}
-use Rattle.fsoe_base.specs.declared.did.Did.{Did}
 use Rattle.entry_text.specs.EntryText.{entry_text}
-use Rattle.param_load.specs.declared.entry.Move.{Move}
-use Rattle.end_model.specs.Deed.{Deed, is_empty}
 use Rattle.end_model.specs.Outputs.{out}
-use Rattle.end_model.specs.Readiness.{state_of}
-use Rattle.end_model.specs.Setup.{Setup}
-use Rattle.end_model.specs.Runs.{IsRun}
 use Rattle.end_model.proofs.Told.{told_sent}
-use Rattle.end_core.specs.Standing.{IsAfter}
-use Rattle.process_image.specs.Calls.{move_in, deeds, next_deed, last_frame}
-use Rattle.process_image.specs.Places.{AreNumbered, Place, Plan}
-use Rattle.process_image.specs.Report.{entry_line, move_line, event_lines}
-use Rattle.process_image.specs.Standing.{ImagesView, IsSeatOf, StandsFor, ShowsAt}
-use Rattle.process_image.specs.Steps.{SeatStep, Makes}
-use Rattle.process_image.specs.SlotLines.{IsLineOf, AreLinesOf, entry_told, told_line}
-use Rattle.process_image.specs.declared.event.ImageEvent.{ImageEvent}
-use Rattle.process_image.specs.declared.seat.Seat.{Seat}
 use Rattle.process_image.proofs.Following.{IsPart, deeds_more, reached}
 
 -- a frame that was sent is the last one

@@ -1,8 +1,8 @@
 -- Bytes that are written into an image, one run after another.
+use Rattle.process_image.proofs.Common.{with_bytes}
 use Rattle.std.proofs.Common.{◌≡◌, ℕ, zero, suc, ◌+◌, ◌≤◌, List, [], ◌∷◌, ◌++◌, length, take, drop, refl, sym, ap, ◌∙◌, arith}
 use Rattle.std.proofs.lemmas.Grind.{common_steps}
 use Rattle.std.proofs.lemmas.List.{length-append, length-take, length-drop}
-use Rattle.process_image.specs.Image.{with_bytes}
 
 -- the first byte stays where they begin later
 pub later : (at : ℕ) (bytes : List ℕ) (x : ℕ) (xs : List ℕ) → with_bytes (suc at) bytes (x ∷ xs) ≡ x ∷ with_bytes at bytes xs

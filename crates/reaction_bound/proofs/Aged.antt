@@ -1,28 +1,17 @@
 -- In a world without another entry outputs with a bit as 1 have an age: they are from an item.
+use Rattle.reaction_bound.proofs.Common.{Command, End, Entry, IsTakenFrom, Item, NoOther, TakesAwaited, Terms, Took, age_of, awaited, awaited_by, data_taken, in_time, is_other, item_number, items, of_end, outputs_after, outputs_at, outputs_by, outputs_due, received_len, same_end, source, source_after, source_at, source_by, source_in, ticked, ticks_since}
 use Rattle.std.proofs.Common.{◌≡◌, ℕ, List, [], ◌∷◌, replicate, Bool, true, false, ◌&&◌, not, Option, Some, None, is_some, IsSome, option_map, if◌then◌else◌, refl, ap, ◌∙◌, subst}
-use Rattle.fsoe_base.specs.declared.command.End.{End}
-use Rattle.fsoe_base.specs.declared.command.Command.{Command}
 use Rattle.fsoe_base.specs.declared.command.Command.TheVariants as command
-use Rattle.fsoe_base.specs.declared.did.Took.{Took}
 use Rattle.fsoe_base.specs.Image.{bit_of}
 use Rattle.fsoe_base.specs.Data.{is_data}
-use Rattle.param_load.specs.declared.entry.Entry.{Entry}
-use Rattle.param_load.specs.declared.terms.Terms.{Terms}
 use Rattle.param_load.specs.declared.master_settings.MasterSettings.{MasterSettings}
 use Rattle.param_load.specs.declared.slave_settings.SlaveSettings.{SlaveSettings}
-use Rattle.end_model.specs.Deed.{ticked}
-use Rattle.exchange_model.specs.Ends.{same_end, of_end}
 use Rattle.exchange_model.specs.World.{SameLengths}
 use Rattle.exchange_model.specs.Schedules.{IsWorld}
-use Rattle.exchange_model.specs.Items.{Item, items, awaited}
-use Rattle.exchange_model.specs.Other.{is_other, NoOther, item_number}
-use Rattle.exchange_model.specs.Fair.{received_len, data_taken, IsTakenFrom, TakesAwaited, in_time, outputs_by, outputs_at, outputs_after, outputs_due}
 use Rattle.exchange_model.proofs.Worlds.Projection.{same}
 use Rattle.exchange_model.proofs.Joint.Taking.{NoneOther, none_other}
 use Rattle.exchange_model.proofs.Fairness.Headline.{takes_awaited}
 use Rattle.exchange_model.proofs.Offering.Shown.{none_of_zeros}
-use Rattle.reaction_bound.specs.Age.{ticks_since, source_by, source_at, source_in, source_after, source, age_of}
-use Rattle.reaction_bound.specs.Ages.{awaited_by}
 
 -- data are taken from an item that was awaited
 item-awaited : (l : ℕ) (t : Took) (told : Option Terms) (o : Option Item) → IsTakenFrom l (Some t) told o → is_some (item_number o) ≡ true

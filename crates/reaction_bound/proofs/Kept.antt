@@ -1,7 +1,7 @@
 -- What a reaction keeps says what looking back says.
+use Rattle.reaction_bound.proofs.Common.{first_of_both}
 use Rattle.std.proofs.Common.{◌≡◌, ◌≤◌, ℕ, zero, suc, ◌-◌, Bool, true, false, ◌&&◌, ◌||◌, nat_le, List, [], ◌∷◌, Option, None, Some, refl, sym, ap, ◌∙◌, arith}
 use Rattle.std.proofs.Math.Dec.{leb-zero, leb-suc-zero}
-use Rattle.exchange_model.specs.Other.{first_of_both}
 use Rattle.reaction_bound.specs.Reaction.{Heard, Quiet, Tick, ticks, quiet_for, is_late, broken_of}
 use Rattle.reaction_bound.specs.Kept.{first_of, quiet_from, is_long}
 

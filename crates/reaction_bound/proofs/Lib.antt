@@ -7,3 +7,4 @@ pub mod Noted
 pub mod Bounded
 pub mod Aged
 pub mod Kept
+pub mod Common

@@ -1,23 +1,10 @@
 -- The outputs of an end that are from an item.
+use Rattle.reaction_bound.proofs.Common.{Command, End, Entry, Move, Terms, Took, age_in, age_of, awaited_by, counted, greater, in_time, is_other, is_tick, items, items_of, kept_of, left_after, left_at, left_by, peer, same_end, source, source_after, source_at, source_by, source_in, standing_at, standing_counted, standing_from, standing_next, standing_of, standing_taken, standing_ticked, ticked, ticked_at, ticks_since, told, told_age, waited, watchdog_in, worst_of}
 use Rattle.std.proofs.Common.{◌≡◌, ℕ, suc, ◌-◌, ◌^◌, ◌≤◌, min, max, nat_lt, nat_le, List, [], ◌∷◌, length, Bool, true, false, ◌&&◌, not, Option, Some, None, is_some, option_map, if◌then◌else◌, refl, sym, ap, ap₂, ◌∙◌, arith}
 use Rattle.std.proofs.lemmas.Bool.Decides.{nat_tests}
-use Rattle.fsoe_base.specs.declared.command.End.{End}
-use Rattle.fsoe_base.specs.declared.command.Command.{Command}
 use Rattle.fsoe_base.specs.declared.command.Command.TheVariants as command
-use Rattle.fsoe_base.specs.declared.did.Took.{Took}
-use Rattle.param_load.specs.declared.terms.Terms.{Terms}
-use Rattle.param_load.specs.declared.entry.Move.{Move}
 use Rattle.param_load.specs.declared.entry.Move.TheVariants as move
-use Rattle.param_load.specs.declared.entry.Entry.{Entry}
-use Rattle.end_model.specs.Deed.{ticked}
-use Rattle.exchange_model.specs.Ends.{same_end, peer}
-use Rattle.exchange_model.specs.Items.{items_of, items}
-use Rattle.exchange_model.specs.Other.{is_other}
-use Rattle.exchange_model.specs.Fair.{in_time}
-use Rattle.exchange_model.specs.Honest.{is_tick}
 use Rattle.reaction_bound.specs.declared.end_age.Standing.{Standing}
-use Rattle.reaction_bound.specs.Age.{ticked_at, ticks_since, source_by, source_at, source_in, source_after, source, age_of, greater, worst_of, told, told_age}
-use Rattle.reaction_bound.specs.Ages.{kept_of, awaited_by, waited, left_by, left_at, left_after, standing_of, watchdog_in, age_in, counted, standing_ticked, standing_counted, standing_from, standing_taken, standing_at, standing_next}
 use Rattle.reaction_bound.proofs.Waiting.{awaited_within, items_grow, since_next, told_since}
 
 -- the item from which outputs are is one that was awaited

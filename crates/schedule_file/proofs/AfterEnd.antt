@@ -1,12 +1,10 @@
 -- What comes after the line `end` changes nothing.
+use Rattle.schedule_file.proofs.Common.{AtEnd, HeaderKind, InputCause, InputFormat, LineCause, NoLine, Refused, Stop, WholeHeaderOf, before_more, events_after, header_in, header_step, input_after, input_by, input_of, input_read, lines_in, lines_of, open_line, schedule_format, steps, stop_at, texts, whole_line, with_room}
 use Rattle.std.proofs.Common.{◌≡◌, ℕ, ◌+◌, Bool, true, false, List, [], ◌∷◌, ◌++◌, length, map, refl, ap, ◌∙◌, sym}
 use Rattle.std.specs.Prelude.{◌==◌, Result, Ok, Err, Option, Some, None, slice_get, if◌then◌else◌}
 use Rattle.std.specs.List.{slice_split, onto_first}
 use Rattle.std.proofs.lemmas.List.Splits.{slice_split-cons_yes, slice_split-cons_no, length-slice_split}
 use Rattle.schedule_file.proofs.OneField.{some_part}
-use Rattle.schedule_file.specs.Input.{InputCause, InputFormat, NoLine, Stop, AtEnd, Refused, WholeHeaderOf, whole_line, open_line, lines_in, lines_of, header_step, header_in, before_more, steps, texts, with_room, events_after, stop_at, input_after, input_by, input_read, input_of, schedule_format}
-use Rattle.schedule_file.specs.declared.header_kind.HeaderKind.{HeaderKind}
-use Rattle.schedule_file.specs.declared.line_cause.LineCause.{LineCause}
 
 -- the lines of an input
 abbrev Lines : Type 0

@@ -1,4 +1,5 @@
 -- Digits one after another.
+use Rattle.schedule_file.proofs.Common.{number_said}
 use Rattle.std.proofs.Common.{◌≡◌, ℕ, ◌+◌, ◌-◌, ◌*◌, ◌≤◌, ◌<◌, Bool, true, List, length, take, drop, get_or, arith, ap, ◌∙◌, sym}
 use Rattle.std.specs.Prelude.{◌&&◌, None}
 use Rattle.std.specs.Char.{is_ascii_digit, digit_value}
@@ -8,7 +9,6 @@ use Rattle.std.proofs.lemmas.List.{at_drop_more}
 use Rattle.std.proofs.lemmas.Str.{digit_value_digit}
 use Rattle.std.proofs.lemmas.Int.Digits.{digits_value_more}
 use Rattle.std.proofs.lemmas.Bool.Decides.{nat_tests}
-use Rattle.schedule_file.specs.Field.{number_said}
 
 -- the value of the digits so far, and of one more
 pub value_more : (text : List ℕ) (i : ℕ) → i < length text → 48 ≤ get_or text i 0 → get_or text i 0 ≤ 57

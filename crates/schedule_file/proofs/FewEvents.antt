@@ -1,12 +1,10 @@
 -- How many events an input may have.
+use Rattle.schedule_file.proofs.Common.{Event, HeaderKind, Stop, WholeHeader, event_of, header_of, input_by, input_of, is_full, said_after, schedule_format, steps, texts, with_room}
 use Rattle.std.proofs.Common.{◌≡◌, ℕ, ◌+◌, ◌≤◌, ◌<◌, Bool, true, false, List, [], ◌∷◌, ◌++◌, length, map, refl, arith}
 use Rattle.std.specs.Prelude.{Result, Ok, Err, ◌==◌, if◌then◌else◌}
 use Rattle.std.proofs.lemmas.Bool.Decides.{nat_tests}
 use Rattle.std.proofs.lemmas.List.{length_push}
 use Rattle.schedule_file.specs.declared.event.TheConstants.{MAX_EVENTS}
-use Rattle.schedule_file.specs.Input.{WholeHeader, Stop, event_of, is_full, said_after, steps, texts, with_room, header_of, input_by, input_of, schedule_format}
-use Rattle.schedule_file.specs.declared.event.Event.{Event}
-use Rattle.schedule_file.specs.declared.header_kind.HeaderKind.{HeaderKind}
 
 one-few : (full : Bool) (n : ℕ) (event : Event) (later : List Event) → (n == MAX_EVENTS) ≡ full → n ≤ MAX_EVENTS → (n < MAX_EVENTS → n + 1 + length later ≤ MAX_EVENTS)
     → n + length (if full then [] else event ∷ later) ≤ MAX_EVENTS

@@ -1,4 +1,5 @@
 -- The events of an input fit the ends that its header describes.
+use Rattle.schedule_file.proofs.Common.{End, Event, Fits, FitsEnd, Heading, InputFormat, LineCause, OnStep, PairWord, Profile, Stop, WholeHeaderOf, allows_id, before_more, by_word, bytes_said, event_of, fields_of, header_of, heading_profile, input_by, input_of, is_number, next_field, no_field, number_16, number_32, number_said, one_field, one_hex_field, own_length, pair_said, pair_said_by, pair_word_of, said_after, schedule_format, steps, texts, value_or, ◌>>=◌}
 use Rattle.std.proofs.Common.{◌≡◌, ℕ, ◌≤◌, ◌<◌, Bool, true, false, List, [], ◌∷◌, length, map, refl, arith, sym, subst}
 use Rattle.std.specs.Prelude.{All, Result, Ok, Err, Option, Some, None, IfOk, IfSome, ◌&&◌, ◌==◌, nat_le, nat_lt, if◌then◌else◌}
 use Rattle.std.specs.Str.Parse.{digits_value}
@@ -6,27 +7,15 @@ use Rattle.std.proofs.lemmas.Bool.{and_parts, leb-true, ltb-true, eqb-true}
 use Rattle.std.proofs.lemmas.Bool.Decides.{nat_tests}
 use Rattle.std.proofs.lemmas.List.Elements.{All-cons, All-nil, All-take}
 use Rattle.std.proofs.lemmas.Result.{IfOk-at_ok, IfOk-weaker}
-use Rattle.fsoe_base.specs.declared.command.End.{End}
-use Rattle.param_load.specs.Profile.{allows_id}
-use Rattle.param_load.specs.declared.profile.Profile.{Profile}
 use Rattle.fsoe_base.specs.declared.lengths.TheConstants.{MOST_DATA, MOST_FRAME}
-use Rattle.schedule_file.specs.Event.{Fits, FitsEnd, OnStep}
 use Rattle.schedule_file.specs.EventLine.{not_zero, reference_of, switch_of, delivered_len, altered_line}
-use Rattle.schedule_file.specs.Field.{fields_of, is_number, number_said, bytes_said}
-use Rattle.schedule_file.specs.Fields.{◌>>=◌, value_or, by_word, next_field, no_field, one_field, number_16, number_32, one_hex_field}
-use Rattle.schedule_file.specs.Header.{Heading}
-use Rattle.schedule_file.specs.Input.{InputFormat, Stop, WholeHeaderOf, header_of, own_length, heading_profile, said_after, before_more, event_of, steps, texts, input_by, input_of, schedule_format}
 use Rattle.schedule_file.specs.NodeEvent.{word_of, node_said}
-use Rattle.schedule_file.specs.PairEvent.{pair_word_of, pair_said, pair_said_by}
-use Rattle.schedule_file.specs.declared.event.Event.{Event}
 use Rattle.schedule_file.specs.declared.event.ScheduleLine.{ScheduleLine}
 use Rattle.schedule_file.specs.declared.event.ScheduleLine.TheVariants as line
 use Rattle.schedule_file.specs.declared.header_kind.HeaderKind.TheVariants.{Pair, Node}
-use Rattle.schedule_file.specs.declared.line_cause.LineCause.{LineCause}
 use Rattle.schedule_file.specs.declared.line_cause.LineCause.TheVariants as cause
 use Rattle.schedule_file.specs.declared.node_event.Word.{Word}
 use Rattle.schedule_file.specs.declared.node_event.Word.TheVariants as node_word
-use Rattle.schedule_file.specs.declared.pair_event.PairWord.{PairWord}
 use Rattle.schedule_file.specs.declared.pair_event.PairWord.TheVariants as word
 use Rattle.schedule_file.proofs.Rooms.{room_is_first}
 use Rattle.schedule_file.proofs.Sound.{each, known, IfOk-every, IfOk-map, hex_within, ok_if}

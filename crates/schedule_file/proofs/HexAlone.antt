@@ -1,16 +1,10 @@
 -- Hexadecimal digits are one field.
+use Rattle.schedule_file.proofs.Common.{FromHexError, LineCause, bytes_said, decode_of, decode_of-ok, fields_of, is_hex_digit, is_space, not_hex, one_hex_field, some_bytes, value_or}
 use Rattle.std.proofs.Common.{◌≡◌, ℕ, List, [], ◌∷◌, refl, sym, ap, ◌∙◌, arith, false, true}
 use Rattle.std.specs.Prelude.{Option, Result, Ok, Err, Some, None}
 use Rattle.std.proofs.lemmas.Bool.Decides.{nat_tests}
 use Rattle.std.proofs.lemmas.List.Splits.{slice_split_none, join_with_byte-slice_split}
 use Rattle.std.specs.List.{join_with_byte}
-use Rattle.hex.specs.Hex.{decode_of, is_hex_digit}
-use Rattle.hex.specs.declared.error.FromHexError.{FromHexError}
-use Rattle.hex.proofs.HexLemmas.{decode_of-ok}
-use Rattle.schedule_file.specs.Field.{is_space, fields_of, some_bytes, bytes_said}
-use Rattle.schedule_file.specs.Fields.{one_hex_field, value_or}
-use Rattle.schedule_file.specs.FieldsRead.{not_hex}
-use Rattle.schedule_file.specs.declared.line_cause.LineCause.{LineCause}
 use Rattle.schedule_file.specs.declared.line_cause.LineCause.TheVariants as cause
 
 -- a space is no digit

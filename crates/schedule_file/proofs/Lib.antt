@@ -17,3 +17,4 @@ pub mod OneSetting
 pub mod Pairs
 pub mod PairsRead
 pub mod PairsFitting
+pub mod Common

@@ -1,4 +1,5 @@
 -- A maker makes the next event of its number.
+use Rattle.schedule_file.proofs.Common.{Event}
 use Rattle.std.proofs.Common.{◌≡◌, ℕ, zero, suc, ◌-◌, ◌≤◌, ◌==◌, nat_le, min, refl, sym, ap, ◌∙◌, Bool, true, false, ◌||◌, if◌then◌else◌, arith}
 use Rattle.std.specs.Prelude.{Some, None}
 use Rattle.std.specs.declared.option.Option.{Option}
@@ -7,7 +8,6 @@ use Rattle.rand_pcg.specs.Lcg.{Lcg, next, next_state, state_after}
 use Rattle.rand_pcg.specs.Pcg.{multiplier_64, pcg32}
 use Rattle.schedule_file.specs.Made.{generator_of, generator_after, word_after, event_of_word, event_in_turn, event_at}
 use Rattle.schedule_file.specs.Maker.{MakerView, IsMaker, Makes, turn_after}
-use Rattle.schedule_file.specs.declared.event.Event.{Event}
 use Rattle.schedule_file.specs.declared.maker.Turn.{Turn}
 use Rattle.schedule_file.specs.declared.maker.Turn.TheVariants as turn
 

@@ -1,16 +1,13 @@
 -- A header says all that an end is set to, so that an end has one setting by it.
+use Rattle.schedule_file.proofs.Common.{Heading, IsMasterOf, IsSlaveOf, Lengths, allows_id, is_acceptable}
 use Rattle.std.proofs.Common.{◌≡◌, ◌<◌, ◌∙◌, sym}
 use Rattle.std.specs.Prelude.{IsTrue}
 use Rattle.std.proofs.Math.Bool.{Bool-set}
 use Rattle.std.proofs.Math.Bridge.{le_prop}
-use mathlib.Core.HLevel.{is_prop→PathP}
 use Rattle.fsoe_base.specs.Lengths.{is_length}
-use Rattle.fsoe_base.specs.declared.lengths.Lengths.{Lengths}
-use Rattle.param_load.specs.AppRule.{is_acceptable}
-use Rattle.param_load.specs.Profile.{allows_id}
 use Rattle.param_load.specs.declared.master_settings.MasterSettings.{MasterSettings}
 use Rattle.param_load.specs.declared.slave_settings.SlaveSettings.{SlaveSettings}
-use Rattle.schedule_file.specs.Header.{Heading, IsMasterOf, IsSlaveOf}
+use mathlib.Core.HLevel.{is_prop→PathP}
 
 same_lengths : (a b : Lengths) → a.master ≡ b.master → a.slave ≡ b.slave → a ≡ b
 same_lengths a b master slave = λ i. record {

@@ -1,4 +1,5 @@
 -- What lines of several pairs say.
+use Rattle.schedule_file.proofs.Common.{Becomes, End, Fits, Heading, Lengths, LineCause, OnStep, PairWord, PairsLineFits, Profile, event_said, length_of, next_field, number_said, numbered, numbered_line, of_pair, pair_word_of, pairs_begun, profile_of, said_in, said_to, said_to_number, unlinked, value_or}
 use Rattle.std.proofs.Common.{◌≡◌, ℕ, zero, suc, ◌+◌, ◌<◌, Bool, true, false, List, [], ◌∷◌, ◌++◌, map, take, length, refl, sym, ap, ◌∙◌, add-one, inl, inr, arith}
 use Rattle.std.specs.Prelude.{◌⊎◌, Result, Ok, Err, Option, Some, None, IfOk, OnOk, slice_get, option_map, ◌&&◌}
 use Rattle.std.specs.Char.{is_ascii_digit}
@@ -7,30 +8,15 @@ use Rattle.std.specs.Str.{all_ascii_digits}
 use Rattle.std.proofs.lemmas.List.{length_push, map-append, take_more}
 use Rattle.std.proofs.lemmas.Option.{get_or_from_slice_get, slice_get-map, slice_get_within}
 use Rattle.std.proofs.lemmas.Result.{IfOk-at_ok}
-use Rattle.fsoe_base.specs.LengthsOf.{length_of}
-use Rattle.fsoe_base.specs.declared.command.End.{End}
 use Rattle.fsoe_base.specs.declared.command.End.TheVariants as side
-use Rattle.fsoe_base.specs.declared.lengths.Lengths.{Lengths}
-use Rattle.param_load.specs.declared.profile.Profile.{Profile}
 use Rattle.param_load.specs.declared.profile.Profile.TheVariants as profile
 use Rattle.param_load.specs.declared.profile.Profiles.{Profiles}
-use Rattle.schedule_file.specs.Event.{Fits, OnStep, profile_of}
-use Rattle.schedule_file.specs.Field.{number_said}
-use Rattle.schedule_file.specs.Fields.{value_or, next_field}
-use Rattle.schedule_file.specs.FieldsRead.{Becomes}
-use Rattle.schedule_file.specs.PairEvent.{event_said, pair_word_of}
-use Rattle.schedule_file.specs.PairsEvent.{numbered, numbered_line, of_pair, said_to, said_to_number, unlinked}
-use Rattle.schedule_file.specs.PairsFit.{PairsLineFits, said_in}
-use Rattle.schedule_file.specs.Header.{Heading}
-use Rattle.schedule_file.specs.PairsHeader.{pairs_begun}
 use Rattle.schedule_file.specs.declared.pairs_header.PairsStage.{PairsStage}
 use Rattle.schedule_file.specs.declared.pairs_header.PairsStage.TheVariants as stage
 use Rattle.schedule_file.specs.PairsLine.{pairs_event_of}
 use Rattle.schedule_file.specs.declared.event.ScheduleLine.{ScheduleLine}
 use Rattle.schedule_file.specs.declared.event.ScheduleLine.TheVariants as line
-use Rattle.schedule_file.specs.declared.line_cause.LineCause.{LineCause}
 use Rattle.schedule_file.specs.declared.line_cause.LineCause.TheVariants as cause
-use Rattle.schedule_file.specs.declared.pair_event.PairWord.{PairWord}
 use Rattle.schedule_file.specs.declared.pair_event.PairWord.TheVariants as word
 use Rattle.schedule_file.specs.declared.pairs_line.PairsEvent.{PairsEvent}
 use Rattle.schedule_file.specs.declared.pairs_line.PairsEvent.TheVariants as event

@@ -1,16 +1,9 @@
 -- What a line of several pairs says to one of them fits it, and so do the events of an input of several pairs.
+use Rattle.schedule_file.proofs.Common.{End, PairsHeading, PairsLineFits, Profile, by_word, common_line, fields_of, header_read, heading_profile, is_digits, line_of_event, no_field, numbered_line, own_length, pairs_of, pairs_said}
 use Rattle.std.proofs.Common.{◌≡◌, ℕ, List, [], ◌∷◌, All, map, subst}
 use Rattle.std.specs.Prelude.{IfOk, IfSome, Ok, Some, codes}
 use Rattle.std.specs.Str.{bytes_eq}
 use Rattle.std.proofs.lemmas.Result.{IfOk-at_ok}
-use Rattle.fsoe_base.specs.declared.command.End.{End}
-use Rattle.param_load.specs.declared.profile.Profile.{Profile}
-use Rattle.schedule_file.specs.Field.{fields_of}
-use Rattle.schedule_file.specs.Fields.{by_word, no_field}
-use Rattle.schedule_file.specs.Input.{header_read, heading_profile, own_length}
-use Rattle.schedule_file.specs.PairsEvent.{common_line, is_digits, numbered_line, pairs_said}
-use Rattle.schedule_file.specs.PairsFit.{PairsLineFits, line_of_event}
-use Rattle.schedule_file.specs.PairsHeader.{PairsHeading, pairs_of}
 use Rattle.schedule_file.specs.PairsInput.{pairs_format, pairs_input, pairs_said_after}
 use Rattle.schedule_file.specs.PairsLine.{pairs_event_of}
 use Rattle.schedule_file.specs.declared.line_cause.LineCause.TheVariants as cause

@@ -1,21 +1,13 @@
 -- A line with the number of a pair before it says the same of this pair.
+use Rattle.schedule_file.proofs.Common.{End, Event, FitsEnds, FitsPair, PairWord, Profile, by_word, common_line, event_said, fields_of, is_digits, is_space, number_said, numbered, numbered_line, pair_line, pair_said, pair_said_by, pair_word_of, pairs_line, pairs_said, with_pair}
 use Rattle.std.proofs.Common.{◌≡◌, ℕ, ◌<◌, ◌^◌, Bool, true, List, [], ◌∷◌, refl, ap, ◌∙◌, arith}
 use Rattle.std.specs.Prelude.{decimal, Option, Some, None, Ok, if◌then◌else◌}
 use Rattle.std.proofs.lemmas.Bool.Decides.{nat_tests}
 use Rattle.std.proofs.lemmas.Fmt.{decimal_nonempty}
 use Rattle.std.proofs.lemmas.List.Splits.{slice_split_at}
-use Rattle.fsoe_base.specs.declared.command.End.{End}
-use Rattle.param_load.specs.declared.profile.Profile.{Profile}
 use Rattle.schedule_file.specs.EventText.{IsOfTypes, event_text}
-use Rattle.schedule_file.specs.Field.{fields_of, is_space, number_said}
-use Rattle.schedule_file.specs.Fields.{by_word}
 use Rattle.schedule_file.specs.declared.line_cause.LineCause.TheVariants as cause
-use Rattle.schedule_file.specs.PairEvent.{event_said, pair_line, pair_said, pair_said_by, pair_word_of}
-use Rattle.schedule_file.specs.PairsEvent.{common_line, is_digits, numbered, numbered_line, pairs_line, pairs_said}
-use Rattle.schedule_file.specs.PairsFit.{FitsEnds, FitsPair, with_pair}
-use Rattle.schedule_file.specs.declared.event.Event.{Event}
 use Rattle.schedule_file.specs.declared.event.ScheduleLine.TheVariants as line
-use Rattle.schedule_file.specs.declared.pair_event.PairWord.{PairWord}
 use Rattle.schedule_file.specs.declared.pair_event.PairWord.TheVariants as word
 use Rattle.schedule_file.specs.declared.pairs_line.PairsLine.TheVariants as said
 use Rattle.schedule_file.proofs.ReadBack.{digits-decimal, no_space-decimal, number_said-decimal, read_back}

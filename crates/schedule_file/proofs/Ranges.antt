@@ -1,12 +1,10 @@
 -- Lists of lowest and highest values.
+use Rattle.schedule_file.proofs.Common.{Ranges, is_acceptable, ranges_with}
 use Rattle.std.proofs.Common.{◌≡◌, ℕ, ◌+◌, ◌*◌, ◌≤◌, ◌<◌, List, [], ◌∷◌, ◌++◌, length, drop, get_or, append_assoc, length-append, arith, refl, ap, ◌∙◌}
 use Rattle.std.specs.Prelude.{nat_le, IsTrue, Ok, Err}
 use Rattle.std.specs.Cmp.Lexicographic.{pointwise}
 use Rattle.std.proofs.lemmas.Bool.Decides.{nat_tests}
 use Rattle.std.proofs.lemmas.List.{drop_more, drop_all, append-nil}
-use Rattle.param_load.specs.AppRule.{is_acceptable}
-use Rattle.param_load.specs.declared.app_rule.AppRule.TheVariants.{Ranges}
-use Rattle.schedule_file.specs.HeaderPart.{ranges_with}
 use Rattle.schedule_file.specs.declared.line_cause.LineCause.TheVariants as cause
 
 -- one more pair at the end of both lists

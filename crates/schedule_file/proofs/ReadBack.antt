@@ -1,4 +1,5 @@
 -- The line of an event is read as that event.
+use Rattle.schedule_file.proofs.Common.{End, Event, Fits, IsBytes, PairWord, Profile, allows_id, bytes_said, decode_of-encode_lower, decode_of-ok, encode_lower, end_letter, fields_of, is_hex_digit, is_space, number_said, pair_line, pair_said, pair_said_by, pair_word_of, some_bytes}
 use Rattle.std.proofs.Common.{◌≡◌, ℕ, ◌<◌, ◌≤◌, ◌^◌, Bool, true, false, List, [], ◌∷◌, length, get_or, All, inl, inr, refl, sym, ap, ◌∙◌, arith}
 use Rattle.std.specs.Prelude.{◌⊎◌, decimal, Option, Some, Ok}
 use Rattle.std.specs.Char.{is_ascii_digit}
@@ -11,22 +12,12 @@ use Rattle.std.proofs.lemmas.Fmt.{decimal_nonempty, decimal_digit, first_decimal
 use Rattle.std.proofs.lemmas.List.Elements.{All-cons, All-nil}
 use Rattle.std.proofs.lemmas.List.Splits.{slice_split_at, slice_split_none}
 use Rattle.std.proofs.lemmas.Str.Parse.{numerals_by_value, tells_all_ascii_digits}
-use Rattle.hex.specs.Hex.{IsBytes, encode_lower, is_hex_digit}
-use Rattle.hex.proofs.HexLemmas.{decode_of-encode_lower, decode_of-ok}
-use Rattle.fsoe_base.specs.declared.command.End.{End}
 use Rattle.fsoe_base.specs.declared.command.End.TheVariants as side
-use Rattle.param_load.specs.Profile.{allows_id}
-use Rattle.param_load.specs.declared.profile.Profile.{Profile}
 use Rattle.fsoe_base.specs.declared.lengths.TheConstants.{MOST_DATA, MOST_FRAME}
-use Rattle.schedule_file.specs.Event.{Fits}
 use Rattle.schedule_file.specs.EventLine.{switch_of, reference_of, delivered_len, deliver_line, altered_line, raw_line, put_line, hold_line, nonce_line}
 use Rattle.schedule_file.specs.EventText.{IsOfTypes, event_text, reference_text, switch_text}
-use Rattle.schedule_file.specs.PairEvent.{end_letter, pair_line, pair_said, pair_said_by, pair_word_of}
-use Rattle.schedule_file.specs.Field.{is_space, fields_of, number_said, bytes_said, some_bytes}
 use Rattle.schedule_file.proofs.HexDigits.{some_bytes-within}
-use Rattle.schedule_file.specs.declared.pair_event.PairWord.{PairWord}
 use Rattle.schedule_file.specs.declared.pair_event.PairWord.TheVariants as word
-use Rattle.schedule_file.specs.declared.event.Event.{Event}
 use Rattle.schedule_file.specs.declared.event.Event.TheVariants as event
 use Rattle.schedule_file.specs.declared.event.ScheduleLine.TheVariants as line
 

@@ -1,7 +1,7 @@
 -- The events that find room.
+use Rattle.schedule_file.proofs.Common.{with_room}
 use Rattle.std.proofs.Common.{◌≡◌, ℕ, zero, suc, Bool, true, false, List, [], ◌∷◌, ◌++◌, take, refl, ap}
 use Rattle.std.specs.Prelude.{if◌then◌else◌}
-use Rattle.schedule_file.specs.Input.{with_room}
 
 -- they are the first so many
 first_by : {E : Type 0} (full : Bool) (event : E) (later more : List E) (n : ℕ) → later ≡ take n more → (k : ℕ) × ((if full then [] else event ∷ later) ≡ take k (event ∷ more))

@@ -1,4 +1,5 @@
 -- What a header says once it is done is such as settings may have.
+use Rattle.schedule_file.proofs.Common.{FromHexError, HeaderKind, Heading, InRange, IsMasterOf, IsSlaveOf, Lengths, LineCause, Profile, RuleInRange, admitted, allows_id, decode_of, fields_of, fields_taken, header_word_of, heading_after, heading_new, heading_with, highs_of, input_of, is_acceptable, is_start, list_with, lows_of, map_ok, master_with_app, next_field, no_field, number_16, one_field, one_hex_field, profile_for, profile_given, profile_taken, rule_begun, rule_with_bytes, rule_with_pairs, schedule_format, slave_with_bytes, slave_with_pairs, some_bytes, title_taken, value_or, ◌>>=◌}
 use Rattle.std.proofs.Common.{◌≡◌, ℕ, ◌+◌, ◌/◌, ◌%◌, ◌≤◌, ◌<◌, Bool, true, false, List, [], ◌∷◌, ◌++◌, length, arith, refl, sym}
 use Rattle.std.specs.Prelude.{IsTrue, Result, Ok, Err, Some, None, IfOk, IfSome, ◌&&◌, ◌||◌, ◌==◌, nat_le, nat_lt, codes, if◌then◌else◌}
 use Rattle.std.specs.Str.{bytes_eq}
@@ -7,28 +8,14 @@ use Rattle.std.proofs.lemmas.Bool.{and_parts, or_parts, leb-true, ltb-true}
 use Rattle.std.proofs.lemmas.Bool.Decides.{nat_tests}
 use Rattle.std.proofs.lemmas.Option.{IfSome_then}
 use Rattle.std.proofs.lemmas.Result.{IfOk-at_ok, IfOk-weaker}
-use Rattle.hex.specs.declared.error.FromHexError.{FromHexError}
-use Rattle.hex.specs.Hex.{decode_of}
 use Rattle.fsoe_base.specs.Lengths.{is_length}
-use Rattle.fsoe_base.specs.declared.lengths.Lengths.{Lengths}
-use Rattle.param_load.specs.AppRule.{is_acceptable}
-use Rattle.param_load.specs.Profile.{allows_id}
 use Rattle.param_load.specs.declared.app_rule.AppRule.{AppRule}
 use Rattle.param_load.specs.declared.app_rule.AppRule.TheVariants as app_rule
 use Rattle.param_load.specs.declared.master_settings.MasterSettings.{MasterSettings}
-use Rattle.param_load.specs.declared.profile.Profile.{Profile}
 use Rattle.param_load.specs.declared.profile.Profile.TheVariants as profile
 use Rattle.param_load.specs.declared.slave_settings.SlaveSettings.{SlaveSettings}
-use Rattle.schedule_file.specs.Field.{fields_of, some_bytes}
-use Rattle.schedule_file.specs.Fields.{◌>>=◌, map_ok, value_or, next_field, no_field, one_field, number_16, one_hex_field}
-use Rattle.schedule_file.specs.Header.{Heading, heading_new, heading_after, profile_given, profile_taken, heading_with, title_taken, fields_taken, IsMasterOf, IsSlaveOf}
 use Rattle.schedule_file.specs.HeaderKind.{title_of}
 use Rattle.schedule_file.specs.HeaderLine.{profile_line, lengths_line, end_numbers, master_line, slave_line, any_line, listed_line, rule_line, range_line, header_line}
-use Rattle.schedule_file.specs.Event.{InRange, RuleInRange}
-use Rattle.schedule_file.specs.HeaderPart.{lows_of, highs_of, list_with, rule_begun, rule_with_bytes, rule_with_pairs, master_with_app, slave_with_bytes, slave_with_pairs, profile_for}
-use Rattle.schedule_file.specs.Input.{input_of, schedule_format}
-use Rattle.schedule_file.specs.Place.{is_start, admitted, header_word_of}
-use Rattle.schedule_file.specs.declared.header_kind.HeaderKind.{HeaderKind}
 use Rattle.schedule_file.specs.declared.header_line.HeaderLine.{HeaderLine}
 use Rattle.schedule_file.specs.declared.header_line.HeaderLine.TheVariants as says
 use Rattle.schedule_file.specs.declared.header_line.LengthsLine.{LengthsLine}
@@ -36,7 +23,6 @@ use Rattle.schedule_file.specs.declared.header_line.MasterLine.{MasterLine}
 use Rattle.schedule_file.specs.declared.header_line.RuleLine.{RuleLine}
 use Rattle.schedule_file.specs.declared.header_line.SlaveLine.{SlaveLine}
 use Rattle.schedule_file.specs.declared.header_line.RuleLine.TheVariants as rule
-use Rattle.schedule_file.specs.declared.line_cause.LineCause.{LineCause}
 use Rattle.schedule_file.specs.declared.line_cause.LineCause.TheVariants as cause
 use Rattle.schedule_file.specs.declared.place.Place.{Place}
 use Rattle.schedule_file.specs.declared.place.Place.TheVariants as place

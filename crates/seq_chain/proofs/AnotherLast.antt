@@ -1,16 +1,9 @@
 -- A frame after another CRC_0 that was taken last.
+use Rattle.seq_chain.proofs.Common.{Frame, Link, bits_of, bytes_xored, cover, crc_0, fed_bits, fed_bytes, first_byte, first_of, fits, following, number_of, place, second_byte, sixteen_zeros, stepped, steps_again}
 use Rattle.std.proofs.Common.{◌≡◌, ◌≢◌, ℕ, ◌*◌, ◌+◌, ◌/◌, ◌%◌, ◌<◌, List, [], ◌∷◌, ◌++◌, length, bit_xor, Bool, true, false, Option, Some, None, IsTrue, refl, sym, ap, ◌∙◌, lit<, arith}
 use Rattle.std.specs.Int.Bits.{xor_self, xor_comm, xor_lt, xor_block}
-use Rattle.fsoe_crc.specs.Remainder.{computing, fed_bits, bits_of, fed_bytes, sixteen_zeros, rem}
+use Rattle.fsoe_crc.specs.Remainder.{computing, rem}
 use Rattle.fsoe_crc.proofs.Linear.{fed_bytes-below, fed_bytes-append, fed_bytes-injective, fed_bits-injective, sixteen_zeros-are_bits}
-use Rattle.fsoe_crc.proofs.Adjacent.{first_byte, second_byte}
-use Rattle.fsoe_crc.proofs.Xored.{bytes_xored}
-use Rattle.fsoe_frame.specs.Parts.{Frame}
-use Rattle.seq_chain.specs.declared.link.Link.{Link}
-use Rattle.seq_chain.specs.Cover.{place, cover, first_of, crc_0}
-use Rattle.seq_chain.specs.Numbers.{following, stepped, number_of}
-use Rattle.seq_chain.specs.Sealing.{fits}
-use Rattle.seq_chain.specs.Differences.{steps_again}
 use Rattle.seq_chain.specs.FreshIds.{SteppedAlikeAfter, step_in_last}
 use Rattle.seq_chain.proofs.ToldApart.{last_told, first_group, crc_0_is}
 use Rattle.seq_chain.proofs.OneChange.{refused, fitting}

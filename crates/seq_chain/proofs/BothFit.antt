@@ -1,9 +1,7 @@
 -- The two frames of the worked case fit, and differ in their data alone.
+use Rattle.seq_chain.proofs.Common.{DifferInGroup, first_of, fits}
 use Rattle.std.proofs.Common.{◌≡◌, ◌≢◌, ℕ, IsTrue, refl, ap, arith}
 use Rattle.fsoe_crc.specs.Remainder.{computing}
-use Rattle.seq_chain.specs.Cover.{first_of}
-use Rattle.seq_chain.specs.Sealing.{fits}
-use Rattle.seq_chain.specs.Differences.{DifferInGroup}
 use Rattle.seq_chain.specs.BothFit.{noted_before, stepped_frame, other_frame}
 
 pub stepped_fits : IsTrue (fits 0x672D noted_before stepped_frame)

@@ -1,16 +1,8 @@
 -- A frame that differs in few bits from a frame that fits.
+use Rattle.seq_chain.proofs.Common.{AreBytes, DifferInGroups, Frame, Link, SteppedAlike, byte_turned, common, covered, crc_0, crcs, crcs_from, fits, following, groups, next, number_of, pair_turned, place, rem, repeats_crc, stepped, turned_in_frames, turned_within}
 use Rattle.std.proofs.Common.{◌≡◌, ◌≢◌, ℕ, suc, ◌+◌, ◌<◌, ◌≤◌, inl, inr, List, [], ◌∷◌, ◌++◌, length, take, Option, Some, None, ◌==◌, false, IsTrue, refl, sym, ap, ◌∙◌, arith}
 use Rattle.std.proofs.lemmas.Bool.{cases_eq}
-use Rattle.fsoe_crc.specs.Remainder.{rem}
 use Rattle.fsoe_crc.specs.Turned.{turned_bits}
-use Rattle.fsoe_crc.proofs.Weight.{pair_turned, byte_turned}
-use Rattle.fsoe_frame.specs.Layout.{groups}
-use Rattle.fsoe_frame.specs.Parts.{Frame, AreBytes}
-use Rattle.seq_chain.specs.declared.link.Link.{Link}
-use Rattle.seq_chain.specs.Cover.{common, place, covered, crcs_from, crcs, crc_0}
-use Rattle.seq_chain.specs.Numbers.{next, following, stepped, repeats_crc, number_of}
-use Rattle.seq_chain.specs.Sealing.{fits}
-use Rattle.seq_chain.specs.Differences.{DifferInGroups, turned_within, turned_in_frames, SteppedAlike}
 use Rattle.seq_chain.proofs.ToldApart.{zeros_last}
 use Rattle.seq_chain.proofs.OneChange.{refused, fitting}
 use Rattle.seq_chain.proofs.FirstTurned.{pair_turned as first_pair, one_turned}

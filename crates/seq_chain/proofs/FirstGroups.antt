@@ -1,17 +1,9 @@
 -- Frames whose loads differ in their first group.
+use Rattle.seq_chain.proofs.Common.{AreBytes, Link, SteppedAlike, common, cover, crc_0, fed_bytes, first_of, following, number_of, rem-adjacent, rem-xored, sealed, sixteen_zeros, stepped, zero_first}
 use Rattle.std.proofs.Common.{◌≡◌, ◌≢◌, ℕ, ◌*◌, ◌+◌, ◌<◌, List, [], ◌∷◌, length, bit_xor, Option, refl, sym, ap, ◌∙◌, lit<, arith}
 use Rattle.std.specs.Int.Bits.{xor_lt, xor_block}
-use Rattle.fsoe_crc.specs.Remainder.{computing, fed_bytes, sixteen_zeros, rem}
+use Rattle.fsoe_crc.specs.Remainder.{computing, rem}
 use Rattle.fsoe_crc.proofs.Linear.{fed_bits-below, fed_bytes-below, sixteen_zeros-are_bits}
-use Rattle.fsoe_crc.proofs.Adjacent.{rem-adjacent}
-use Rattle.fsoe_crc.proofs.Xored.{rem-xored}
-use Rattle.fsoe_crc.proofs.Weight.{zero_first}
-use Rattle.fsoe_frame.specs.Parts.{AreBytes}
-use Rattle.seq_chain.specs.declared.link.Link.{Link}
-use Rattle.seq_chain.specs.Cover.{common, cover, first_of, crc_0}
-use Rattle.seq_chain.specs.Numbers.{following, stepped, number_of}
-use Rattle.seq_chain.specs.Sealing.{sealed}
-use Rattle.seq_chain.specs.Differences.{SteppedAlike}
 use Rattle.seq_chain.specs.FreshIds.{first_number, step_in_last, step_in_load}
 use Rattle.seq_chain.proofs.ToldApart.{one_told, pair_told}
 

@@ -11,3 +11,4 @@ pub mod BothFit
 pub mod Received
 pub mod OpenedFrame
 pub mod Turned
+pub mod Common

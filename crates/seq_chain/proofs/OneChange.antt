@@ -1,14 +1,7 @@
 -- A frame that differs in one thing from a frame that fits.
+use Rattle.seq_chain.proofs.Common.{AreBytes, DifferAt, DifferInCommand, DifferInConnection, DifferInCrc, DifferInGroup, Frame, Link, SteppedAlike, cover, crc_0, crcs, crcs_from, first_of, fits, following, groups, next, number_of, rem, repeats_crc, stepped, steps_again}
 use Rattle.std.proofs.Common.{◌≡◌, ◌≢◌, ℕ, zero, suc, ◌<◌, List, [], ◌∷◌, length, Bool, true, false, Option, Some, None, ◌==◌, IsTrue, refl, sym, ap, subst, ◌∙◌, arith}
 use Rattle.std.specs.Cmp.Lexicographic.{bytes_decides}
-use Rattle.fsoe_crc.specs.Remainder.{rem}
-use Rattle.fsoe_frame.specs.Layout.{groups}
-use Rattle.fsoe_frame.specs.Parts.{Frame, AreBytes}
-use Rattle.seq_chain.specs.declared.link.Link.{Link}
-use Rattle.seq_chain.specs.Cover.{cover, crcs_from, crcs, first_of, crc_0}
-use Rattle.seq_chain.specs.Numbers.{next, following, stepped, repeats_crc, number_of}
-use Rattle.seq_chain.specs.Sealing.{fits}
-use Rattle.seq_chain.specs.Differences.{steps_again, DifferAt, DifferInCommand, DifferInConnection, DifferInGroup, DifferInCrc, SteppedAlike}
 use Rattle.seq_chain.proofs.ToldApart.{command_told, connection_told, groups_told, first_group, crc_0_is}
 
 pub refused : (b : Bool) → b ≢ true → b ≡ false

@@ -1,9 +1,8 @@
 -- What the parts of a later group's cover decide of its CRC, each by itself.
+use Rattle.seq_chain.proofs.Common.{covered, place, rem}
 use Rattle.std.proofs.Common.{◌≡◌, ℕ, zero, suc, ◌<◌, List, [], ◌∷◌, ◌++◌, bit_xor, replicate, append_assoc, sym, ap, ◌∙◌, arith}
 use Rattle.std.specs.Int.Bits.{xor_assoc}
-use Rattle.fsoe_crc.specs.Remainder.{rem}
 use Rattle.fsoe_crc.proofs.TwoParts.{rem-two_parts}
-use Rattle.seq_chain.specs.Cover.{place, covered}
 
 -- the cover is the first part, and then the place and the pair
 in_parts : (first : List ℕ) (i a b : ℕ) → covered first i (a ∷ b ∷ []) ≡ first ++ (place i ++ a ∷ b ∷ 0 ∷ 0 ∷ 0 ∷ [])

@@ -1,12 +1,8 @@
 -- The numbers of frames that follow each other.
+use Rattle.seq_chain.proofs.Common.{Frame, Link, crc_0, first_of, following, next, noted, number_of, repeats_crc, sealed, stepped}
 use Rattle.std.proofs.Common.{◌≡◌, ◌≢◌, ℕ, ◌<◌, List, length, Bool, true, false, Option, Some, None, IfSome, ◌==◌, refl, sym, ◌∙◌, arith}
 use Rattle.std.proofs.lemmas.Bool.{eqb-true, eqb-false}
 use Rattle.std.proofs.lemmas.Bool.Decides.{nat_tests}
-use Rattle.seq_chain.specs.declared.link.Link.{Link}
-use Rattle.fsoe_frame.specs.Parts.{Frame}
-use Rattle.seq_chain.specs.Cover.{crc_0, first_of}
-use Rattle.seq_chain.specs.Numbers.{next, following, stepped, repeats_crc, number_of}
-use Rattle.seq_chain.specs.Sealing.{sealed, noted}
 use Rattle.seq_chain.proofs.ToldApart.{number_told, first_group, crc_0_is}
 
 next_other : (n : ℕ) → n ≢ next n

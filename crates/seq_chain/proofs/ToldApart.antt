@@ -1,12 +1,7 @@
 -- What the CRC tells apart of what it covers.
+use Rattle.seq_chain.proofs.Common.{AreBytes, DifferAt, common, cover, covered, crc_0, crcs_from, first_of, groups, place, rem, rem-adjacent, rem-one}
 use Rattle.std.proofs.Common.{◌≡◌, ◌≢◌, ℕ, zero, suc, ◌/◌, ◌%◌, ◌<◌, ◌≤◌, List, [], ◌∷◌, ◌++◌, length, refl, sym, ap, ◌∙◌, arith, append_assoc}
-use Rattle.fsoe_crc.specs.Remainder.{rem}
-use Rattle.fsoe_crc.proofs.Adjacent.{rem-adjacent, rem-one}
 use Rattle.fsoe_base.specs.Bytes.{low_high}
-use Rattle.fsoe_frame.specs.Layout.{groups}
-use Rattle.fsoe_frame.specs.Parts.{AreBytes}
-use Rattle.seq_chain.specs.Cover.{common, place, covered, cover, crcs_from, first_of, crc_0}
-use Rattle.seq_chain.specs.Differences.{DifferAt}
 
 -- a number of 16 bits is two adjacent bytes
 word_told : (before after : List ℕ) (m n : ℕ) → m < 65536 → n < 65536 → rem (before ++ m % 256 ∷ m / 256 ∷ after) ≡ rem (before ++ n % 256 ∷ n / 256 ∷ after) → m ≡ n

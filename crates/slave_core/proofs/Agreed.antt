@@ -1,46 +1,21 @@
 -- What each event leaves at the machine is what looking back gives.
+use Rattle.slave_core.proofs.Common.{Code, Command, Deed, Did, IsProper, IsRun, Move, Notes, Now, OfSlave, Outcome, SlaveSettings, SlaveShows, State, Terms, after, as_now, code, data_next, data_reply, deed_of, did_on, id_len, is_whole, kit_of, next_state, nonce, notes_of, now_in, on_verdict, parameters, reply, rule_len, running, session_of, settles, slave-run, slave_conn, state_of, terms, upload_fault, upload_of, view_in, view_of, whole}
 use Rattle.std.proofs.Common.{◌≡◌, ℕ, ◌+◌, ◌<◌, ◌≤◌, List, [], ◌∷◌, length, take, replicate, Bool, true, false, not, Option, Some, unwrap_or, Result, if◌then◌else◌, refl, sym, ap, subst, ◌∙◌, arith}
 use Rattle.std.specs.Option.{option_or}
 use Rattle.std.proofs.lemmas.Bool.{leb-true, eqb-true}
 use Rattle.std.proofs.lemmas.List.{length-replicate}
-use Rattle.fsoe_base.specs.declared.command.Code.{Code}
-use Rattle.fsoe_base.specs.declared.command.Command.{Command}
 use Rattle.fsoe_base.specs.declared.command.Command.TheVariants as command
-use Rattle.fsoe_base.specs.declared.command.State.{State}
 use Rattle.fsoe_base.specs.declared.command.State.TheVariants as state
 use Rattle.fsoe_base.specs.declared.did.Cause.TheVariants as cause
-use Rattle.fsoe_base.specs.declared.did.Did.{Did}
 use Rattle.fsoe_base.specs.Bytes.{all_zero}
-use Rattle.fsoe_base.specs.Command.{code}
 use Rattle.param_load.specs.declared.contents.Expected.TheVariants as expected
-use Rattle.param_load.specs.declared.entry.Move.{Move}
 use Rattle.param_load.specs.declared.entry.Move.TheVariants as move
-use Rattle.param_load.specs.declared.slave_settings.SlaveSettings.{SlaveSettings}
-use Rattle.param_load.specs.declared.terms.Terms.{Terms}
-use Rattle.param_load.specs.AppRule.{rule_len}
-use Rattle.param_load.specs.Profile.{id_len}
-use Rattle.param_load.specs.Upload.{is_whole}
-use Rattle.param_load.specs.UploadView.{upload_fault}
-use Rattle.end_model.specs.Setup.{OfSlave}
-use Rattle.end_model.specs.Deed.{Deed}
-use Rattle.end_model.specs.Payloads.{nonce, slave_conn, terms, whole}
-use Rattle.end_model.specs.Readiness.{state_of}
-use Rattle.end_model.specs.Step.{on_verdict, did_on, deed_of}
-use Rattle.end_model.specs.Runs.{IsProper, IsRun}
 use Rattle.end_model.specs.Verdict as model
-use Rattle.end_model.proofs.Shown.{slave-run}
 use Rattle.end_model.proofs.SoundRuns.{loaded}
-use Rattle.end_model.proofs.SlaveShown.{SlaveShows, parameters}
 use Rattle.end_model.proofs.WholeUploads.{whole_parameters}
-use Rattle.slave_core.specs.declared.now.Now.{Now}
 use Rattle.slave_core.specs.declared.now.Now.TheVariants as now
 use Rattle.slave_core.specs.declared.states.InReset.{InReset}
 use Rattle.slave_core.specs.declared.states.InData.{InData}
-use Rattle.slave_core.specs.Slave.{Outcome, settles}
-use Rattle.slave_core.specs.After.{after}
-use Rattle.slave_core.specs.States.{running, data_next, data_reply}
-use Rattle.slave_core.specs.Taken.{as_now, next_state, reply}
-use Rattle.slave_core.specs.ViewOf.{Notes, session_of, notes_of, kit_of, upload_of, now_in, view_in, view_of}
 use Rattle.slave_core.proofs.Sound.{OfSession, OfConnection, OfParameters, count_of, Sound, SoundAt}
 use Rattle.slave_core.proofs.SameVerdict.{came, Came, Same, Drops, Refuses, ByReset, Passes, same}
 use Rattle.slave_core.proofs.Agrees.{Agrees, drop-agrees, resets-agree, fault-agrees, reset_frame-agrees, put-agrees, hold-agrees, nonce-agrees, tick-agrees}

@@ -1,36 +1,19 @@
 -- What an event leaves at the machine is what looking back gives: where nothing is taken.
+use Rattle.slave_core.proofs.Common.{AreBytes, Code, Deed, Did, Move, Now, OfSlave, Outcome, SlaveSettings, SlaveView, State, code, code_sent, deed_of, drops, falls, first_of, kit_of, limit, notes_of, now_in, number_at, on_expiry, on_fault, on_reset_frame, quiet, refuses, reset_by_peer, slave_age, slave_limit, state_of, takes_frame, tick_in_session, tick_of, ticks, view_in, view_of, whole}
 use Rattle.std.proofs.Common.{◌≡◌, ◌≢◌, ℕ, suc, ◌+◌, ◌<◌, ◌==◌, nat_le, List, [], ◌∷◌, length, Bool, true, false, if◌then◌else◌, refl, sym, ap, subst, ◌∙◌, arith}
 use Rattle.std.proofs.lemmas.Bool.Decides.{nat_tests}
-use Rattle.fsoe_base.specs.declared.command.Code.{Code}
 use Rattle.fsoe_base.specs.declared.command.Command.TheVariants as command
-use Rattle.fsoe_base.specs.declared.command.State.{State}
 use Rattle.fsoe_base.specs.declared.command.State.TheVariants as state
 use Rattle.fsoe_base.specs.declared.did.Cause.{Cause}
 use Rattle.fsoe_base.specs.declared.did.Cause.TheVariants as cause
-use Rattle.fsoe_base.specs.declared.did.Did.{Did}
 use Rattle.fsoe_base.specs.declared.did.Dropped.{Dropped}
 use Rattle.fsoe_base.specs.declared.did.Dropped.TheVariants as why
-use Rattle.fsoe_base.specs.Command.{code}
 use Rattle.fsoe_base.specs.Did.{nothing, dropped, resets}
-use Rattle.fsoe_frame.specs.Parts.{AreBytes}
-use Rattle.seq_chain.specs.Cover.{first_of}
 use Rattle.seq_chain.specs.Reset.{reset_frame}
-use Rattle.param_load.specs.declared.entry.Move.{Move}
 use Rattle.param_load.specs.declared.entry.Move.TheVariants as move
 use Rattle.param_load.specs.declared.profile.Profile.{Profile}
 use Rattle.param_load.specs.declared.profile.Profile.TheVariants as profile
-use Rattle.param_load.specs.declared.slave_settings.SlaveSettings.{SlaveSettings}
-use Rattle.param_load.specs.Payload.{number_at}
-use Rattle.end_model.specs.Setup.{OfSlave}
-use Rattle.end_model.specs.Deed.{Deed}
-use Rattle.end_model.specs.Payloads.{whole}
-use Rattle.end_model.specs.Readiness.{state_of, ticks, slave_age, limit, slave_limit}
-use Rattle.end_model.specs.Step.{takes_frame, on_fault, on_reset_frame, on_expiry, code_sent, deed_of}
-use Rattle.slave_core.specs.declared.now.Now.{Now}
 use Rattle.slave_core.specs.Kit.{KitView}
-use Rattle.slave_core.specs.Slave.{Outcome, quiet, drops, falls, refuses, reset_by_peer, tick_in_session, tick_of}
-use Rattle.slave_core.specs.SlaveView.{SlaveView}
-use Rattle.slave_core.specs.ViewOf.{notes_of, kit_of, now_in, view_in, view_of}
 use Rattle.slave_core.proofs.Sound.{Sound}
 
 -- bytes that are delivered are bytes

@@ -1,29 +1,13 @@
 -- The law: a slave that is after some deeds is, after an event, after these and the next one, and answers as that one
 -- does.
+use Rattle.slave_core.proofs.Common.{Deed, Did, IsProper, IsRun, IsSetting, Move, Now, OfSlave, SlaveSettings, SlaveView, State, Terms, after, age, did_on, events_of, fail_safe, first_slave, held, looking_back, notes_of, now_in, offer, run, state_of, terms, told_in, told_terms, view_of}
 use Rattle.std.proofs.Common.{◌≡◌, ◌≢◌, ℕ, List, [], ◌∷◌, Bool, Option, refl, sym, ap, subst, ◌∙◌}
-use Rattle.fsoe_base.specs.declared.command.State.{State}
 use Rattle.fsoe_base.specs.declared.command.State.TheVariants as state
-use Rattle.fsoe_base.specs.declared.did.Did.{Did}
 use Rattle.fsoe_base.specs.Did.{nothing}
-use Rattle.param_load.specs.declared.entry.Move.{Move}
-use Rattle.param_load.specs.declared.slave_settings.SlaveSettings.{SlaveSettings}
-use Rattle.param_load.specs.declared.terms.Terms.{Terms}
-use Rattle.end_model.specs.Setup.{OfSlave}
-use Rattle.end_model.specs.Deed.{Deed}
-use Rattle.end_model.specs.Runs.{IsSetting, events_of, IsProper, IsRun}
-use Rattle.end_model.specs.Payloads.{terms}
-use Rattle.end_model.specs.Readiness.{state_of, age, told_in, told_terms, offer, held}
-use Rattle.end_model.specs.Step.{did_on, run}
 use Rattle.end_model.specs.Outputs.{zeros, outputs, out}
 use Rattle.end_model.proofs.Runs.{same_deed, set_deed, run_of_events}
-use Rattle.end_model.proofs.Shown.{looking_back, fail_safe}
-use Rattle.slave_core.specs.declared.now.Now.{Now}
 use Rattle.slave_core.specs.Now as machine
-use Rattle.slave_core.specs.After.{after}
-use Rattle.slave_core.specs.Slave.{first_slave}
-use Rattle.slave_core.specs.SlaveView.{SlaveView}
 use Rattle.slave_core.specs.Standing.{SlaveIsAfter, Follows, Answers, Shows, Called}
-use Rattle.slave_core.specs.ViewOf.{notes_of, now_in, view_of}
 use Rattle.slave_core.proofs.Agrees.{Agrees, AreRead, same_slave, fresh_limit}
 use Rattle.slave_core.proofs.Agreed.{agrees, run-sound}
 

@@ -9,3 +9,4 @@ pub mod TakenData
 pub mod Agreed
 pub mod Law
 pub mod Transitions
+pub mod Common

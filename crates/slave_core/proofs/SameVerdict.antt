@@ -1,38 +1,21 @@
 -- The tests of the machine end as those of looking back.
+use Rattle.slave_core.proofs.Common.{Code, Command, Deed, Frame, Notes, OfSlave, Outcome, SlaveSettings, State, allowed, code, command_of, drops, first_of, fits, frame_of, id_len, kept, kit_of, next_state, notes_of, now_in, on_frame, on_opened, on_session, parameters, refuses, reply, reset_by_peer, rule_len, settles, since, slave_allows, slave_conn, state_of, taken_link, uploaded, view_in, whole}
 use Rattle.std.proofs.Common.{◌≡◌, ◌≢◌, ℕ, ◌+◌, ◌==◌, nat_le, Bool, true, false, not, List, length, Option, Some, None, refl, sym, ap, subst, ◌∙◌}
-use Rattle.fsoe_base.specs.declared.command.Code.{Code}
-use Rattle.fsoe_base.specs.declared.command.Command.{Command}
 use Rattle.fsoe_base.specs.declared.command.Command.TheVariants as command
-use Rattle.fsoe_base.specs.declared.command.State.{State}
 use Rattle.fsoe_base.specs.declared.command.State.TheVariants as state
 use Rattle.fsoe_base.specs.declared.did.Dropped.{Dropped}
 use Rattle.fsoe_base.specs.declared.did.Dropped.TheVariants as dropped
-use Rattle.fsoe_base.specs.Command.{command_of, code}
 use Rattle.fsoe_base.specs.Lengths.{frame_len}
-use Rattle.fsoe_frame.specs.Parts.{Frame, frame_of}
 use Rattle.seq_chain.specs.declared.opened.Opened.{Opened}
 use Rattle.seq_chain.specs.declared.opened.Opened.TheVariants as opened_as
 use Rattle.seq_chain.specs.Session.{fits_next}
-use Rattle.seq_chain.specs.Cover.{first_of}
 use Rattle.seq_chain.specs.Opened.{opened}
 use Rattle.seq_chain.specs.Sealing as sealing
-use Rattle.param_load.specs.declared.slave_settings.SlaveSettings.{SlaveSettings}
-use Rattle.param_load.specs.AppRule.{rule_len}
-use Rattle.param_load.specs.Profile.{id_len}
-use Rattle.end_model.specs.Setup.{OfSlave}
-use Rattle.end_model.specs.Deed.{Deed}
-use Rattle.end_model.specs.Chain.{since, kept, taken_link, fits}
-use Rattle.end_model.specs.Payloads.{slave_conn, uploaded, whole}
-use Rattle.end_model.specs.Readiness.{state_of, slave_allows, allowed}
 use Rattle.end_model.specs.Verdict as model
 use Rattle.seq_chain.proofs.OpenedFrame as opens
 use Rattle.seq_chain.proofs.OpenedFrame.{Tested, tested}
 use Rattle.end_model.proofs.Links.{own_crc}
-use Rattle.end_model.proofs.SlaveShown.{parameters}
 use Rattle.slave_core.specs.Now as machine
-use Rattle.slave_core.specs.Slave.{Outcome, drops, refuses, reset_by_peer, settles, on_session, on_opened, on_frame}
-use Rattle.slave_core.specs.Taken.{next_state, reply}
-use Rattle.slave_core.specs.ViewOf.{Notes, notes_of, kit_of, now_in, view_in}
 use Rattle.slave_core.proofs.Sound.{SoundAt}
 
 -- the frame that came

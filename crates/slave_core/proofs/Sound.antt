@@ -1,16 +1,9 @@
 -- What holds of a slave in each state, after every run.
+use Rattle.slave_core.proofs.Common.{Deed, Notes, OfSlave, SlaveSettings, State, count_in, limit, notes_of, number_at, offer, piece_len, since, state_of, terms_in, ticks}
 use Rattle.std.proofs.Common.{◌≡◌, ◌≢◌, ℕ, ◌*◌, ◌<◌, ◌≤◌, List, [], length, replicate, Some, None, unwrap_or}
-use Rattle.fsoe_base.specs.declared.command.State.{State}
 use Rattle.fsoe_base.specs.declared.command.State.TheVariants as state
 use Rattle.seq_chain.specs.Chain.{fresh}
-use Rattle.param_load.specs.declared.slave_settings.SlaveSettings.{SlaveSettings}
-use Rattle.param_load.specs.Payload.{number_at}
-use Rattle.end_model.specs.Setup.{OfSlave, piece_len}
-use Rattle.end_model.specs.Deed.{Deed}
-use Rattle.end_model.specs.Chain.{since, taken}
-use Rattle.end_model.specs.Payloads.{count_in, terms_in}
-use Rattle.end_model.specs.Readiness.{state_of, offer, ticks, limit}
-use Rattle.slave_core.specs.ViewOf.{Notes, notes_of}
+use Rattle.end_model.specs.Chain.{taken}
 
 -- the Session frames that were taken in this session
 abbrev pub count_of : List Deed → ℕ

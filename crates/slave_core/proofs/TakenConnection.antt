@@ -1,36 +1,17 @@
 -- A Connection frame that passed the tests: what the machine does is what looking back gives.
+use Rattle.slave_core.proofs.Common.{Chain, Code, Deed, OfSlave, Outcome, SessionFrameView, SlaveSettings, State, UploadView, advanced, as_now, begun, code, conn_id, connection_reply, connection_taking, contents, has_command, judged_contents, kit_of, notes_of, number_at, on_verdict, or_reset, outcome_by, padded, piece_len, session_of, settles, slave_conn, slave_limit, state_of, takes_frame, upload_of, view_in}
 use Rattle.std.proofs.Common.{◌≡◌, ◌==◌, ℕ, ◌+◌, ◌-◌, ◌<◌, ◌≤◌, nat_le, nat_lt, Bool, true, false, ◌&&◌, not, List, [], ◌∷◌, ◌++◌, length, take, drop, Option, Some, None, if◌then◌else◌, refl, sym, ap, ap₂, subst, ◌∙◌, inl, inr, arith}
 use Rattle.std.specs.Option.{option_or}
 use Rattle.std.proofs.lemmas.List.{get_or_append_left}
 use Rattle.std.proofs.lemmas.Bool.{eqb-true}
 use Rattle.std.proofs.lemmas.Bool.Decides.{leb_tells}
-use Rattle.fsoe_base.specs.declared.command.Code.{Code}
 use Rattle.fsoe_base.specs.declared.command.Command.TheVariants as command
-use Rattle.fsoe_base.specs.declared.command.State.{State}
-use Rattle.fsoe_base.specs.Command.{code}
-use Rattle.seq_chain.specs.declared.chain.Chain.{Chain}
 use Rattle.param_load.specs.declared.app_rule.AppRule.{AppRule}
 use Rattle.param_load.specs.declared.contents.Expected.TheVariants as expected
 use Rattle.param_load.specs.declared.entry.Move.TheVariants as move
-use Rattle.param_load.specs.declared.slave_settings.SlaveSettings.{SlaveSettings}
 use Rattle.param_load.specs.Contents.{fails, connection_fault, padding_fault, contents_fault}
-use Rattle.param_load.specs.Payload.{number_at, padded}
-use Rattle.param_load.specs.Upload.{advanced, outcome_by}
-use Rattle.param_load.specs.UploadView.{UploadView}
-use Rattle.end_model.specs.Setup.{OfSlave, piece_len}
-use Rattle.end_model.specs.Phases.{has_command}
-use Rattle.end_model.specs.Deed.{Deed}
-use Rattle.end_model.specs.Payloads.{slave_conn, conn_id}
-use Rattle.end_model.specs.Readiness.{state_of, slave_limit}
-use Rattle.end_model.specs.Step.{takes_frame, on_verdict, begun}
-use Rattle.end_model.specs.Verdict.{judged_contents, contents}
 use Rattle.slave_core.specs.declared.now.Now.TheVariants as now
 use Rattle.slave_core.specs.declared.states.InConnection.{InConnection}
-use Rattle.seq_chain.specs.SessionFrame.{SessionFrameView}
-use Rattle.slave_core.specs.Slave.{Outcome, settles}
-use Rattle.slave_core.specs.States.{or_reset, connection_taking, connection_reply}
-use Rattle.slave_core.specs.Taken.{as_now}
-use Rattle.slave_core.specs.ViewOf.{session_of, notes_of, kit_of, upload_of, view_in}
 use Rattle.slave_core.proofs.Sound.{Sound}
 use Rattle.slave_core.proofs.SameVerdict.{came}
 use Rattle.slave_core.proofs.Agrees.{Agrees, same_slave, fresh_limit, fault-agrees}

@@ -1,35 +1,14 @@
 -- A data frame that passed the tests: what the machine does is what looking back gives.
+use Rattle.slave_core.proofs.Common.{AreBytes, Chain, Command, Deed, IsRun, OfSlave, Outcome, SessionFrameView, SlaveSettings, SlaveView, State, Terms, answered, as_now, begun, bytes_of, code, command_byte, deed_of, held, is_reset, judged_contents, kit_of, no_session, notes_of, number_at, offer, on_verdict, phase_of, session_of, settles, slave_conn, slave_limit, state_of, takes_frame, view_in, view_of, whole, with_data}
 use Rattle.std.proofs.Common.{◌≡◌, ◌==◌, ℕ, ◌<◌, List, ◌∷◌, length, replicate, Bool, true, false, Some, None, Ok, Err, if◌then◌else◌, refl, sym, ap, subst, ◌∙◌}
 use Rattle.std.proofs.lemmas.List.{length-replicate}
-use Rattle.fsoe_base.specs.declared.command.Command.{Command}
 use Rattle.fsoe_base.specs.declared.command.Command.TheVariants as command
-use Rattle.fsoe_base.specs.declared.command.State.{State}
 use Rattle.fsoe_base.specs.declared.command.State.TheVariants as state
-use Rattle.fsoe_base.specs.Command.{command_byte, code}
-use Rattle.fsoe_frame.specs.Parts.{AreBytes, bytes_of}
 use Rattle.failsafe_io.specs.Offer.{data_command, data_load}
 use Rattle.failsafe_io.specs.Outputs.{outputs_of}
-use Rattle.seq_chain.specs.declared.chain.Chain.{Chain}
 use Rattle.param_load.specs.declared.entry.Move.TheVariants as move
-use Rattle.param_load.specs.declared.slave_settings.SlaveSettings.{SlaveSettings}
-use Rattle.param_load.specs.declared.terms.Terms.{Terms}
-use Rattle.param_load.specs.Payload.{number_at}
-use Rattle.end_model.specs.Setup.{OfSlave}
-use Rattle.end_model.specs.Phases.{phase_of, is_reset}
 use Rattle.end_model.specs.Outputs.{is_process}
-use Rattle.end_model.specs.Deed.{Deed}
-use Rattle.end_model.specs.Payloads.{slave_conn, whole}
-use Rattle.end_model.specs.Readiness.{state_of, offer, held, slave_limit}
-use Rattle.end_model.specs.Step.{takes_frame, on_verdict, begun, with_data, deed_of}
-use Rattle.end_model.specs.Runs.{IsRun}
-use Rattle.end_model.specs.Verdict.{judged_contents}
 use Rattle.slave_core.specs.declared.now.Now.TheVariants as now
-use Rattle.seq_chain.specs.SessionFrame.{SessionFrameView}
-use Rattle.slave_core.specs.Slave.{Outcome, settles}
-use Rattle.slave_core.specs.SlaveView.{SlaveView}
-use Rattle.slave_core.specs.States.{no_session, answered}
-use Rattle.slave_core.specs.Taken.{as_now}
-use Rattle.slave_core.specs.ViewOf.{session_of, notes_of, kit_of, view_in, view_of}
 use Rattle.slave_core.proofs.Sound.{Sound}
 use Rattle.slave_core.proofs.SameVerdict.{came}
 use Rattle.slave_core.proofs.Agrees.{Agrees, slave_at, same_slave, fault-agrees}

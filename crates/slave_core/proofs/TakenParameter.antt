@@ -1,37 +1,15 @@
 -- A Parameter frame that passed the tests: what the machine does is what looking back gives.
+use Rattle.slave_core.proofs.Common.{Chain, Code, Deed, IsRun, OfSlave, Outcome, SessionFrameView, SlaveSettings, SlaveShows, State, UploadView, advanced, as_now, begun, conn_id, deed_of, id_len, judged_contents, kit_of, notes_of, number_at, on_verdict, or_reset, outcome_by, padded, parameter_reply, parameter_taking, parameters, piece_len, rule_len, session_of, settles, slave-run, slave_conn, slave_limit, state_of, takes_frame, upload_of, view_in, whole}
 use Rattle.std.proofs.Common.{◌≡◌, ℕ, ◌+◌, ◌-◌, ◌<◌, ◌≤◌, nat_le, Bool, true, false, List, ◌∷◌, ◌++◌, length, take, drop, Option, Some, None, unwrap_or, if◌then◌else◌, refl, sym, ap, ap₂, ◌∙◌, arith}
 use Rattle.std.proofs.lemmas.Bool.{leb-true}
-use Rattle.fsoe_base.specs.declared.command.Code.{Code}
 use Rattle.fsoe_base.specs.declared.command.Command.TheVariants as command
-use Rattle.fsoe_base.specs.declared.command.State.{State}
 use Rattle.fsoe_base.specs.declared.command.State.TheVariants as state
-use Rattle.seq_chain.specs.declared.chain.Chain.{Chain}
 use Rattle.param_load.specs.declared.contents.Expected.{Expected}
 use Rattle.param_load.specs.declared.contents.Expected.TheVariants as expected
 use Rattle.param_load.specs.declared.entry.Move.TheVariants as move
-use Rattle.param_load.specs.declared.slave_settings.SlaveSettings.{SlaveSettings}
-use Rattle.param_load.specs.AppRule.{rule_len}
-use Rattle.param_load.specs.Payload.{number_at, padded}
-use Rattle.param_load.specs.Profile.{id_len}
-use Rattle.param_load.specs.Upload.{advanced, outcome_by}
-use Rattle.param_load.specs.UploadView.{UploadView}
-use Rattle.end_model.specs.Setup.{OfSlave, piece_len}
-use Rattle.end_model.specs.Deed.{Deed}
-use Rattle.end_model.specs.Payloads.{slave_conn, conn_id, whole}
-use Rattle.end_model.specs.Readiness.{state_of, slave_limit}
-use Rattle.end_model.specs.Step.{takes_frame, on_verdict, begun, deed_of}
-use Rattle.end_model.specs.Runs.{IsRun}
-use Rattle.end_model.specs.Verdict.{judged_contents}
-use Rattle.end_model.proofs.Shown.{slave-run}
-use Rattle.end_model.proofs.SlaveShown.{SlaveShows, parameters}
 use Rattle.end_model.proofs.WholeUploads.{whole_parameters}
 use Rattle.slave_core.specs.declared.now.Now.TheVariants as now
 use Rattle.slave_core.specs.declared.states.InParameter.{InParameter}
-use Rattle.seq_chain.specs.SessionFrame.{SessionFrameView}
-use Rattle.slave_core.specs.Slave.{Outcome, settles}
-use Rattle.slave_core.specs.States.{or_reset, parameter_taking, parameter_reply}
-use Rattle.slave_core.specs.Taken.{as_now}
-use Rattle.slave_core.specs.ViewOf.{session_of, notes_of, kit_of, upload_of, view_in}
 use Rattle.slave_core.proofs.Sound.{Sound}
 use Rattle.slave_core.proofs.SameVerdict.{came}
 use Rattle.slave_core.proofs.Agrees.{Agrees, same_slave, fault-agrees}

@@ -1,36 +1,21 @@
 -- Each transition of a typed state goes on as looking back says.
+use Rattle.slave_core.proofs.Common.{Code, Deed, IsSoundSlave, Now, OfSlave, Outcome, SessionFrameView, SlaveSettings, SlaveView, State, after, as_now, did_on, drops, fallen, fault, is_repeat, is_whole, kept_in, limit_of, next_state, on_fault, on_opened, on_session, refuses, refuses_contents, reply, settles, state_of, step, taken, view_in, view_of}
 use Rattle.std.proofs.Common.{◌≡◌, ℕ, List, ◌∷◌, Bool, true, false, IsTrue, None, Result, Ok, Err, IfOk, IfErr, OnOk, OnErr, if◌then◌else◌, refl, sym, ap, subst, ◌∙◌}
-use Rattle.fsoe_base.specs.declared.command.Code.{Code}
-use Rattle.fsoe_base.specs.declared.command.State.{State}
 use Rattle.fsoe_base.specs.declared.command.State.TheVariants as state
 use Rattle.fsoe_base.specs.declared.did.Dropped.TheVariants as dropped
 use Rattle.failsafe_io.specs.Timer.{Timer, started}
 use Rattle.seq_chain.specs.Opened.{opened}
-use Rattle.seq_chain.specs.SessionFrame.{SessionFrameView}
 use Rattle.param_load.specs.declared.entry.Move.TheVariants as move
-use Rattle.param_load.specs.declared.slave_settings.SlaveSettings.{SlaveSettings}
-use Rattle.param_load.specs.Upload.{is_whole}
-use Rattle.end_model.specs.Setup.{OfSlave}
-use Rattle.end_model.specs.Deed.{Deed}
-use Rattle.end_model.specs.Readiness.{state_of}
-use Rattle.end_model.specs.Verdict.{is_repeat}
-use Rattle.end_model.specs.Step.{on_fault, did_on, step}
-use Rattle.slave_core.specs.declared.now.Now.{Now}
 use Rattle.slave_core.specs.declared.now.Now.TheVariants as now
 use Rattle.slave_core.specs.declared.states.InReset.{InReset}
 use Rattle.slave_core.specs.declared.states.InSession.{InSession}
 use Rattle.slave_core.specs.declared.states.InConnection.{InConnection}
 use Rattle.slave_core.specs.declared.states.InParameter.{InParameter}
 use Rattle.slave_core.specs.declared.states.InData.{InData}
-use Rattle.slave_core.specs.After.{after}
 use Rattle.slave_core.specs.GoesOn.{Meets, IsTaken, IsRefused, GoesOn}
 use Rattle.slave_core.specs.Kit.{KitView}
-use Rattle.slave_core.specs.Now.{is_reset, kept_in, limit_of, fault}
-use Rattle.slave_core.specs.Slave.{Outcome, drops, fallen, refuses, refuses_contents, taken, settles, on_session, on_opened}
-use Rattle.slave_core.specs.SlaveView.{SlaveView, IsSoundSlave}
+use Rattle.slave_core.specs.Now.{is_reset}
 use Rattle.slave_core.specs.States as states
-use Rattle.slave_core.specs.Taken.{as_now, next_state, reply}
-use Rattle.slave_core.specs.ViewOf.{view_in, view_of}
 use Rattle.slave_core.proofs.Agrees.{Agrees}
 use Rattle.slave_core.proofs.Agreed.{agrees, run-sound}
 

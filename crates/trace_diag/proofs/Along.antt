@@ -1,26 +1,10 @@
 -- Along a trace: what it tells after one more frame, and which frame that is.
+use Rattle.trace_diag.proofs.Common.{Asked, Both, Chained, Deed, Down, End, Entry, Event, IsDown, IsReplied, IsUp, MasterSettings, Noted, Partner, Replied, Stage, Up, both, chained, deed_in, deeds, deliveries_to, has_command, is_delivery, is_empty, master_of, own, partner, peer, phase_due, phase_from, phase_of_frame, phase_sent, phase_taken, reset_frame, same_end, setup_of, since, slave_of, taken, turn}
 use Rattle.std.proofs.Common.{◌≡◌, ℕ, suc, List, ◌∷◌, Bool, false, refl, sym, ap, subst, ◌∙◌, ◌&&◌, if◌then◌else◌}
 use Rattle.fsoe_base.specs.declared.command.Command.TheVariants as command
-use Rattle.fsoe_base.specs.declared.command.End.{End}
 use Rattle.fsoe_base.specs.declared.command.End.TheVariants as end_name
 use Rattle.fsoe_base.specs.declared.command.State.TheVariants as state
-use Rattle.seq_chain.specs.Reset.{reset_frame}
-use Rattle.param_load.specs.declared.entry.Entry.{Entry}
-use Rattle.param_load.specs.declared.master_settings.MasterSettings.{MasterSettings}
-use Rattle.schedule_file.specs.declared.event.Event.{Event}
-use Rattle.end_model.specs.Chain.{own, since, taken}
-use Rattle.end_model.specs.Deed.{is_empty, Deed}
-use Rattle.end_model.specs.Phases.{has_command, phase_of_frame}
-use Rattle.end_model.specs.Readiness.{phase_sent, phase_taken}
-use Rattle.exchange_model.specs.Ends.{peer, same_end}
-use Rattle.exchange_model.specs.Serving.{deliveries_to, is_delivery}
-use Rattle.exchange_model.specs.World.{deed_in, deeds, setup_of}
 use Rattle.exchange_model.proofs.Alone.Uploads.{since_on}
-use Rattle.exchange_model.proofs.Honest.OnItsWay.{Chained, chained}
-use Rattle.exchange_model.proofs.Honest.Stages.{both, Asked, Both, Down, Replied, Stage, Up, IsDown, IsReplied, IsUp}
-use Rattle.exchange_model.proofs.Honest.Turns.{master_of, partner, slave_of, Partner}
-use Rattle.trace_diag.specs.Before.{phase_due, phase_from}
-use Rattle.trace_diag.specs.Trace.{turn, Noted}
 use Rattle.trace_diag.proofs.Answering.{is_answered, its_end}
 use Rattle.trace_diag.proofs.MasterRows.{IsPlain}
 use Rattle.trace_diag.proofs.NextFrames.{from_down, from_up, NextFrame, ResetNext, MasterNext, SlaveNext}

@@ -1,28 +1,12 @@
 -- A delivery that is taken without a reset is answered: the entry sends a frame.
+use Rattle.trace_diag.proofs.Common.{Command, Deed, Entry, Frame, HasNoReset, MasterSettings, Move, OfMaster, OfSlave, Setup, SlaveSettings, TakesDelivery, after_phase, answer, begun, bytes_of, command_byte, conn_id, count_crcs, count_in, delivery, did_on, download_frame, end_of, entry_on, groups, has_command, held, id_piece, is_data_frame, is_empty, is_guarded, master_answer, next_entry, offer, own, pay, phase_of, pieces, reset_crcs, reset_frame, reset_load, seal, sealed, sends, sent_on, session_id, since, slave_answer, with_data, with_piece}
 use Rattle.std.proofs.Common.{◌≡◌, ℕ, suc, nat_lt, List, ◌∷◌, length, replicate, Bool, true, false, Option, Some, None, IsSome, refl, sym, ap, subst, ◌∙◌, if◌then◌else◌}
-use Rattle.fsoe_base.specs.declared.command.Command.{Command}
 use Rattle.fsoe_base.specs.declared.command.Command.TheVariants as command
 use Rattle.fsoe_base.specs.declared.did.Cause.{Cause}
 use Rattle.fsoe_base.specs.declared.did.Took.{Took}
-use Rattle.fsoe_base.specs.Command.{command_byte}
-use Rattle.fsoe_frame.specs.Layout.{groups}
-use Rattle.fsoe_frame.specs.Parts.{bytes_of, Frame}
-use Rattle.seq_chain.specs.Reset.{reset_crcs, reset_frame, reset_load}
-use Rattle.param_load.specs.declared.entry.Entry.{Entry}
-use Rattle.param_load.specs.declared.entry.Move.{Move}
 use Rattle.param_load.specs.declared.entry.Move.TheVariants as move
-use Rattle.param_load.specs.declared.master_settings.MasterSettings.{MasterSettings}
-use Rattle.param_load.specs.declared.slave_settings.SlaveSettings.{SlaveSettings}
-use Rattle.end_model.specs.Deed.{Deed, is_empty}
-use Rattle.end_model.specs.Payloads.{conn_id, pay, pieces, count_in, session_id}
-use Rattle.end_model.proofs.ReadBack.{count_crcs}
-use Rattle.end_model.specs.Chain.{since, own, seal}
-use Rattle.end_model.specs.Phases.{has_command, is_data_frame, is_guarded, phase_of}
-use Rattle.end_model.specs.Readiness.{held, offer}
-use Rattle.end_model.specs.Setup.{Setup, OfMaster, OfSlave, sends, piece_len, end_of}
-use Rattle.end_model.specs.Step.{id_piece, sealed, with_data, with_piece, download_frame, after_phase, goes_on, master_answer, slave_answer, answer, sent_on, begun, did_on}
-use Rattle.exchange_model.specs.Serving.{HasNoReset, TakesDelivery}
-use Rattle.exchange_model.specs.World.{delivery, entry_on, next_entry}
+use Rattle.end_model.specs.Setup.{piece_len}
+use Rattle.end_model.specs.Step.{goes_on}
 
 -- a frame that was laid out, with a CRC for each group
 pub record IsMade (g : List ℕ) : Type 0 where

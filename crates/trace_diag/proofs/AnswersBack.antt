@@ -1,29 +1,12 @@
 -- What follows where no row of the table applies to an answer of the slave: it carries what an answer does in its turn.
+use Rattle.trace_diag.proofs.Common.{Before, Command, Frame, MasterSettings, Profile, Replies, State, all_zero, command_byte, conn_holds, connection_payload, first_failing, id_holds, is_guarded, is_padded, is_reset, padded, padded_len, padded_twice, parameter_payload, payload_holds, piece, piece_holds, piece_short, session_long, session_payload, width, wrong_byte, wrong_in_echo, zeros_all}
 use Rattle.std.proofs.Common.{◌≡◌, ℕ, suc, ◌+◌, ◌-◌, ◌*◌, ◌<◌, ◌≤◌, ◌==◌, nat_lt, min, List, ◌++◌, length, take, drop, replicate, Bool, true, false, ◌||◌, None, refl, sym, ap, ap₂, ◌∙◌, arith, ◌⊎◌, inl, inr, if◌then◌else◌}
 use Rattle.std.proofs.lemmas.Bool.{eqb-true, lt-ltb, le-ltb}
 use Rattle.std.proofs.lemmas.List.{ext_get_or, get_or-drop, length-take, length-drop, length-replicate}
-use Rattle.fsoe_base.specs.declared.command.Command.{Command}
 use Rattle.fsoe_base.specs.declared.command.Command.TheVariants as command
 use Rattle.fsoe_base.specs.declared.command.End.TheVariants as end_name
-use Rattle.fsoe_base.specs.declared.command.State.{State}
 use Rattle.fsoe_base.specs.declared.command.State.TheVariants as state
-use Rattle.fsoe_base.specs.Bytes.{all_zero}
-use Rattle.fsoe_base.specs.Command.{command_byte}
-use Rattle.fsoe_frame.specs.Parts.{Frame}
-use Rattle.param_load.specs.declared.master_settings.MasterSettings.{MasterSettings}
-use Rattle.param_load.specs.declared.profile.Profile.{Profile}
 use Rattle.param_load.specs.declared.profile.Profile.TheVariants as profile
-use Rattle.param_load.specs.Payload.{is_padded, session_payload, connection_payload, parameter_payload, padded}
-use Rattle.end_model.specs.Payloads.{piece}
-use Rattle.end_model.specs.Phases.{is_reset, is_guarded}
-use Rattle.end_model.proofs.SealedFrames.{padded_len}
-use Rattle.exchange_model.proofs.Alone.Pieces.{piece_short}
-use Rattle.exchange_model.proofs.Honest.Fronts.{padded_twice}
-use Rattle.exchange_model.proofs.Honest.ResetFrames.{zeros_all}
-use Rattle.exchange_model.proofs.Honest.SlaveTurn.{Replies}
-use Rattle.exchange_model.proofs.Honest.Turns.{width, session_long}
-use Rattle.trace_diag.specs.Before.{Before}
-use Rattle.trace_diag.specs.Table.{conn_holds, id_holds, payload_holds, piece_holds, first_failing, wrong_in_echo, wrong_byte}
 use Rattle.trace_diag.proofs.MasterRows.{IsPlain}
 use Rattle.trace_diag.proofs.NoField.{IsRight}
 use Rattle.trace_diag.proofs.NoneApplies.{AllHold, none_fails}

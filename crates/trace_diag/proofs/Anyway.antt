@@ -1,36 +1,17 @@
 -- An end answers the frame on its way whatever is put before, so that the frames of a run come in turn.
+use Rattle.trace_diag.proofs.Common.{Accepts, Command, Deed, End, Entry, Event, Frame, HasNoReset, MasterSettings, Move, OfMaster, OfSlave, Partner, Setup, TakesDelivery, begun, contents, deeds, delivery, did_on, end_of, entry_on, fault_after, frames_of, going_on, is_empty, is_repeat, judged, judged_contents, judged_session, kept, next_entry, on_verdict, partner, quiet, receives, sent_in, set_for, since, state_of, world_after}
 use Rattle.std.proofs.Common.{◌≡◌, ℕ, ◌+◌, List, [], ◌∷◌, ◌++◌, length, replicate, Bool, true, false, Option, Some, None, IsSome, refl, sym, ap, subst, ◌∙◌, arith, if◌then◌else◌}
 use Rattle.fsoe_base.specs.declared.command.Code.{Code}
-use Rattle.fsoe_base.specs.declared.command.Command.{Command}
 use Rattle.fsoe_base.specs.declared.command.Command.TheVariants as command
-use Rattle.fsoe_base.specs.declared.command.End.{End}
 use Rattle.fsoe_base.specs.declared.command.End.TheVariants as end_name
 use Rattle.fsoe_base.specs.declared.did.Did.{Did}
-use Rattle.fsoe_frame.specs.Parts.{Frame}
 use Rattle.seq_chain.specs.SessionFrame.{SessionFrameView}
 use Rattle.seq_chain.specs.declared.opened.Opened.{Opened}
 use Rattle.seq_chain.specs.declared.opened.Opened.TheVariants as opened_as
 use Rattle.seq_chain.specs.Opened.{opened}
-use Rattle.param_load.specs.declared.entry.Entry.{Entry}
-use Rattle.param_load.specs.declared.entry.Move.{Move}
 use Rattle.param_load.specs.declared.entry.Move.TheVariants as move
-use Rattle.param_load.specs.declared.master_settings.MasterSettings.{MasterSettings}
-use Rattle.schedule_file.specs.declared.event.Event.{Event}
 use Rattle.schedule_file.specs.declared.event.Event.TheVariants as event
 use Rattle.black_channel.specs.Altered.{back_th}
-use Rattle.end_model.specs.Chain.{kept, since}
-use Rattle.end_model.specs.Deed.{is_empty, Deed}
-use Rattle.end_model.specs.Readiness.{state_of}
-use Rattle.end_model.specs.Setup.{end_of, receives, OfMaster, OfSlave, Setup}
-use Rattle.end_model.specs.Step.{begun, did_on, on_verdict}
-use Rattle.end_model.specs.Verdict.{contents, fault_after, is_repeat, judged, judged_contents, judged_session}
-use Rattle.exchange_model.specs.Serving.{HasNoReset, TakesDelivery}
-use Rattle.exchange_model.specs.World.{deeds, delivery, entry_on, frames_of, going_on, next_entry, world_after}
-use Rattle.exchange_model.proofs.Honest.QuietEvents.{quiet}
-use Rattle.exchange_model.proofs.Honest.SlaveTurn.{Accepts}
-use Rattle.exchange_model.proofs.Honest.Turns.{partner, Partner}
-use Rattle.trace_diag.specs.Conforms.{sent_in}
-use Rattle.trace_diag.specs.Schedule.{set_for}
 use Rattle.trace_diag.proofs.Answering.{answered}
 use Rattle.trace_diag.proofs.Running.{delivered_on, held_put, plainly, IsOn, Reaches}
 

@@ -1,37 +1,9 @@
 -- Where two ends send the frames of a trace, no row of the table applies to any of them.
+use Rattle.trace_diag.proofs.Common.{Accepts, Difference, End, Entry, Event, Field, Frame, MasterSettings, Noted, OfMaster, Partner, answer_events, before, chain_of, command_byte, command_in, count_crcs, count_groups, entry_at, events_before, field_of, first_difference, first_of_both, frame_len, frame_of, going_on, groups, halves, is_empty, is_length, is_reset_frame, length_of, partner, read_schedule, reset_crcs, reset_frame, reset_load, same_end, sealed_by, sent_in, slave_of, turn, turned, whole, width, world, world_after}
 use Rattle.std.proofs.Common.{◌≡◌, ℕ, zero, suc, ◌+◌, List, [], ◌∷◌, ◌++◌, length, drop, replicate, Bool, true, false, ◌/◌, if◌then◌else◌, Option, Some, None, IsTrue, refl, sym, ap, ap₂, subst, ◌∙◌, arith}
 use Rattle.std.proofs.lemmas.List.{append_assoc, length-append, length-replicate}
-use Rattle.fsoe_base.specs.Lengths.{frame_len, is_length}
-use Rattle.fsoe_base.specs.LengthsOf.{length_of}
-use Rattle.fsoe_base.specs.declared.command.End.{End}
 use Rattle.fsoe_base.specs.declared.command.End.TheVariants as end_name
-use Rattle.fsoe_base.specs.Command.{command_byte}
-use Rattle.fsoe_frame.proofs.Places.{whole}
-use Rattle.fsoe_frame.specs.Layout.{groups}
-use Rattle.fsoe_frame.specs.Parts.{Frame, frame_of}
-use Rattle.seq_chain.specs.Chain.{sealed_by, turned}
-use Rattle.seq_chain.specs.Reset.{reset_crcs, reset_frame, reset_load}
-use Rattle.param_load.specs.declared.entry.Entry.{Entry}
-use Rattle.param_load.specs.declared.master_settings.MasterSettings.{MasterSettings}
-use Rattle.schedule_file.specs.declared.event.Event.{Event}
-use Rattle.end_model.proofs.ReadBack.{count_crcs, count_groups, halves}
-use Rattle.end_model.specs.Deed.{is_empty}
-use Rattle.end_model.specs.Phases.{command_in}
-use Rattle.end_model.specs.Setup.{OfMaster}
-use Rattle.exchange_model.specs.Ends.{same_end}
-use Rattle.exchange_model.specs.World.{entry_at, going_on, world, world_after}
-use Rattle.exchange_model.proofs.Honest.ResetFrames.{is_reset_frame}
-use Rattle.exchange_model.proofs.Honest.SlaveTurn.{Accepts}
-use Rattle.exchange_model.proofs.Honest.Turns.{partner, slave_of, width, Partner}
 use Rattle.exchange_model.proofs.Worlds.Longer.{world_on}
-use Rattle.trace_diag.specs.Before.{before, chain_of}
-use Rattle.trace_diag.specs.Conforms.{sent_in}
-use Rattle.trace_diag.specs.Judged.{first_difference, first_of_both}
-use Rattle.trace_diag.specs.declared.difference.Difference.{Difference}
-use Rattle.trace_diag.specs.Schedule.{answer_events, events_before, read_schedule}
-use Rattle.trace_diag.specs.Table.{field_of}
-use Rattle.trace_diag.specs.Trace.{turn, Noted}
-use Rattle.trace_diag.specs.declared.field.Field.{Field}
 use Rattle.trace_diag.proofs.Anyway.{sends_anyway, SendsMore}
 use Rattle.trace_diag.proofs.Frames.{read_as}
 use Rattle.trace_diag.proofs.LockStep.{first_runs, next_runs}

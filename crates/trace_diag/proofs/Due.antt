@@ -1,24 +1,14 @@
 -- Which phase the master's next frame is of, by the pieces that it sent.
+use Rattle.trace_diag.proofs.Common.{Command, FirstConnection, FirstParameter, FirstValues, FirstZeros, IsBegun, MasterSettings, MoreConnection, MoreParameter, MoreSession, MoreValues, MoreZeros, Profile, Starts, State, Turn, all_come, connection_payload, connection_pieces, front, front_begun, front_long, goes_on, not_yet, number_at, parameter_payload, parameter_pieces, phase_of, pieces_for, session_payload, session_pieces, some_width, width}
 use Rattle.std.proofs.Common.{◌≡◌, ℕ, ◌+◌, ◌*◌, ◌<◌, ◌≤◌, nat_le, List, [], length, Bool, true, false, refl, sym, ap, subst, ◌∙◌, arith, if◌then◌else◌}
 use Rattle.std.proofs.lemmas.Bool.Decides.{nat_tests}
-use Rattle.fsoe_base.specs.declared.command.Command.{Command}
-use Rattle.fsoe_base.specs.declared.command.State.{State}
 use Rattle.fsoe_base.specs.declared.command.State.TheVariants as state
-use Rattle.param_load.specs.declared.master_settings.MasterSettings.{MasterSettings}
-use Rattle.param_load.specs.declared.profile.Profile.{Profile}
 use Rattle.param_load.specs.declared.profile.Profile.TheVariants as profile
-use Rattle.param_load.specs.Payload.{connection_payload, number_at, parameter_payload, session_payload}
 use Rattle.param_load.specs.Profile.{id_len}
 use Rattle.end_model.proofs.WholeUploads.{by_count}
-use Rattle.end_model.specs.Payloads.{pieces_for, whole}
-use Rattle.end_model.specs.Phases.{phase_of}
-use Rattle.exchange_model.proofs.Alone.Pieces.{front}
-use Rattle.exchange_model.proofs.Honest.Fronts.{all_come, front_begun, front_long, not_yet, IsBegun}
-use Rattle.exchange_model.proofs.Honest.SlaveTurn.{some_width}
-use Rattle.exchange_model.proofs.Honest.Turns.{connection_pieces, parameter_pieces, session_pieces, width, Turn, Starts, MoreSession, FirstConnection, MoreConnection, FirstParameter, MoreParameter, FirstZeros, FirstValues, MoreZeros, MoreValues}
+use Rattle.end_model.specs.Payloads.{whole}
 use Rattle.exchange_model.proofs.Honest.UploadTests.{parameters_count}
 use Rattle.trace_diag.proofs.MasterRows.{IsPlain}
-use Rattle.trace_diag.specs.Before.{goes_on}
 
 -- the first pieces of the payload of a phase, of which so many were sent
 abbrev pub front_in : MasterSettings → State → ℕ → ℕ → ℕ → List ℕ

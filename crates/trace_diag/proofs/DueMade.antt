@@ -1,16 +1,7 @@
 -- The frame that is due in place of one, with its CRCs.
+use Rattle.trace_diag.proofs.Common.{Before, End, Frame, bytes_of, chain_after, count_groups, crcs_due, due_made, first_differing, frame_len, frame_of, group_count, groups, groups_long, halves, is_length, lengths_add, low_high, parts_made, with_crcs}
 use Rattle.std.proofs.Common.{◌≡◌, ℕ, suc, ◌+◌, ◌*◌, ◌/◌, List, length, None, IsTrue, refl, sym, ap, subst, ◌∙◌}
 use Rattle.std.proofs.lemmas.List.{length-append}
-use Rattle.fsoe_base.specs.Bytes.{low_high}
-use Rattle.fsoe_base.specs.Lengths.{frame_len, group_count, is_length}
-use Rattle.fsoe_base.specs.declared.command.End.{End}
-use Rattle.fsoe_frame.specs.Layout.{groups, with_crcs}
-use Rattle.fsoe_frame.specs.Parts.{bytes_of, frame_of, Frame}
-use Rattle.end_model.proofs.ReadBack.{count_groups, halves, parts_made}
-use Rattle.exchange_model.proofs.Honest.OnItsWay.{groups_long, lengths_add}
-use Rattle.trace_diag.specs.Before.{Before}
-use Rattle.trace_diag.specs.Kept.{chain_after, due_made}
-use Rattle.trace_diag.specs.Table.{crcs_due, first_differing}
 use Rattle.trace_diag.proofs.Frames.{same_parts}
 use Rattle.trace_diag.proofs.NoneApplies.{none_differs, same_none}
 use Rattle.trace_diag.proofs.RowsHold.{due_many}

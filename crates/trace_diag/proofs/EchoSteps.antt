@@ -1,10 +1,9 @@
 -- One byte of an answer is compared with the piece that it repeats.
+use Rattle.trace_diag.proofs.Common.{first_differing, padded}
 use Rattle.std.proofs.Common.{◌≡◌, ◌==◌, ℕ, suc, ◌+◌, ◌-◌, ◌<◌, ◌≤◌, List, length, drop, replicate, slice_index, Bool, Some, ap, ap₂, ◌∙◌, arith, if◌then◌else◌}
 use Rattle.std.proofs.Math.Seq.{drop-cons}
 use Rattle.std.proofs.lemmas.Bool.{eq-eqb, ne_eqb}
 use Rattle.std.proofs.lemmas.List.{length-append, length-replicate}
-use Rattle.param_load.specs.Payload.{padded}
-use Rattle.trace_diag.specs.Table.{first_differing}
 use Rattle.trace_diag.proofs.PieceRows.{at_followed}
 
 due-long : (want : List ℕ) (n : ℕ) → n ≤ length (padded want n)

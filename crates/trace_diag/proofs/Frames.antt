@@ -1,8 +1,6 @@
 -- Frames and their parts: a frame of the right length is laid out from what is read of it.
+use Rattle.trace_diag.proofs.Common.{AreBytes, Frame, bytes_of, frame_layout, frame_len, frame_of, group_count, is_length, whole}
 use Rattle.std.proofs.Common.{◌≡◌, ℕ, List, length, IsTrue, sym, ap, subst, ◌∙◌}
-use Rattle.fsoe_base.specs.Lengths.{is_length, group_count, frame_len}
-use Rattle.fsoe_frame.proofs.Places.{frame_layout, whole}
-use Rattle.fsoe_frame.specs.Parts.{Frame, frame_of, bytes_of, AreBytes}
 
 -- bytes that are read as a frame are its layout
 pub laid_out : (l : ℕ) (bytes : List ℕ) (f : Frame) → IsTrue (is_length l) → length bytes ≡ frame_len l → AreBytes bytes → frame_of l bytes ≡ f → bytes ≡ bytes_of f

@@ -1,18 +1,8 @@
 -- The first byte of a frame to which no row on its command applies.
+use Rattle.trace_diag.proofs.Common.{Command, End, Lengths, Noted, command_byte, command_of, frame_at, frame_len, frame_of, is_length, length_of, phase_due, phase_of}
 use Rattle.std.proofs.Common.{◌≡◌, ◌==◌, ℕ, List, [], ◌∷◌, length, Bool, true, false, Option, Some, None, IsTrue, refl, sym, ap, ◌∙◌, arith, if◌then◌else◌}
 use Rattle.std.proofs.lemmas.Bool.{eqb-true}
-use Rattle.fsoe_base.specs.Command.{command_byte, command_of}
-use Rattle.fsoe_base.specs.Lengths.{frame_len, is_length}
-use Rattle.fsoe_base.specs.LengthsOf.{length_of}
-use Rattle.fsoe_base.specs.declared.command.Command.{Command}
 use Rattle.fsoe_base.specs.declared.command.Command.TheVariants as command
-use Rattle.fsoe_base.specs.declared.command.End.{End}
-use Rattle.fsoe_base.specs.declared.lengths.Lengths.{Lengths}
-use Rattle.fsoe_frame.proofs.Places.{frame_at}
-use Rattle.fsoe_frame.specs.Parts.{frame_of}
-use Rattle.end_model.specs.Phases.{phase_of}
-use Rattle.trace_diag.specs.Before.{phase_due}
-use Rattle.trace_diag.specs.Trace.{Noted}
 use Rattle.trace_diag.proofs.PayloadBytes.{valid_at}
 use Rattle.trace_diag.proofs.PayloadRows.{of_phase_due, IsFrom, IsOfPhase}
 

@@ -1,21 +1,9 @@
 -- The judge of a trace stands for the frames that were noted, and its verdict is that on them.
+use Rattle.trace_diag.proofs.Common.{AreBytes, AreOfBytes, Before, Difference, DiffersFirst, End, Field, IsConforming, KnowsUnless, Lengths, Noted, NotesFrame, TraceStands, TraceView, before, field_by, field_of, first_difference, first_of_both, frame_of, kept_from, length_of, piece_len, settings_by, turn, word_if}
 use Rattle.std.proofs.Common.{◌≡◌, ℕ, ◌+◌, ◌*◌, ◌<◌, min, nat_lt, List, [], ◌∷◌, length, take, Bool, Option, Some, None, is_some, false, refl, sym, ap, ap₂, subst, ◌∙◌, arith, if◌then◌else◌}
 use Rattle.std.proofs.lemmas.Bool.Decides.{nat_tests}
 use Rattle.std.proofs.lemmas.List.{get_or-take, length-take}
 use Rattle.std.proofs.lemmas.List.Elements.{All-cons}
-use Rattle.fsoe_base.specs.LengthsOf.{length_of}
-use Rattle.fsoe_base.specs.declared.command.End.{End}
-use Rattle.fsoe_base.specs.declared.lengths.Lengths.{Lengths}
-use Rattle.fsoe_frame.specs.Parts.{frame_of, AreBytes}
-use Rattle.trace_diag.specs.Before.{before, Before}
-use Rattle.trace_diag.specs.Judged.{first_difference, first_of_both, AreOfBytes, KnowsUnless, NotesFrame, TraceStands, TraceView}
-use Rattle.trace_diag.specs.Kept.{kept_from}
-use Rattle.trace_diag.specs.Settings.{settings_by, word_if}
-use Rattle.trace_diag.specs.Table.{field_by, field_of}
-use Rattle.trace_diag.specs.Trace.{piece_len, turn, Noted}
-use Rattle.trace_diag.specs.Verdicts.{DiffersFirst, IsConforming}
-use Rattle.trace_diag.specs.declared.difference.Difference.{Difference}
-use Rattle.trace_diag.specs.declared.field.Field.{Field}
 use Rattle.trace_diag.specs.declared.verdict.ReadOff.{ReadOff}
 use Rattle.trace_diag.proofs.Keeping.{kept_goes}
 use Rattle.trace_diag.proofs.NoField.{IsInTurn}

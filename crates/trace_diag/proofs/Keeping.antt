@@ -1,30 +1,13 @@
 -- What is kept of a trace is what looking back over it says, with one more frame that is as it must be too.
+use Rattle.trace_diag.proofs.Common.{Before, Chain, Command, End, Frame, Lengths, Noted, State, before, chain_after, chain_of, chain_with, command_byte, conn_in, conn_with, connection_from, connection_with, first_conn, frame_of, frames_from, fresh, goes_on, has_all, has_come, has_command, kept_from, length_of, newest_load, newest_piece, number_at, parameters_from, parameters_with, payload_from, peer, phase_due, phase_from, phase_of, phase_of_frame, phase_when, piece_asked, piece_len, piece_of, piece_place, place_when, same_end, same_phase, turn, whole}
 use Rattle.std.proofs.Common.{◌≡◌, ℕ, ◌+◌, ◌*◌, ◌<◌, ◌≤◌, ◌&&◌, nat_le, List, [], ◌∷◌, ◌++◌, length, take, drop, Bool, true, false, Option, Some, None, refl, sym, ap, ap₂, ◌∙◌, arith, ◌⊎◌, inl, inr, if◌then◌else◌}
 use Rattle.std.proofs.lemmas.List.{get_or-take, length-take, take_all, take-append-le}
 use Rattle.std.specs.Option.{option_or}
-use Rattle.fsoe_base.specs.Command.{command_byte}
-use Rattle.fsoe_base.specs.LengthsOf.{length_of}
-use Rattle.fsoe_base.specs.declared.command.Command.{Command}
 use Rattle.fsoe_base.specs.declared.command.Command.TheVariants as command
-use Rattle.fsoe_base.specs.declared.command.End.{End}
 use Rattle.fsoe_base.specs.declared.command.End.TheVariants as end_name
-use Rattle.fsoe_base.specs.declared.command.State.{State}
 use Rattle.fsoe_base.specs.declared.command.State.TheVariants as state
-use Rattle.fsoe_base.specs.declared.lengths.Lengths.{Lengths}
-use Rattle.fsoe_frame.proofs.Places.{whole}
-use Rattle.fsoe_frame.specs.Parts.{frame_of, Frame}
-use Rattle.param_load.specs.Payload.{number_at}
 use Rattle.param_load.specs.declared.profile.Profile.TheVariants as profile
-use Rattle.seq_chain.specs.declared.chain.Chain.{Chain}
-use Rattle.seq_chain.specs.Chain.{fresh}
-use Rattle.end_model.specs.Payloads.{conn_in, first_conn, has_all}
 use Rattle.end_model.specs.Payloads as words
-use Rattle.end_model.specs.Phases.{has_command, phase_of, phase_of_frame, same_phase}
-use Rattle.exchange_model.specs.Ends.{peer, same_end}
-use Rattle.trace_diag.specs.Before.{before, chain_of, chain_with, goes_on, newest_piece, newest_load, phase_due, phase_from, piece_asked, piece_place, Before}
-use Rattle.trace_diag.specs.Kept.{chain_after, connection_with, conn_with, has_come, kept_from, parameters_with, phase_when, piece_of, place_when}
-use Rattle.trace_diag.specs.Settings.{connection_from, parameters_from}
-use Rattle.trace_diag.specs.Trace.{frames_from, payload_from, piece_len, turn, Noted}
 use Rattle.trace_diag.proofs.Heads.{head_of, HasHead}
 use Rattle.trace_diag.proofs.NoField.{IsInTurn}
 use Rattle.trace_diag.proofs.PayloadBytes.{payload_grows}

@@ -36,3 +36,4 @@ pub mod Conforming
 pub mod AnswersBack
 pub mod Inputs
 pub mod Reported
+pub mod Common

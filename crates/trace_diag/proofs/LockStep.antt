@@ -1,37 +1,18 @@
 -- The world over the schedule of a trace: one frame for each of the trace, each from the end whose turn it is, and
 -- after them the last is on its way.
+use Rattle.trace_diag.proofs.Common.{Accepts, AtIdle, End, Enters, Entry, Event, Lengths, MasterSettings, Noted, OfMaster, Partner, answer_events, command_in, deed_of, first_tick, frame_of, going_on, length_of, on_expiry, partner, peer, read_schedule, reset_frame, sent_in, step, turn, world, world_after}
 use Rattle.std.proofs.Common.{◌≡◌, ℕ, suc, ◌-◌, ◌<◌, nat_le, List, [], ◌∷◌, length, replicate, Bool, true, Option, Some, refl, sym, ap, subst, ◌∙◌, arith, if◌then◌else◌}
 use Rattle.std.proofs.lemmas.Bool.Decides.{nat_tests}
 use Rattle.std.proofs.lemmas.List.{length-append, length-replicate}
-use Rattle.fsoe_base.specs.LengthsOf.{length_of}
-use Rattle.fsoe_base.specs.declared.command.End.{End}
 use Rattle.fsoe_base.specs.declared.command.End.TheVariants as end_name
 use Rattle.fsoe_base.specs.declared.command.State.TheVariants as state
-use Rattle.fsoe_base.specs.declared.lengths.Lengths.{Lengths}
-use Rattle.fsoe_frame.specs.Parts.{frame_of}
-use Rattle.seq_chain.specs.Reset.{reset_frame}
-use Rattle.param_load.specs.declared.entry.Entry.{Entry}
 use Rattle.param_load.specs.declared.entry.Move.TheVariants as move
-use Rattle.param_load.specs.declared.master_settings.MasterSettings.{MasterSettings}
-use Rattle.schedule_file.specs.declared.event.Event.{Event}
 use Rattle.schedule_file.specs.declared.event.Event.TheVariants as event
 use Rattle.fsoe_base.specs.Did.{nothing}
 use Rattle.end_model.specs.Entries.{entry_of}
-use Rattle.end_model.specs.Phases.{command_in}
-use Rattle.end_model.specs.Setup.{OfMaster}
-use Rattle.end_model.specs.Step.{deed_of, on_expiry, step}
-use Rattle.exchange_model.specs.Ends.{peer}
-use Rattle.exchange_model.specs.World.{going_on, world, world_after}
 use Rattle.exchange_model.specs.Schedules.{IsProperEvent}
 use Rattle.exchange_model.proofs.Honest.OnItsWay.{fresh}
-use Rattle.exchange_model.proofs.Honest.QuietEvents.{AtIdle, first_tick}
-use Rattle.exchange_model.proofs.Honest.SlaveTurn.{Accepts}
-use Rattle.exchange_model.proofs.Honest.StageSteps.{Enters}
-use Rattle.exchange_model.proofs.Honest.Turns.{Partner, partner}
 use Rattle.exchange_model.proofs.Worlds.Longer.{world_on}
-use Rattle.trace_diag.specs.Conforms.{sent_in}
-use Rattle.trace_diag.specs.Schedule.{answer_events, read_schedule}
-use Rattle.trace_diag.specs.Trace.{Noted, turn}
 use Rattle.trace_diag.proofs.Running.{Answers, IsOn, answer_on}
 
 -- each frame has as many data bytes as its end sends, so that a put of them is proper

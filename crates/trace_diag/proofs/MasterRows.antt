@@ -1,29 +1,11 @@
 -- A frame that carries what a master's carries in its turn, with the CRCs of its chain, is as it must be.
+use Rattle.trace_diag.proofs.Common.{Before, Carries, Command, Frame, MasterSettings, OfMaster, Profile, State, all_zero, command_byte, command_of, conn_after, conn_holds, connection_payload, crcs_due, first_differing, first_failing, front, is_of, is_reset, is_slave_conn, padded, parameter_payload, payload_holds, phase_of, piece, piece_fits, piece_holds, sealed_by, session_payload, some_width, width, wrong_byte, wrong_in_piece}
 use Rattle.std.proofs.Common.{◌≡◌, ℕ, zero, suc, ◌*◌, ◌<◌, ◌≤◌, ◌==◌, List, [], ◌∷◌, ◌++◌, ◌&&◌, length, take, replicate, Bool, true, false, not, Option, None, refl, sym, ap, ap₂, subst, ◌∙◌, arith, if◌then◌else◌}
 use Rattle.std.proofs.lemmas.Bool.{eqb-true, eq-eqb, ne_eqb}
-use Rattle.fsoe_base.specs.declared.command.Command.{Command}
 use Rattle.fsoe_base.specs.declared.command.Command.TheVariants as command
 use Rattle.fsoe_base.specs.declared.command.End.TheVariants as end_name
-use Rattle.fsoe_base.specs.declared.command.State.{State}
 use Rattle.fsoe_base.specs.declared.command.State.TheVariants as state
-use Rattle.fsoe_base.specs.Bytes.{all_zero}
-use Rattle.fsoe_base.specs.Command.{command_byte, command_of}
-use Rattle.fsoe_frame.specs.Parts.{Frame}
-use Rattle.seq_chain.specs.Chain.{sealed_by}
-use Rattle.param_load.specs.declared.master_settings.MasterSettings.{MasterSettings}
-use Rattle.param_load.specs.declared.profile.Profile.{Profile}
 use Rattle.param_load.specs.declared.profile.Profile.TheVariants as profile
-use Rattle.param_load.specs.Payload.{session_payload, connection_payload, parameter_payload, padded}
-use Rattle.end_model.specs.Payloads.{piece}
-use Rattle.end_model.specs.Phases.{phase_of, is_reset}
-use Rattle.end_model.specs.Setup.{OfMaster}
-use Rattle.end_model.specs.Verdict.{is_slave_conn}
-use Rattle.exchange_model.proofs.Alone.Framed.{piece_fits}
-use Rattle.exchange_model.proofs.Alone.Pieces.{front}
-use Rattle.exchange_model.proofs.Honest.SlaveTurn.{Carries, some_width}
-use Rattle.exchange_model.proofs.Honest.Turns.{width, conn_after}
-use Rattle.trace_diag.specs.Before.{Before}
-use Rattle.trace_diag.specs.Table.{is_of, conn_holds, payload_holds, piece_holds, first_failing, first_differing, wrong_in_piece, wrong_byte, crcs_due}
 use Rattle.trace_diag.proofs.NoField.{IsRight}
 use Rattle.trace_diag.proofs.NoneApplies.{AllHold, all_hold, same_none}
 use Rattle.trace_diag.proofs.PieceRows.{session_rows, connection_rows, parameters_rows}

@@ -1,35 +1,10 @@
 -- The frame that the end in turn sends after a trace: a Reset frame, or the next one of its session.
+use Rattle.trace_diag.proofs.Common.{Both, Carries, Chain, Chained, Command, End, FirstConnection, FirstParameter, FirstValues, FirstZeros, InConnection, InData, InParameter, InSession, IsDown, IsUp, MasterSettings, MoreConnection, MoreParameter, MoreSession, MoreValues, MoreZeros, Noted, Partner, Replies, Spot, Starts, State, Turn, before, chain_of, command_byte, conn_after, connection_payload, connection_pieces, count_in, frame_len, frame_of, front, front_long, goes_on, is_reset, length_of, more, newest_crc, newest_piece, parameter_payload, parameter_pieces, payload_from, phase_due, phase_from, phase_of, phase_of_frame, phase_sent, piece_asked, piece_fits, piece_place, reset_frame, same_phase, sealed_by, session_payload, session_pieces, slave_of, some_connection, turn, turned, width}
 use Rattle.std.proofs.Common.{◌≡◌, ℕ, suc, ◌-◌, ◌*◌, ◌<◌, List, [], ◌∷◌, length, take, Bool, true, false, refl, sym, ap, ap₂, subst, ◌∙◌, arith, if◌then◌else◌}
-use Rattle.fsoe_base.specs.LengthsOf.{length_of}
-use Rattle.fsoe_base.specs.declared.command.Command.{Command}
 use Rattle.fsoe_base.specs.declared.command.Command.TheVariants as command
-use Rattle.fsoe_base.specs.declared.command.End.{End}
 use Rattle.fsoe_base.specs.declared.command.End.TheVariants as end_name
-use Rattle.fsoe_base.specs.declared.command.State.{State}
 use Rattle.fsoe_base.specs.declared.command.State.TheVariants as state
-use Rattle.fsoe_base.specs.Command.{command_byte}
-use Rattle.fsoe_base.specs.Lengths.{frame_len}
-use Rattle.fsoe_frame.specs.Parts.{frame_of}
-use Rattle.seq_chain.specs.declared.chain.Chain.{Chain}
-use Rattle.seq_chain.specs.Chain.{sealed_by, turned}
-use Rattle.seq_chain.specs.Reset.{reset_frame}
 use Rattle.seq_chain.specs.Sealing as sealing
-use Rattle.param_load.specs.declared.master_settings.MasterSettings.{MasterSettings}
-use Rattle.param_load.specs.Payload.{connection_payload, parameter_payload, session_payload}
-use Rattle.end_model.specs.Chain.{newest_crc}
-use Rattle.end_model.specs.Payloads.{count_in}
-use Rattle.end_model.specs.Phases.{is_reset, phase_of, phase_of_frame, same_phase}
-use Rattle.end_model.specs.Readiness.{phase_sent}
-use Rattle.exchange_model.proofs.Alone.Framed.{piece_fits}
-use Rattle.exchange_model.proofs.Alone.Pieces.{front}
-use Rattle.exchange_model.proofs.Honest.Fronts.{front_long}
-use Rattle.exchange_model.proofs.Honest.OnItsWay.{Chained}
-use Rattle.exchange_model.proofs.Honest.SlaveTurn.{Carries, Replies}
-use Rattle.exchange_model.proofs.Honest.Stages.{Both, IsDown, IsUp}
-use Rattle.exchange_model.proofs.Honest.StageSteps.{some_connection}
-use Rattle.exchange_model.proofs.Honest.Turns.{conn_after, connection_pieces, more, parameter_pieces, session_pieces, slave_of, width, Partner, Turn, Starts, MoreSession, FirstConnection, MoreConnection, FirstParameter, MoreParameter, FirstZeros, FirstValues, MoreZeros, MoreValues, Spot, InSession, InConnection, InParameter, InData}
-use Rattle.trace_diag.specs.Before.{before, chain_of, goes_on, newest_piece, phase_due, phase_from, piece_asked, piece_place}
-use Rattle.trace_diag.specs.Trace.{payload_from, turn, Noted}
 use Rattle.trace_diag.proofs.Due.{due_next, front_in}
 use Rattle.trace_diag.proofs.MasterRows.{IsDue, IsPlaced, IsPlain}
 use Rattle.trace_diag.proofs.SlaveRows.{IsDueBack, Repeats}

@@ -1,20 +1,10 @@
 -- No row of the table applies to a frame exactly where its end has its turn, its length is right, its command is one of
 -- the phase, its connection id holds, no data byte is wrong, and its CRCs are those that are due.
+use Rattle.trace_diag.proofs.Common.{Before, End, Field, Frame, Lengths, Noted, command_of, conn_holds, contents_field, crcs_due, field_by, first_differing, frame_field, frame_len, frame_of, is_of, length_of, piece_len, same_end, wrong_byte}
 use Rattle.std.proofs.Common.{◌≡◌, ◌==◌, ℕ, List, length, Bool, true, false, not, Option, Some, None, refl, sym, ap, ◌∙◌, if◌then◌else◌}
 use Rattle.std.specs.Option.{option_or}
 use Rattle.std.specs.Prelude.{option_map}
 use Rattle.std.proofs.lemmas.Bool.{eqb-true, eq-eqb}
-use Rattle.fsoe_base.specs.declared.command.End.{End}
-use Rattle.fsoe_base.specs.declared.lengths.Lengths.{Lengths}
-use Rattle.fsoe_base.specs.Command.{command_of}
-use Rattle.fsoe_base.specs.Lengths.{frame_len}
-use Rattle.fsoe_base.specs.LengthsOf.{length_of}
-use Rattle.fsoe_frame.specs.Parts.{Frame, frame_of}
-use Rattle.exchange_model.specs.Ends.{same_end}
-use Rattle.trace_diag.specs.Before.{Before}
-use Rattle.trace_diag.specs.Table.{is_of, conn_holds, wrong_byte, crcs_due, first_differing, contents_field, frame_field, field_by}
-use Rattle.trace_diag.specs.Trace.{Noted, piece_len}
-use Rattle.trace_diag.specs.declared.field.Field.{Field}
 use Rattle.trace_diag.specs.declared.field.Field.TheVariants as field
 use Rattle.trace_diag.proofs.NoneApplies.{none_differs, same_none}
 

@@ -1,15 +1,8 @@
 -- Where no event sets a nonce, the session ids are those of the settings.
+use Rattle.trace_diag.proofs.Common.{Deed, End, Entry, Setup, deed_in, deeds, first_nonce, has_command, id_sent, nonce, nonce_after, same_end, session_id}
 use Rattle.std.proofs.Common.{◌≡◌, ℕ, List, [], ◌∷◌, Bool, true, false, Option, Some, None, unwrap_or, refl, sym, ◌∙◌, if◌then◌else◌}
 use Rattle.std.specs.Option.{option_or}
 use Rattle.fsoe_base.specs.declared.command.Command.TheVariants as command
-use Rattle.fsoe_base.specs.declared.command.End.{End}
-use Rattle.param_load.specs.declared.entry.Entry.{Entry}
-use Rattle.end_model.specs.Deed.{Deed}
-use Rattle.end_model.specs.Payloads.{id_sent, nonce, nonce_after, session_id}
-use Rattle.end_model.specs.Phases.{has_command}
-use Rattle.end_model.specs.Setup.{Setup, first_nonce}
-use Rattle.exchange_model.specs.Ends.{same_end}
-use Rattle.exchange_model.specs.World.{deed_in, deeds}
 
 -- no event of these deeds sets another nonce
 abbrev pub LeaveNonce : List Deed → Type 0

@@ -1,7 +1,7 @@
 -- The rows on data bytes and CRCs: where none applies.
+use Rattle.trace_diag.proofs.Common.{first_differing, first_failing}
 use Rattle.std.proofs.Common.{◌≡◌, ℕ, suc, List, [], ◌∷◌, length, Bool, true, false, Option, Some, None, refl, sym, ap, ap₂, ◌∙◌, arith, if◌then◌else◌, inl, inr}
 use Rattle.std.proofs.lemmas.Bool.{cases_eq, eq-eqb, ne_eqb}
-use Rattle.trace_diag.specs.Table.{first_differing, first_failing}
 
 -- a list has the same numbers as another of its length exactly where none differs
 pub none_differs : (i : ℕ) (xs ys : List ℕ) → length xs ≡ length ys → first_differing i xs ys ≡ None → xs ≡ ys

@@ -1,26 +1,14 @@
 -- The bytes of the payloads of a trace: they are bytes, each frame of a phase brings as many as a piece has, and what
 -- came stays at the beginning.
+use Rattle.trace_diag.proofs.Common.{AreBytes, AreOfBytes, End, Lengths, Noted, State, carried, conn_in, first_conn, frame_len, frame_of, frames_from, has_length, is_length, length_of, payload_from, phase_of_frame, piece_len, same_end, same_phase, whole}
 use Rattle.std.proofs.Common.{◌≡◌, ◌&&◌, ℕ, zero, suc, ◌<◌, ◌≤◌, List, [], ◌∷◌, ◌++◌, length, take, Bool, true, false, Option, Some, None, IsTrue, refl, sym, ap, subst, ◌∙◌, arith, ◌⊎◌, inl, inr, if◌then◌else◌}
 use Rattle.std.proofs.lemmas.Bool.{eqb-true}
 use Rattle.std.proofs.lemmas.List.{append-nil, append_assoc, get_or-take, get_or_append_left, get_or_past, length-append, length-take}
 use Rattle.std.proofs.lemmas.List.Elements.{All-head, All-tail}
 use Rattle.std.specs.List.{list_all}
 use Rattle.std.specs.Option.{option_or}
-use Rattle.fsoe_base.specs.Lengths.{frame_len, is_length}
-use Rattle.fsoe_base.specs.LengthsOf.{length_of}
-use Rattle.fsoe_base.specs.declared.command.End.{End}
 use Rattle.fsoe_base.specs.declared.command.End.TheVariants as end_name
-use Rattle.fsoe_base.specs.declared.command.State.{State}
-use Rattle.fsoe_base.specs.declared.lengths.Lengths.{Lengths}
-use Rattle.fsoe_frame.proofs.Places.{whole}
-use Rattle.fsoe_frame.specs.Parts.{frame_of, AreBytes}
 use Rattle.seq_chain.proofs.Received.{received_load}
-use Rattle.end_model.specs.Payloads.{conn_in, first_conn}
-use Rattle.end_model.specs.Phases.{phase_of_frame, same_phase}
-use Rattle.exchange_model.specs.Ends.{same_end}
-use Rattle.trace_diag.specs.Conforms.{has_length}
-use Rattle.trace_diag.specs.Judged.{AreOfBytes}
-use Rattle.trace_diag.specs.Trace.{carried, frames_from, payload_from, piece_len, Noted}
 use Rattle.trace_diag.proofs.PieceRows.{at}
 
 -- each of these frames has its length

@@ -1,25 +1,10 @@
 -- Where no row of the table applies to the frames of a trace, each byte of its payloads may stand where it stands.
+use Rattle.trace_diag.proofs.Common.{Before, Command, End, Frame, Lengths, Noted, State, before, command_in, command_of, first_failing, frame_at, frame_len, frame_of, is_length, is_of, length_of, number_at, parameter_holds, parameters_from, payload_holds, phase_due, phase_of, phase_of_frame, phase_of_known, piece_holds, piece_len, piece_place, same_end, same_phase, turn, wrong_byte, wrong_in_piece}
 use Rattle.std.proofs.Common.{◌≡◌, ◌==◌, ◌||◌, ℕ, zero, suc, ◌+◌, ◌-◌, ◌*◌, ◌<◌, ◌≤◌, nat_lt, nat_le, List, [], ◌∷◌, ◌++◌, length, take, Bool, true, Option, Some, None, IsTrue, refl, sym, ap, ap₂, subst, ◌∙◌, arith, ◌⊎◌, inl, inr, if◌then◌else◌}
 use Rattle.std.proofs.lemmas.Bool.{lt-ltb}
 use Rattle.std.proofs.lemmas.List.{get_or-take, get_or_append_left, get_or-append-add, length-append, length-take, take_all}
-use Rattle.fsoe_base.specs.Lengths.{frame_len, is_length}
-use Rattle.fsoe_base.specs.LengthsOf.{length_of}
-use Rattle.fsoe_base.specs.declared.command.Command.{Command}
-use Rattle.fsoe_base.specs.declared.command.End.{End}
 use Rattle.fsoe_base.specs.declared.command.End.TheVariants as end_name
-use Rattle.fsoe_base.specs.declared.command.State.{State}
 use Rattle.fsoe_base.specs.declared.command.State.TheVariants as state
-use Rattle.fsoe_base.specs.Command.{command_of}
-use Rattle.fsoe_base.specs.declared.lengths.Lengths.{Lengths}
-use Rattle.fsoe_frame.proofs.Places.{frame_at}
-use Rattle.fsoe_frame.specs.Parts.{frame_of, Frame}
-use Rattle.param_load.specs.Payload.{number_at}
-use Rattle.end_model.specs.Phases.{command_in, phase_of, phase_of_frame, phase_of_known, same_phase}
-use Rattle.exchange_model.specs.Ends.{same_end}
-use Rattle.trace_diag.specs.Before.{before, phase_due, piece_place, Before}
-use Rattle.trace_diag.specs.Settings.{parameters_from}
-use Rattle.trace_diag.specs.Table.{is_of, parameter_holds, payload_holds, piece_holds, first_failing, wrong_byte, wrong_in_piece}
-use Rattle.trace_diag.specs.Trace.{piece_len, turn, Noted}
 use Rattle.trace_diag.proofs.NoField.{IsInTurn, IsRight}
 use Rattle.trace_diag.proofs.NoneApplies.{none_fails, AllHold}
 use Rattle.trace_diag.proofs.PayloadBytes.{valid_at}

@@ -1,16 +1,9 @@
 -- A frame to which no row on its data bytes applies carries the piece of a payload, where the bytes that its end's
 -- frames carried so far, and its own, are those of the payload; and which bytes are those of the payloads of settings.
+use Rattle.trace_diag.proofs.Common.{Before, Frame, first_differing, front, front_long, padded, padded_len, piece, piece_holds, piece_short, wrong_in_echo}
 use Rattle.std.proofs.Common.{◌≡◌, ℕ, zero, suc, ◌+◌, ◌-◌, ◌*◌, ◌==◌, ◌<◌, ◌≤◌, List, [], ◌∷◌, ◌++◌, length, take, Bool, true, None, sym, ap, ◌∙◌, arith, ◌⊎◌, inl, inr, if◌then◌else◌}
 use Rattle.std.proofs.lemmas.Bool.{eqb-true, le-ltb}
 use Rattle.std.proofs.lemmas.List.{ext_get_or, get_or-take, get_or_past, append_cancel_left}
-use Rattle.param_load.specs.Payload.{padded}
-use Rattle.end_model.specs.Payloads.{piece}
-use Rattle.end_model.proofs.SealedFrames.{padded_len}
-use Rattle.exchange_model.proofs.Alone.Pieces.{front, piece_short}
-use Rattle.exchange_model.proofs.Honest.Fronts.{front_long}
-use Rattle.trace_diag.specs.Before.{Before}
-use Rattle.trace_diag.specs.Table.{first_differing, piece_holds, wrong_in_echo}
-use Rattle.fsoe_frame.specs.Parts.{Frame}
 use Rattle.trace_diag.proofs.NoneApplies.{AllHold, none_differs, same_none}
 use Rattle.trace_diag.proofs.PieceRows.{at, at_followed, at_front}
 

@@ -1,17 +1,11 @@
 -- A frame that carries a piece of a payload: its bytes may stand where they stand.
+use Rattle.trace_diag.proofs.Common.{IsBegun, connection_holds, connection_payload, front, front_begun, front_long, id_holds, low_high, number_at, padded, parameter_holds, parameter_payload, payload_holds, piece, piece_holds, piece_short, session_long, session_payload, take_padded}
 use Rattle.std.proofs.Common.{◌≡◌, ℕ, zero, suc, ◌+◌, ◌-◌, ◌*◌, ◌/◌, ◌%◌, ◌==◌, ◌<◌, ◌≤◌, nat_lt, nat_le, List, [], ◌∷◌, ◌++◌, length, take, drop, replicate, Bool, true, false, ◌||◌, refl, sym, ap, ap₂, ◌∙◌, arith, ◌⊎◌, inl, inr, get_or, if◌then◌else◌}
 use Rattle.std.proofs.lemmas.Bool.{eq-eqb, ne_eqb, lt-ltb, le-ltb}
 use Rattle.std.proofs.lemmas.Bool.Decides.{nat_tests}
 use Rattle.std.proofs.lemmas.List.{get_or-take, get_or-drop, get_or_past, get_or_append_left, take_all, length-take}
-use Rattle.fsoe_base.specs.Bytes.{low_high}
-use Rattle.param_load.specs.Payload.{session_payload, connection_payload, parameter_payload, number_at, padded}
 use Rattle.param_load.specs.declared.profile.Profile.TheVariants as profile
-use Rattle.end_model.specs.Payloads.{piece}
-use Rattle.exchange_model.proofs.Alone.Pieces.{front, piece_short, take_padded}
-use Rattle.exchange_model.proofs.Honest.Fronts.{front_long, front_begun, IsBegun}
-use Rattle.exchange_model.proofs.Honest.Turns.{session_long}
 use Rattle.fsoe_base.specs.declared.command.State.TheVariants as state
-use Rattle.trace_diag.specs.Table.{id_holds, connection_holds, parameter_holds, payload_holds, piece_holds}
 use Rattle.trace_diag.proofs.NoneApplies.{AllHold}
 
 -- the byte at a place, 0 past the end

@@ -1,15 +1,10 @@
 -- The payloads of the settings that are read off bytes to which no row applies begin with these bytes, and have zeros
 -- after them.
+use Rattle.trace_diag.proofs.Common.{AreBytes, byte_or, connection_holds, connection_payload, id_holds, number_at, padded, padded_len, parameter_holds, parameter_payload, session_long, session_payload, word_or}
 use Rattle.std.proofs.Common.{◌≡◌, ℕ, zero, suc, ◌+◌, ◌-◌, ◌*◌, ◌/◌, ◌%◌, ◌==◌, ◌<◌, ◌≤◌, nat_lt, List, length, take, drop, Bool, true, false, ◌||◌, refl, sym, ap, ap₂, ◌∙◌, arith, ◌⊎◌, inl, inr, if◌then◌else◌}
 use Rattle.std.proofs.lemmas.Bool.{eqb-true, lt-ltb, le-ltb}
 use Rattle.std.proofs.lemmas.List.{get_or-take, get_or-drop, get_or_past, length-take}
-use Rattle.fsoe_frame.specs.Parts.{AreBytes}
-use Rattle.param_load.specs.Payload.{session_payload, connection_payload, parameter_payload, number_at, padded}
 use Rattle.param_load.specs.declared.profile.Profile.TheVariants as profile
-use Rattle.end_model.proofs.SealedFrames.{padded_len}
-use Rattle.exchange_model.proofs.Honest.Turns.{session_long}
-use Rattle.trace_diag.specs.Settings.{byte_or, word_or}
-use Rattle.trace_diag.specs.Table.{id_holds, connection_holds, parameter_holds}
 use Rattle.trace_diag.proofs.PieceRows.{at, at_followed, past_count}
 
 -- a byte that is reached

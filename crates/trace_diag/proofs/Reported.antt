@@ -1,4 +1,5 @@
 -- The frames of an input are bytes, so that what a run reports of it has the verdict on them.
+use Rattle.trace_diag.proofs.Common.{judge_reporting}
 use Rattle.std.proofs.Common.{ℕ, ◌+◌, List, Option, Some, None, IfSome}
 use Rattle.fsoe_io.specs.Sink.{Grew}
 use Rattle.fsoe_io.specs.declared.status.Ended.{Ended}
@@ -10,7 +11,6 @@ use Rattle.file_run.specs.Ran.{EndsAs, RanOver, ReportsReadLines}
 use Rattle.file_run.specs.Reporting.{refused_at, BeginsReport, CutsReport}
 use Rattle.trace_diag.specs.Lines.{trace_format}
 use Rattle.trace_diag.specs.Ran.{diagnose_reporting, DiagnosesInput}
-use Rattle.trace_diag.specs.Judged.{judge_reporting}
 use Rattle.trace_diag.proofs.Inputs.{input_bytes}
 
 reported : (bytes : List ℕ) (ended : Ended) (text : List ℕ) → judge_reporting.reports (input_read trace_format bytes) ended text → DiagnosesInput (input_read trace_format bytes) ended text

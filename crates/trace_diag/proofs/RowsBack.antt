@@ -1,29 +1,12 @@
 -- What follows where no row of the table applies: a Reset frame has the code 0, and a frame of the master carries what
 -- it does in its turn, where its bytes are those of the payloads.
+use Rattle.trace_diag.proofs.Common.{Before, Carries, Command, End, Frame, MasterSettings, OfMaster, State, all_zero, command_byte, command_of, conn_holds, connection_payload, crcs_due, first_differing, first_failing, front, is_guarded, is_of, is_reset, parameter_payload, payload_holds, piece_fits, piece_holds, reset_crcs, session_payload, width, wrong_byte, wrong_in_data, wrong_in_piece, zeros_all}
 use Rattle.std.proofs.Common.{◌≡◌, ℕ, suc, ◌+◌, ◌*◌, ◌==◌, nat_lt, List, [], ◌∷◌, ◌++◌, length, take, replicate, Bool, true, false, None, refl, sym, ap, ap₂, subst, ◌∙◌, if◌then◌else◌}
 use Rattle.std.proofs.lemmas.Bool.{eqb-true, eq-eqb}
 use Rattle.std.proofs.lemmas.List.{length-replicate}
-use Rattle.fsoe_base.specs.declared.command.Command.{Command}
 use Rattle.fsoe_base.specs.declared.command.Command.TheVariants as command
-use Rattle.fsoe_base.specs.declared.command.End.{End}
 use Rattle.fsoe_base.specs.declared.command.End.TheVariants as end_name
-use Rattle.fsoe_base.specs.declared.command.State.{State}
 use Rattle.fsoe_base.specs.declared.command.State.TheVariants as state
-use Rattle.fsoe_base.specs.Bytes.{all_zero}
-use Rattle.fsoe_base.specs.Command.{command_byte, command_of}
-use Rattle.fsoe_frame.specs.Parts.{Frame}
-use Rattle.seq_chain.specs.Reset.{reset_crcs}
-use Rattle.param_load.specs.declared.master_settings.MasterSettings.{MasterSettings}
-use Rattle.param_load.specs.Payload.{session_payload, connection_payload, parameter_payload}
-use Rattle.end_model.specs.Phases.{is_reset, is_guarded}
-use Rattle.end_model.specs.Setup.{OfMaster}
-use Rattle.exchange_model.proofs.Alone.Framed.{piece_fits}
-use Rattle.exchange_model.proofs.Alone.Pieces.{front}
-use Rattle.exchange_model.proofs.Honest.ResetFrames.{zeros_all}
-use Rattle.exchange_model.proofs.Honest.SlaveTurn.{Carries}
-use Rattle.exchange_model.proofs.Honest.Turns.{width}
-use Rattle.trace_diag.specs.Before.{Before}
-use Rattle.trace_diag.specs.Table.{is_of, conn_holds, payload_holds, piece_holds, first_failing, first_differing, wrong_in_piece, wrong_in_data, wrong_byte, crcs_due}
 use Rattle.trace_diag.proofs.MasterRows.{IsDue}
 use Rattle.trace_diag.proofs.NoField.{IsRight}
 use Rattle.trace_diag.proofs.NoneApplies.{AllHold, none_differs, none_fails, all_hold}

@@ -1,33 +1,12 @@
 -- The rows hold of all bytes of the payloads of a trace to which no row of the table applies.
+use Rattle.trace_diag.proofs.Common.{Chain, Command, Difference, End, Field, Frame, Lengths, Noted, State, before, carried, command_byte, conn_holds, conn_in, connection_holds, count_crcs, count_groups, crcs_due, field_of, first_conn, first_difference, first_of_both, frame_len, frame_of, frames_from, groups, halves, id_holds, is_slave_conn, length_of, parameter_holds, payload_from, peer, phase_due, phase_from, phase_of_frame, piece_len, same_end, same_phase, turn, whole}
 use Rattle.std.proofs.Common.{◌≡◌, ◌==◌, ℕ, zero, suc, ◌+◌, ◌<◌, ◌≤◌, List, [], ◌∷◌, ◌++◌, length, take, drop, Bool, true, false, not, Option, Some, None, refl, sym, ap, subst, ◌∙◌, ◌/◌, arith, if◌then◌else◌}
 use Rattle.std.proofs.lemmas.Bool.{eqb-true}
 use Rattle.std.proofs.lemmas.List.{length-append, length-take}
 use Rattle.std.specs.Option.{option_or}
-use Rattle.fsoe_base.specs.Lengths.{frame_len}
-use Rattle.fsoe_base.specs.LengthsOf.{length_of}
-use Rattle.fsoe_base.specs.Command.{command_byte}
-use Rattle.fsoe_base.specs.declared.command.Command.{Command}
 use Rattle.fsoe_base.specs.declared.command.Command.TheVariants as command
-use Rattle.fsoe_base.specs.declared.command.End.{End}
 use Rattle.fsoe_base.specs.declared.command.End.TheVariants as end_name
-use Rattle.fsoe_base.specs.declared.command.State.{State}
 use Rattle.fsoe_base.specs.declared.command.State.TheVariants as state
-use Rattle.fsoe_base.specs.declared.lengths.Lengths.{Lengths}
-use Rattle.fsoe_frame.proofs.Places.{whole}
-use Rattle.fsoe_frame.specs.Layout.{groups}
-use Rattle.fsoe_frame.specs.Parts.{frame_of, Frame}
-use Rattle.end_model.proofs.ReadBack.{count_crcs, count_groups, halves}
-use Rattle.end_model.specs.Payloads.{conn_in, first_conn}
-use Rattle.end_model.specs.Phases.{phase_of_frame, same_phase}
-use Rattle.end_model.specs.Verdict.{is_slave_conn}
-use Rattle.exchange_model.specs.Ends.{peer, same_end}
-use Rattle.seq_chain.specs.declared.chain.Chain.{Chain}
-use Rattle.trace_diag.specs.Before.{before, phase_due, phase_from}
-use Rattle.trace_diag.specs.Judged.{first_difference, first_of_both}
-use Rattle.trace_diag.specs.declared.difference.Difference.{Difference}
-use Rattle.trace_diag.specs.Table.{connection_holds, conn_holds, crcs_due, field_of, id_holds, parameter_holds}
-use Rattle.trace_diag.specs.Trace.{carried, frames_from, payload_from, piece_len, turn, Noted}
-use Rattle.trace_diag.specs.declared.field.Field.{Field}
 use Rattle.trace_diag.proofs.Heads.{head_of, HasHead}
 use Rattle.trace_diag.proofs.NoField.{none_in_turn, IsInTurn}
 use Rattle.trace_diag.proofs.PayloadBytes.{payload_grows, valid_at, AllLong}

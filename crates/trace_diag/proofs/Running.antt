@@ -1,35 +1,14 @@
 -- The world over the schedule of a trace runs in lock step: after each frame's events the next frame is on its way.
+use Rattle.trace_diag.proofs.Common.{Accepts, Asked, AtStage, Both, Command, Deed, Down, End, Enters, Entry, Event, Goes, HasNoReset, IsQuiet, MasterSettings, Move, Noted, Partner, Replied, Setup, Stage, TakesDelivery, Up, asked_delivered, both, both_kept, deed_in, deeds, down_delivered, end_of, end_of_event, frames_from, frames_of, going_on, held, is_empty, nonce_after, offer, own, partner, peer, quiet_enters, quiet_entry, quiet_hold, quiet_put, replied_delivered, same_end, sent_in, set_for, setup_of, up_delivered, world_after}
 use Rattle.std.proofs.Common.{◌≡◌, ℕ, suc, ◌+◌, List, [], ◌∷◌, ◌++◌, length, replicate, Bool, true, false, Option, Some, None, refl, sym, ap, subst, ◌∙◌, arith, if◌then◌else◌}
-use Rattle.fsoe_base.specs.declared.command.Command.{Command}
 use Rattle.fsoe_base.specs.declared.command.Command.TheVariants as command
-use Rattle.fsoe_base.specs.declared.command.End.{End}
 use Rattle.fsoe_base.specs.declared.command.End.TheVariants as end_name
-use Rattle.param_load.specs.declared.entry.Entry.{Entry}
-use Rattle.param_load.specs.declared.entry.Move.{Move}
 use Rattle.param_load.specs.declared.entry.Move.TheVariants as move
-use Rattle.param_load.specs.declared.master_settings.MasterSettings.{MasterSettings}
-use Rattle.schedule_file.specs.declared.event.Event.{Event}
 use Rattle.schedule_file.specs.declared.event.Event.TheVariants as event
-use Rattle.end_model.specs.Chain.{own}
-use Rattle.end_model.specs.Deed.{Deed, is_empty}
-use Rattle.end_model.specs.Payloads.{nonce_after}
-use Rattle.end_model.specs.Readiness.{held, offer}
-use Rattle.exchange_model.specs.Serving.{HasNoReset, TakesDelivery}
-use Rattle.exchange_model.specs.Ends.{same_end, peer}
-use Rattle.exchange_model.specs.World.{deed_in, deeds, end_of_event, frames_of, going_on, setup_of, world_after}
 use Rattle.exchange_model.specs.Schedules.{IsProperEvent, IsWorld}
-use Rattle.exchange_model.proofs.Honest.QuietEvents.{IsQuiet, quiet_entry, quiet_enters, both_kept, quiet_put, quiet_hold}
-use Rattle.exchange_model.proofs.Honest.SlaveTurn.{Accepts}
-use Rattle.exchange_model.proofs.Honest.StageSteps.{AtStage, Enters, Goes, asked_delivered, replied_delivered, down_delivered, up_delivered}
-use Rattle.exchange_model.proofs.Honest.Stages.{Both, both, Stage, Asked, Replied, Down, Up}
-use Rattle.exchange_model.proofs.Honest.Turns.{Partner, partner}
 use Rattle.black_channel.specs.Altered.{back_th}
-use Rattle.end_model.specs.Setup.{Setup, end_of}
 use Rattle.trace_diag.proofs.Nonces.{LeaveNonces, nonces_left}
 use Rattle.trace_diag.proofs.Answering.{IsDelivery, delivered_as, its_end, is_answered}
-use Rattle.trace_diag.specs.Conforms.{sent_in}
-use Rattle.trace_diag.specs.Schedule.{set_for}
-use Rattle.trace_diag.specs.Trace.{frames_from, Noted}
 
 one-more : (which : End) (x : Entry) (w : List Entry) (mine : Bool) → is_empty x.sent ≡ false → frames_from which (sent_in w) ≡ frames_of which w
     → (if mine then x.sent ∷ frames_from which (sent_in w) else frames_from which (sent_in w)) ≡ own (if mine then deed_in x ∷ deeds which w else deeds which w)

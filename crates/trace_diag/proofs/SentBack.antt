@@ -1,44 +1,14 @@
 -- A frame to which no row of the table applies is the one that is sent next by ends with the settings that are read
 -- off.
+use Rattle.trace_diag.proofs.Common.{AreBytes, Carries, Chain, Command, End, Frame, Lengths, MasterSettings, Noted, OfMaster, Partner, Replies, State, all_zero, before, bytes_of, chain_at, chain_of, command_byte, conn_after, conn_holds, connection_payload, count_groups, crcs_due, first_conn, frame_len, frame_of, frames_from, front, front_long, groups, groups_long, halves, has_command, is_guarded, is_length, is_reset, is_slave_conn, length_of, low_high, padded, parameter_payload, payload_from, payload_holds, phase_due, phase_of, phase_of_frame, piece, piece_fits, piece_len, piece_place, reset_crcs, reset_load, same_end, same_phase, sealed_by, session_payload, slave_of, some_width, turned, whole, width, with_crcs, wrong_byte}
 use Rattle.std.proofs.Common.{◌≡◌, ℕ, zero, suc, ◌+◌, ◌*◌, ◌<◌, ◌≤◌, ◌/◌, List, ◌∷◌, ◌++◌, length, take, drop, replicate, Bool, true, false, Option, Some, None, IsTrue, refl, sym, ap, ap₂, subst, ◌∙◌, arith, inl, inr, if◌then◌else◌}
 use Rattle.std.proofs.lemmas.Bool.{cases_eq, eqb-true}
 use Rattle.std.proofs.lemmas.Bool.Decides.{nat_tests}
 use Rattle.std.proofs.lemmas.List.{append_assoc, length-append, length-take}
 use Rattle.std.specs.Option.{option_or}
-use Rattle.fsoe_base.specs.Bytes.{all_zero, low_high}
-use Rattle.fsoe_base.specs.Command.{command_byte}
-use Rattle.fsoe_base.specs.Lengths.{frame_len, is_length}
-use Rattle.fsoe_base.specs.LengthsOf.{length_of}
-use Rattle.fsoe_base.specs.declared.command.Command.{Command}
 use Rattle.fsoe_base.specs.declared.command.Command.TheVariants as command
-use Rattle.fsoe_base.specs.declared.command.End.{End}
 use Rattle.fsoe_base.specs.declared.command.End.TheVariants as end_name
-use Rattle.fsoe_base.specs.declared.command.State.{State}
 use Rattle.fsoe_base.specs.declared.command.State.TheVariants as state
-use Rattle.fsoe_base.specs.declared.lengths.Lengths.{Lengths}
-use Rattle.fsoe_frame.proofs.Places.{whole}
-use Rattle.fsoe_frame.specs.Layout.{groups, with_crcs}
-use Rattle.fsoe_frame.specs.Parts.{bytes_of, frame_of, AreBytes, Frame}
-use Rattle.seq_chain.specs.declared.chain.Chain.{Chain}
-use Rattle.seq_chain.specs.Chain.{sealed_by, turned}
-use Rattle.seq_chain.specs.Reset.{reset_crcs, reset_load}
-use Rattle.param_load.specs.declared.master_settings.MasterSettings.{MasterSettings}
-use Rattle.param_load.specs.Payload.{connection_payload, padded, parameter_payload, session_payload}
-use Rattle.end_model.proofs.ReadBack.{count_groups, halves}
-use Rattle.end_model.specs.Payloads.{first_conn, piece}
-use Rattle.end_model.specs.Phases.{has_command, is_guarded, is_reset, phase_of, phase_of_frame, same_phase}
-use Rattle.end_model.specs.Verdict.{is_slave_conn}
-use Rattle.exchange_model.specs.Ends.{same_end}
-use Rattle.exchange_model.proofs.Alone.Framed.{piece_fits}
-use Rattle.exchange_model.proofs.Alone.Pieces.{front}
-use Rattle.exchange_model.proofs.Honest.Fronts.{front_long}
-use Rattle.exchange_model.proofs.Honest.OnItsWay.{groups_long}
-use Rattle.exchange_model.proofs.Honest.SlaveTurn.{some_width, Carries, Replies}
-use Rattle.exchange_model.proofs.Honest.Turns.{conn_after, slave_of, width, Partner}
-use Rattle.end_model.specs.Setup.{OfMaster}
-use Rattle.trace_diag.specs.Before.{before, chain_at, chain_of, phase_due, piece_place}
-use Rattle.trace_diag.specs.Table.{conn_holds, crcs_due, payload_holds, wrong_byte}
-use Rattle.trace_diag.specs.Trace.{frames_from, payload_from, piece_len, Noted}
 use Rattle.trace_diag.proofs.Answering.{IsMade}
 use Rattle.trace_diag.proofs.AnswersBack.{slave_back}
 use Rattle.trace_diag.proofs.Conforming.{load_zeros, reset_parts_of}

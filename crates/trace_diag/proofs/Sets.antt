@@ -1,25 +1,10 @@
 -- What an answer carries by the schedule and by the settings: the data that were put, and the slave's session id.
+use Rattle.trace_diag.proofs.Common.{Command, Deed, Entry, MasterSettings, Partner, Setup, begun, count_in, deed_in, frame_of, has_command, held, held_after, id_piece, is_data_frame, offer, offer_after, padded, partner, piece, piece_frame, piece_in, sealed, sealed_frame, sends, session_id, session_payload, since, slave_of, taken, width}
 use Rattle.std.proofs.Common.{◌≡◌, ℕ, List, ◌∷◌, length, replicate, Bool, true, false, Some, sym, ap, ap₂, ◌∙◌, if◌then◌else◌}
 use Rattle.fsoe_base.specs.Data.{is_data}
-use Rattle.fsoe_base.specs.declared.command.Command.{Command}
 use Rattle.fsoe_base.specs.declared.command.Command.TheVariants as command
 use Rattle.fsoe_base.specs.declared.command.State.TheVariants as state
-use Rattle.fsoe_frame.specs.Parts.{frame_of}
-use Rattle.param_load.specs.declared.entry.Entry.{Entry}
-use Rattle.param_load.specs.declared.master_settings.MasterSettings.{MasterSettings}
-use Rattle.param_load.specs.Payload.{padded, session_payload}
-use Rattle.end_model.specs.Chain.{since, taken}
-use Rattle.end_model.specs.Deed.{Deed}
-use Rattle.end_model.specs.Payloads.{count_in, piece, session_id}
-use Rattle.end_model.specs.Phases.{has_command, is_data_frame}
-use Rattle.end_model.specs.Readiness.{held, held_after, offer, offer_after}
-use Rattle.end_model.specs.Setup.{sends, Setup}
-use Rattle.end_model.specs.Step.{begun, id_piece, sealed}
-use Rattle.exchange_model.specs.World.{deed_in}
-use Rattle.exchange_model.proofs.Alone.Framed.{piece_frame, sealed_frame}
-use Rattle.exchange_model.proofs.Alone.Pieces.{piece_in}
 use Rattle.exchange_model.proofs.Alone.Uploads.{since_on}
-use Rattle.exchange_model.proofs.Honest.Turns.{partner, slave_of, width, Partner}
 use Rattle.trace_diag.proofs.Answering.{answer_data, answer_session, IsDelivery, SendsAnswer}
 use Rattle.trace_diag.proofs.Nonces.{session_id_is, LeaveNonce}
 use Rattle.trace_diag.proofs.Running.{IsSetFor}

@@ -1,22 +1,12 @@
 -- The settings that are read off a trace to which no row of the table applies: there are such settings, and the bytes
 -- of its payloads are theirs.
+use Rattle.trace_diag.proofs.Common.{Accepts, AreBytes, AreOfBytes, AreReadOff, Lengths, MasterSettings, Noted, Partner, byte_or, connection_from, connection_payload, first_conn, frames_from, number_at, parameter_holds, parameter_payload, parameters_from, partner, payload_from, read_address, read_app, read_app_len, read_conn, read_id, read_watchdog, session_payload, word_or}
 use Rattle.std.proofs.Common.{◌≡◌, ℕ, ◌+◌, ◌*◌, ◌<◌, ◌≤◌, nat_lt, nat_le, List, length, Bool, true, false, Option, Some, None, unwrap_or, refl, sym, ap, ap₂, subst, arith, ◌⊎◌, inl, inr, if◌then◌else◌}
 use Rattle.std.proofs.lemmas.Bool.{eq-eqb, le-leb, leb-true, lt-ltb, le-ltb, ltb-true}
 use Rattle.fsoe_base.specs.declared.command.End.TheVariants as end_name
 use Rattle.fsoe_base.specs.declared.command.State.TheVariants as state
-use Rattle.fsoe_base.specs.declared.lengths.Lengths.{Lengths}
-use Rattle.fsoe_frame.specs.Parts.{AreBytes}
 use Rattle.param_load.specs.declared.app_rule.AppRule.TheVariants as rule
-use Rattle.param_load.specs.declared.master_settings.MasterSettings.{MasterSettings}
 use Rattle.param_load.specs.declared.profile.Profile.TheVariants as profile
-use Rattle.param_load.specs.Payload.{connection_payload, number_at, parameter_payload, session_payload}
-use Rattle.end_model.specs.Payloads.{first_conn}
-use Rattle.exchange_model.proofs.Honest.SlaveTurn.{Accepts}
-use Rattle.exchange_model.proofs.Honest.Turns.{partner, Partner}
-use Rattle.trace_diag.specs.Judged.{AreOfBytes}
-use Rattle.trace_diag.specs.Settings.{read_address, read_app_len, read_app, byte_or, connection_from, read_conn, read_id, parameters_from, read_watchdog, word_or, AreReadOff}
-use Rattle.trace_diag.specs.Table.{parameter_holds}
-use Rattle.trace_diag.specs.Trace.{frames_from, payload_from, Noted}
 use Rattle.trace_diag.proofs.MasterRows.{IsPlain}
 use Rattle.trace_diag.proofs.PayloadBytes.{payload_bytes, AllLong}
 use Rattle.trace_diag.proofs.PayloadRows.{AllAt}

@@ -1,39 +1,13 @@
 -- Ends with the settings that are read off a trace to which no row of the table applies send its frames.
+use Rattle.trace_diag.proofs.Common.{Accepts, AreBytes, AreOfBytes, Command, Deed, End, Entry, Event, Frame, MasterSettings, Noted, Partner, Setup, State, before, begun, command_back, command_byte, command_in, command_of, count_in, deed_in, deeds, frame_len, frame_of, has_command, is_data_frame, is_data_if, length_of, padded, partner, payload_from, phase_of, piece, reset_frame, same_end, same_phase, sends, session_payload, setup_of, since, slave_of, taken, turn, whole, width}
 use Rattle.std.proofs.Common.{◌≡◌, ◌==◌, ℕ, List, [], ◌∷◌, ◌++◌, length, drop, Bool, true, false, Option, Some, refl, sym, ap, ap₂, subst, ◌∙◌}
 use Rattle.std.proofs.lemmas.Bool.{eqb-true}
 use Rattle.std.proofs.lemmas.List.{append_assoc}
 use Rattle.std.proofs.lemmas.List.Elements.{All-head, All-tail}
-use Rattle.fsoe_base.specs.Command.{command_byte, command_of}
 use Rattle.fsoe_base.specs.Data.{is_data}
-use Rattle.fsoe_base.specs.Lengths.{frame_len}
-use Rattle.fsoe_base.specs.LengthsOf.{length_of}
-use Rattle.fsoe_base.specs.declared.command.Command.{Command}
 use Rattle.fsoe_base.specs.declared.command.Command.TheVariants as command
-use Rattle.fsoe_base.specs.declared.command.End.{End}
 use Rattle.fsoe_base.specs.declared.command.End.TheVariants as end_name
-use Rattle.fsoe_base.specs.declared.command.State.{State}
 use Rattle.fsoe_base.specs.declared.command.State.TheVariants as state
-use Rattle.fsoe_frame.proofs.Places.{whole}
-use Rattle.fsoe_frame.specs.Parts.{frame_of, AreBytes, Frame}
-use Rattle.param_load.specs.declared.entry.Entry.{Entry}
-use Rattle.param_load.specs.declared.master_settings.MasterSettings.{MasterSettings}
-use Rattle.param_load.specs.Payload.{padded, session_payload}
-use Rattle.seq_chain.specs.Reset.{reset_frame}
-use Rattle.end_model.specs.Chain.{since, taken}
-use Rattle.end_model.specs.Deed.{Deed}
-use Rattle.end_model.specs.Payloads.{count_in, piece}
-use Rattle.end_model.specs.Phases.{command_in, has_command, is_data_frame, is_data_if, phase_of, same_phase}
-use Rattle.end_model.specs.Setup.{sends, Setup}
-use Rattle.end_model.specs.Step.{begun}
-use Rattle.schedule_file.specs.declared.event.Event.{Event}
-use Rattle.exchange_model.specs.Ends.{same_end}
-use Rattle.exchange_model.specs.World.{deed_in, deeds, setup_of}
-use Rattle.exchange_model.proofs.Alone.Framed.{command_back}
-use Rattle.exchange_model.proofs.Honest.SlaveTurn.{Accepts}
-use Rattle.exchange_model.proofs.Honest.Turns.{partner, slave_of, width, Partner}
-use Rattle.trace_diag.specs.Before.{before}
-use Rattle.trace_diag.specs.Judged.{AreOfBytes}
-use Rattle.trace_diag.specs.Trace.{payload_from, turn, Noted}
 use Rattle.trace_diag.proofs.Along.{deeds_of, entry_end}
 use Rattle.trace_diag.proofs.Answering.{answer_made, reset_made, sends_answer, IsMade, SendsAnswer}
 use Rattle.trace_diag.proofs.Conforming.{good_first, good_more, reset_long, reset_parts, Good}

@@ -1,29 +1,12 @@
 -- A frame that carries what a slave's answer does in its turn, with the CRCs of its chain, is as it must be.
+use Rattle.trace_diag.proofs.Common.{Before, Command, Frame, MasterSettings, Profile, Replies, State, all_zero, command_byte, command_of, conn_after, conn_holds, connection_payload, crcs_due, first_differing, first_failing, id_holds, is_of, is_padded, is_reset, is_slave_conn, padded, padded_twice, parameter_payload, payload_holds, phase_of, piece, piece_holds, piece_short, sealed_by, session_long, session_payload, turned, width, wrong_byte, wrong_in_echo}
 use Rattle.std.proofs.Common.{◌≡◌, ℕ, suc, ◌+◌, ◌-◌, ◌*◌, ◌<◌, ◌≤◌, ◌==◌, nat_lt, min, List, ◌++◌, length, take, drop, replicate, Bool, true, false, ◌||◌, Option, None, refl, sym, ap, ap₂, subst, ◌∙◌, arith, ◌⊎◌, inl, inr, if◌then◌else◌}
 use Rattle.std.proofs.lemmas.Bool.{eq-eqb, lt-ltb, le-ltb}
 use Rattle.std.proofs.lemmas.List.{get_or-drop, length-take, length-drop}
-use Rattle.fsoe_base.specs.declared.command.Command.{Command}
 use Rattle.fsoe_base.specs.declared.command.Command.TheVariants as command
 use Rattle.fsoe_base.specs.declared.command.End.TheVariants as end_name
-use Rattle.fsoe_base.specs.declared.command.State.{State}
 use Rattle.fsoe_base.specs.declared.command.State.TheVariants as state
-use Rattle.fsoe_base.specs.Bytes.{all_zero}
-use Rattle.fsoe_base.specs.Command.{command_byte, command_of}
-use Rattle.fsoe_frame.specs.Parts.{Frame}
-use Rattle.seq_chain.specs.Chain.{sealed_by, turned}
-use Rattle.param_load.specs.declared.master_settings.MasterSettings.{MasterSettings}
-use Rattle.param_load.specs.declared.profile.Profile.{Profile}
 use Rattle.param_load.specs.declared.profile.Profile.TheVariants as profile
-use Rattle.param_load.specs.Payload.{is_padded, session_payload, connection_payload, parameter_payload, padded}
-use Rattle.end_model.specs.Payloads.{piece}
-use Rattle.end_model.specs.Phases.{phase_of, is_reset}
-use Rattle.end_model.specs.Verdict.{is_slave_conn}
-use Rattle.exchange_model.proofs.Alone.Pieces.{piece_short}
-use Rattle.exchange_model.proofs.Honest.Fronts.{padded_twice}
-use Rattle.exchange_model.proofs.Honest.SlaveTurn.{Replies}
-use Rattle.exchange_model.proofs.Honest.Turns.{width, conn_after, session_long}
-use Rattle.trace_diag.specs.Before.{Before}
-use Rattle.trace_diag.specs.Table.{is_of, conn_holds, id_holds, payload_holds, piece_holds, first_failing, first_differing, wrong_in_echo, wrong_byte, crcs_due}
 use Rattle.trace_diag.proofs.MasterRows.{IsPlain, known, of_phase, zeros_are}
 use Rattle.trace_diag.proofs.NoField.{IsRight}
 use Rattle.trace_diag.proofs.NoneApplies.{AllHold, all_hold, same_none}

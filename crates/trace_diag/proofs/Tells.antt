@@ -1,38 +1,14 @@
 -- What a trace tells of the sessions of both ends, where it is what they sent: their chains, and how far each payload
 -- of the master came.
+use Rattle.trace_diag.proofs.Common.{Both, Carries, Chain, Chained, Command, End, Frame, IsAsked, IsDown, IsReplied, IsUp, MasterSettings, Noted, OfMaster, Partner, State, after_sent, after_taken, chain_at, chain_of, command_back, command_byte, conn_after, conn_in, connection_payload, count_in, first_conn, frame_of, frames_from, fresh, front, front_long, has_command, head_on, is_reset, length_of, more, newest_crc, newest_piece, padded, parameter_payload, payload_from, peer, phase_of, phase_of_frame, phase_of_known, phase_sent, piece, piece_fits, piece_short, same_phase, session_payload, take_padded, turned, width}
 use Rattle.std.proofs.Common.{◌≡◌, ℕ, suc, ◌-◌, ◌*◌, List, [], ◌∷◌, ◌++◌, length, take, drop, zero, Bool, true, false, Option, Some, None, refl, sym, ap, ap₂, subst, ◌∙◌, arith, if◌then◌else◌}
 use Rattle.std.specs.Option.{option_or}
-use Rattle.fsoe_base.specs.LengthsOf.{length_of}
-use Rattle.fsoe_base.specs.declared.command.Command.{Command}
 use Rattle.fsoe_base.specs.declared.command.Command.TheVariants as command
-use Rattle.fsoe_base.specs.declared.command.End.{End}
 use Rattle.fsoe_base.specs.declared.command.End.TheVariants as end_name
-use Rattle.fsoe_base.specs.declared.command.State.{State}
 use Rattle.fsoe_base.specs.declared.command.State.TheVariants as state
-use Rattle.fsoe_base.specs.Command.{command_byte}
-use Rattle.fsoe_frame.specs.Parts.{Frame, frame_of}
-use Rattle.seq_chain.specs.declared.chain.Chain.{Chain}
 use Rattle.seq_chain.specs.declared.link.Link.{Link}
-use Rattle.seq_chain.specs.Chain.{after_sent, after_taken, fresh, turned}
 use Rattle.seq_chain.specs.Numbers.{last_crc}
 use Rattle.seq_chain.specs.Sealing as sealing
-use Rattle.param_load.specs.declared.master_settings.MasterSettings.{MasterSettings}
-use Rattle.param_load.specs.Payload.{connection_payload, padded, parameter_payload, session_payload}
-use Rattle.end_model.specs.Chain.{newest_crc}
-use Rattle.end_model.specs.Payloads.{conn_in, count_in, first_conn, piece}
-use Rattle.end_model.specs.Phases.{has_command, is_reset, phase_of, phase_of_frame, phase_of_known, same_phase}
-use Rattle.end_model.specs.Readiness.{phase_sent}
-use Rattle.end_model.specs.Setup.{OfMaster}
-use Rattle.exchange_model.specs.Ends.{peer}
-use Rattle.exchange_model.proofs.Alone.Framed.{command_back, piece_fits}
-use Rattle.exchange_model.proofs.Alone.Pieces.{front, piece_short, take_padded}
-use Rattle.exchange_model.proofs.Honest.Fronts.{front_long}
-use Rattle.exchange_model.proofs.Honest.OnItsWay.{Chained, head_on}
-use Rattle.exchange_model.proofs.Honest.SlaveTurn.{Carries}
-use Rattle.exchange_model.proofs.Honest.Stages.{Both, IsAsked, IsDown, IsReplied, IsUp}
-use Rattle.exchange_model.proofs.Honest.Turns.{conn_after, more, width, Partner}
-use Rattle.trace_diag.specs.Before.{chain_at, chain_of, newest_piece}
-use Rattle.trace_diag.specs.Trace.{frames_from, payload_from, Noted}
 
 -- what the chain of an end goes by, and that chain
 abbrev pub chained_of : Both → End → Chained

@@ -1,36 +1,17 @@
 -- The table finds what the definition of a conforming trace says: no row applies to a trace exactly where it conforms,
 -- and the first frame to which one applies is the first with which the trace doesn't conform.
+use Rattle.trace_diag.proofs.Common.{Accepts, AreBytes, AreOfBytes, Conforms, ConformsThroughout, Difference, DiffersFirst, Event, Field, Lengths, MasterSettings, Noted, Partner, Profile, SlaveSettings, field_of, first_difference, first_of_both, frame_len, has_length, is_length, length_of, parameters_from, partner, read_app_len, read_schedule, read_watchdog, sent_in, world}
 use Rattle.std.proofs.Common.{◌≡◌, ◌&&◌, ◌+◌, ◌≤◌, ℕ, List, [], ◌∷◌, length, Bool, true, Option, Some, None, IsTrue, refl, sym, ap, ap₂, subst, ◌∙◌, arith}
 use Rattle.std.proofs.lemmas.Bool.{eq-eqb, leb-true}
 use Rattle.std.proofs.lemmas.List.{append-nil}
 use Rattle.std.proofs.lemmas.List.Elements.{All-tail}
 use Rattle.std.specs.List.{list_all}
-use Rattle.fsoe_base.specs.Lengths.{frame_len, is_length}
-use Rattle.fsoe_base.specs.LengthsOf.{length_of}
 use Rattle.fsoe_base.specs.declared.command.End.TheVariants as end_name
 use Rattle.fsoe_base.specs.declared.command.State.TheVariants as state
-use Rattle.fsoe_base.specs.declared.lengths.Lengths.{Lengths}
-use Rattle.fsoe_frame.specs.Parts.{AreBytes}
 use Rattle.param_load.specs.AppRule.{allows, is_acceptable, rule_len}
 use Rattle.param_load.specs.Profile.{allows_id}
 use Rattle.param_load.specs.declared.app_rule.AppRule.{AppRule}
 use Rattle.param_load.specs.declared.app_rule.AppRule.TheVariants as rule
-use Rattle.param_load.specs.declared.master_settings.MasterSettings.{MasterSettings}
-use Rattle.param_load.specs.declared.profile.Profile.{Profile}
-use Rattle.param_load.specs.declared.slave_settings.SlaveSettings.{SlaveSettings}
-use Rattle.schedule_file.specs.declared.event.Event.{Event}
-use Rattle.exchange_model.specs.World.{world}
-use Rattle.exchange_model.proofs.Honest.SlaveTurn.{Accepts}
-use Rattle.exchange_model.proofs.Honest.Turns.{partner, Partner}
-use Rattle.trace_diag.specs.Conforms.{has_length, sent_in, Conforms, ConformsThroughout}
-use Rattle.trace_diag.specs.Judged.{first_difference, first_of_both, AreOfBytes}
-use Rattle.trace_diag.specs.declared.difference.Difference.{Difference}
-use Rattle.trace_diag.specs.Schedule.{read_schedule}
-use Rattle.trace_diag.specs.Settings.{read_app_len, parameters_from, read_watchdog}
-use Rattle.trace_diag.specs.Table.{field_of}
-use Rattle.trace_diag.specs.Trace.{Noted}
-use Rattle.trace_diag.specs.Verdicts.{DiffersFirst}
-use Rattle.trace_diag.specs.declared.field.Field.{Field}
 use Rattle.trace_diag.proofs.Conforming.{good, Good}
 use Rattle.trace_diag.proofs.MasterRows.{IsPlain}
 use Rattle.trace_diag.proofs.PayloadBytes.{all_long, payload_bytes, AllLong}

@@ -1,27 +1,10 @@
 -- The walk along a trace: after each of its frames the world over the schedule stands at a stage of which the trace
 -- tells.
+use Rattle.trace_diag.proofs.Common.{Accepts, Asked, Down, End, Entry, Event, IsDown, MasterSettings, Noted, OfMaster, Partner, Stage, both, deeds, frame_of, frames_from, frames_of, has_command, length_of, next_entry, partner, peer, read_schedule, reset_frame, sent_in, since, taken, turn, world}
 use Rattle.std.proofs.Common.{◌≡◌, ℕ, List, [], ◌∷◌, length, false, true, refl, sym, ap, subst, ◌∙◌}
-use Rattle.fsoe_base.specs.LengthsOf.{length_of}
 use Rattle.fsoe_base.specs.declared.command.Command.TheVariants as command
-use Rattle.fsoe_base.specs.declared.command.End.{End}
 use Rattle.fsoe_base.specs.declared.command.End.TheVariants as end_name
-use Rattle.fsoe_frame.specs.Parts.{frame_of}
-use Rattle.seq_chain.specs.Reset.{reset_frame}
-use Rattle.param_load.specs.declared.entry.Entry.{Entry}
 use Rattle.param_load.specs.declared.entry.Move.TheVariants as move
-use Rattle.param_load.specs.declared.master_settings.MasterSettings.{MasterSettings}
-use Rattle.schedule_file.specs.declared.event.Event.{Event}
-use Rattle.end_model.specs.Chain.{since, taken}
-use Rattle.end_model.specs.Phases.{has_command}
-use Rattle.end_model.specs.Setup.{OfMaster}
-use Rattle.exchange_model.specs.Ends.{peer}
-use Rattle.exchange_model.specs.World.{deeds, frames_of, next_entry, world}
-use Rattle.exchange_model.proofs.Honest.SlaveTurn.{Accepts}
-use Rattle.exchange_model.proofs.Honest.Stages.{both, Asked, Down, Stage, IsDown}
-use Rattle.exchange_model.proofs.Honest.Turns.{partner, Partner}
-use Rattle.trace_diag.specs.Conforms.{sent_in}
-use Rattle.trace_diag.specs.Schedule.{read_schedule}
-use Rattle.trace_diag.specs.Trace.{frames_from, turn, Noted}
 use Rattle.trace_diag.proofs.Along.{master_brought, slave_brought, Brought}
 use Rattle.trace_diag.proofs.LockStep.{first_runs, next_runs, steps, Runs, Steps}
 use Rattle.trace_diag.proofs.MasterRows.{IsPlain}

@@ -1,8 +1,7 @@
 -- The settings that are read off worked traces.
+use Rattle.trace_diag.proofs.Common.{MasterSettings, SlaveSettings}
 use Rattle.std.proofs.Common.{refl}
 use Rattle.std.proofs.lemmas.Bool.{ltb-true}
-use Rattle.param_load.specs.declared.master_settings.MasterSettings.{MasterSettings}
-use Rattle.param_load.specs.declared.slave_settings.SlaveSettings.{SlaveSettings}
 use Rattle.end_model.specs.WorkedRuns.{master_values, slave_values}
 
 -- of the whole trace

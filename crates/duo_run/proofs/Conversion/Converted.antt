@@ -1,23 +1,13 @@
 -- What the lines of a pair file are converted to one by one is what the file is converted to.
+use Rattle.duo_run.proofs.Common.{AtEnd, Ended, Event, Heading, InputCause, Line, LineCause, LineTaken, NoLine, PairRead, Refused, ScheduleLine, Stop, TooMany, WholeHeader, converted_by, end_taken, ended_at_stop, event_of, event_taken, event_text, full_taken, header_in, header_of, header_piece, header_step, header_taken, header_text, heading_after, heading_is_whole, heading_new, input_after, input_by, is_full, last_text, later_taken, line_of_end, line_taken, line_text, lines_of, read_none, refused_at, refused_line, said_after, schedule_format, steps, stop_at, stop_by, stop_full, texts, title_text, with_room}
 use Rattle.std.proofs.Common.{◌≡◌, ℕ, suc, ◌+◌, ◌-◌, Bool, true, false, List, [], ◌∷◌, ◌++◌, length, take, map, refl, ap, ◌∙◌, sym, subst, append_assoc, add-zero, arith}
 use Rattle.std.specs.Prelude.{Result, Ok, Err, MatchResult, codes, slice_get, ◌==◌, if◌then◌else◌}
 use Rattle.std.specs.List.{flat_map}
 use Rattle.std.specs.Str.{bytes_eq}
-use Rattle.fsoe_io.specs.declared.status.Ended.{Ended}
-use Rattle.schedule_file.specs.Header.{Heading, heading_after, heading_is_whole, heading_new}
-use Rattle.schedule_file.specs.Input.{AtEnd, InputCause, Line, NoLine, Refused, Stop, TooMany, WholeHeader, event_of, header_in, header_of, header_step, input_after, input_by, is_full, lines_of, said_after, schedule_format, steps, stop_at, stop_by, stop_full, texts, with_room}
-use Rattle.schedule_file.specs.declared.event.Event.{Event}
-use Rattle.schedule_file.specs.declared.event.ScheduleLine.{ScheduleLine}
 use Rattle.schedule_file.specs.declared.event.ScheduleLine.TheVariants as said
 use Rattle.schedule_file.specs.declared.header_kind.HeaderKind.TheVariants as kind
-use Rattle.schedule_file.specs.declared.line_cause.LineCause.{LineCause}
-use Rattle.file_run.specs.Ran.{line_of_end}
-use Rattle.file_run.specs.Report.{refused_line}
-use Rattle.file_run.specs.Reporting.{refused_at}
 use Rattle.std.proofs.lemmas.Bool.Decides.{nat_tests}
 use Rattle.std.proofs.lemmas.List.{append-nil, length_push}
-use Rattle.duo_run.specs.Convert.{converted_by, ended_at_stop, event_text, header_text, last_text, line_text, title_text}
-use Rattle.duo_run.specs.Converting.{LineTaken, PairRead, end_taken, event_taken, full_taken, header_piece, header_taken, later_taken, line_taken, read_none}
 
 abbrev pub Lines : Type 0
 Lines = List (Result (List ℕ) InputCause)

@@ -1,29 +1,18 @@
 -- Line by line, what a pair file is converted to says the same of the only pair.
+use Rattle.duo_run.proofs.Common.{Event, Heading, LineCause, PairsHeading, PairsStage, by_word, fields_of, fields_taken, heading_after, heading_is_whole, heading_profile, last_taken, only_pair, own_length, pair_taken, pairs_begun, pairs_heading_after, pairs_line, pairs_line_taken, pairs_of, pairs_said_after, said_after, stage_after, title_taken, with_pair, ◌>>=◌}
 use Rattle.std.proofs.Common.{◌≡◌, ℕ, Bool, true, false, List, [], ◌∷◌, ◌++◌, map, refl, ap, ◌∙◌, sym, arith}
 use Rattle.std.specs.Prelude.{Result, Ok, codes, ◌&&◌, if◌then◌else◌}
 use Rattle.std.specs.Str.{bytes_eq}
 use Rattle.std.proofs.lemmas.Fmt.{decimal_digit}
 use Rattle.std.proofs.lemmas.Slice.Eq.{bytes_eq-Decides}
-use Rattle.schedule_file.specs.Field.{fields_of}
-use Rattle.schedule_file.specs.Fields.{◌>>=◌, by_word}
-use Rattle.schedule_file.specs.Header.{Heading, fields_taken, heading_after, heading_is_whole, title_taken}
-use Rattle.schedule_file.specs.Input.{heading_profile, own_length, said_after}
 use Rattle.schedule_file.specs.NodeHeader.{may_end}
-use Rattle.schedule_file.specs.PairsEvent.{pairs_line}
-use Rattle.schedule_file.specs.PairsFit.{with_pair}
-use Rattle.schedule_file.specs.PairsHeader.{PairsHeading, last_taken, pair_taken, pairs_begun, pairs_line_taken, pairs_heading_after, pairs_of, stage_after}
-use Rattle.schedule_file.specs.PairsInput.{pairs_said_after}
 use Rattle.schedule_file.specs.Place.{is_start}
-use Rattle.schedule_file.specs.declared.event.Event.{Event}
 use Rattle.schedule_file.specs.declared.event.ScheduleLine.TheVariants as said
 use Rattle.schedule_file.specs.declared.header_kind.HeaderKind.TheVariants as kind
-use Rattle.schedule_file.specs.declared.line_cause.LineCause.{LineCause}
 use Rattle.schedule_file.specs.declared.line_cause.LineCause.TheVariants as cause
-use Rattle.schedule_file.specs.declared.pairs_header.PairsStage.{PairsStage}
 use Rattle.schedule_file.specs.declared.pairs_header.PairsStage.TheVariants as stage
 use Rattle.schedule_file.specs.declared.pairs_line.PairsLine.TheVariants as pairs_said
 use Rattle.schedule_file.proofs.PairsRead.{numbered_said}
-use Rattle.duo_run.specs.Convert.{only_pair}
 
 -- the only pair, of which a line of its header was read
 abbrev begun : Heading → PairsHeading

@@ -1,20 +1,11 @@
 -- The only pair of a converted file does what the pair of that file did, and so the file says the same.
+use Rattle.duo_run.proofs.Common.{AtEnd, Entry, Event, Heading, InputOf, IsOnePair, Pair, PairsEvent, PairsHeading, SaysTheSame, converted, done_after, entries_over, entry_after, events_done, events_to, input_of, pairs_input, world_missed, world_next, world_of}
 use Rattle.std.proofs.Common.{◌≡◌, ℕ, List, [], ◌∷◌, ◌++◌, length, map, refl, arith, ap, sym, ◌∙◌, append_assoc}
 use Rattle.std.specs.Prelude.{IsSomeAnd, Some, None, is_some, if◌then◌else◌}
 use Rattle.std.specs.declared.option.Option.{Option}
 use Rattle.std.proofs.lemmas.List.{append-nil, length_push}
-use Rattle.param_load.specs.declared.entry.Entry.{Entry}
-use Rattle.schedule_file.specs.Header.{Heading}
-use Rattle.schedule_file.specs.Input.{AtEnd, InputOf, input_of}
-use Rattle.schedule_file.specs.PairsHeader.{PairsHeading}
-use Rattle.schedule_file.specs.PairsInput.{pairs_input}
-use Rattle.schedule_file.specs.declared.event.Event.{Event}
 use Rattle.schedule_file.specs.declared.header_kind.HeaderKind.TheVariants as kind
-use Rattle.schedule_file.specs.declared.pairs_line.PairsEvent.{PairsEvent}
 use Rattle.schedule_file.specs.declared.pairs_line.PairsEvent.TheVariants as common
-use Rattle.exchange_model.proofs.Worlds.Longer.{world_next, world_missed}
-use Rattle.duo_run.specs.Convert.{IsOnePair, SaysTheSame, converted}
-use Rattle.duo_run.specs.Pairs.{Pair, done_after, entries_over, entry_after, events_done, events_to, world_of}
 use Rattle.duo_run.proofs.Conversion.OnePair.{converts}
 
 abbrev of_one : Event → PairsEvent

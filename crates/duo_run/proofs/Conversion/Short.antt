@@ -1,4 +1,5 @@
 -- The line of an event is short, so that with the number of a pair before it is a line still.
+use Rattle.duo_run.proofs.Common.{End, IfOk-every, IfOk-map, LineCause, Profile, ScheduleLine, allows_id, bytes_said, fields_of, is_number, number_said, one_field, one_hex_field, value_or, ◌>>=◌}
 use Rattle.std.proofs.Common.{◌≡◌, ℕ, ◌+◌, ◌/◌, ◌≤◌, Bool, true, false, List, [], ◌∷◌, length, get_or, refl, ap, subst, inl, inr, arith}
 use Rattle.std.specs.Prelude.{◌&&◌, ◌||◌, ◌==◌, nat_lt, nat_le, IfOk, Result, Ok, Err, Option, Some, None, codes, decimal, slice_index, if◌then◌else◌}
 use Rattle.std.specs.List.{join_with_byte}
@@ -12,24 +13,16 @@ use Rattle.std.proofs.lemmas.List.Splits.{join_with_byte-slice_split}
 use Rattle.std.proofs.lemmas.Result.{IfOk-at_ok, IfOk-weaker}
 use Rattle.std.proofs.lemmas.Slice.Eq.{bytes_eq-Decides}
 use Rattle.std.proofs.lemmas.Str.Parse.{numerals_by_value, tells_all_ascii_digits}
-use Rattle.fsoe_base.specs.declared.command.End.{End}
 use Rattle.fsoe_base.specs.declared.command.End.TheVariants as side
 use Rattle.fsoe_base.specs.declared.lengths.TheConstants.{MOST_DATA, MOST_FRAME}
-use Rattle.param_load.specs.Profile.{allows_id}
-use Rattle.param_load.specs.declared.profile.Profile.{Profile}
 use Rattle.schedule_file.specs.EventLine.{altered_line, bare_line, delivered_len, not_zero, reference_of, switch_of}
-use Rattle.schedule_file.specs.Field.{bytes_said, fields_of, is_number, number_said}
-use Rattle.schedule_file.specs.Fields.{◌>>=◌, one_field, one_hex_field, value_or}
 use Rattle.schedule_file.specs.PairEvent.{pair_line, pair_said, pair_said_by, pair_word_of}
-use Rattle.schedule_file.specs.declared.event.ScheduleLine.{ScheduleLine}
 use Rattle.schedule_file.specs.declared.event.Event.TheVariants as event
 use Rattle.schedule_file.specs.declared.event.ScheduleLine.TheVariants as line
-use Rattle.schedule_file.specs.declared.line_cause.LineCause.{LineCause}
 use Rattle.schedule_file.specs.declared.line_cause.LineCause.TheVariants as cause
 use Rattle.schedule_file.specs.declared.pair_event.PairWord.{PairWord}
 use Rattle.schedule_file.specs.declared.pair_event.PairWord.TheVariants as word
 use Rattle.schedule_file.proofs.HexDigits.{other_count}
-use Rattle.schedule_file.proofs.Sound.{IfOk-every, IfOk-map}
 
 -- a number of at most 32 bits has at most ten digits
 first_digit : (text : List ℕ) (one above : Bool) → length text == 1 ≡ one → nat_lt 48 (slice_index text 0) ≡ above → (one || above) ≡ true → get_or text 0 0 ≡ 48 → length text ≡ 1

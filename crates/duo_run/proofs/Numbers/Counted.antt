@@ -1,19 +1,10 @@
 -- A summary counts the next entry.
+use Rattle.duo_run.proofs.Common.{CountsEntry, Did, End, Entry, State, Summary, counts_of, data_taken, has_drop, has_reset, same_end, state_told, summary_of, takes_data}
 use Rattle.std.proofs.Common.{◌≡◌, ℕ, ◌+◌, List, ◌∷◌, Bool, true, false, ◌&&◌, cond, if◌then◌else◌, refl, sym, ap, subst, ◌∙◌, add_comm, arith}
 use Rattle.std.specs.Prelude.{count_by, is_some}
 use Rattle.std.proofs.lemmas.List.Sums.{sum_by-cons}
-use Rattle.fsoe_base.specs.declared.command.End.{End}
 use Rattle.fsoe_base.specs.declared.command.End.TheVariants as end_name
-use Rattle.fsoe_base.specs.declared.command.State.{State}
-use Rattle.fsoe_base.specs.declared.did.Did.{Did}
-use Rattle.param_load.specs.declared.entry.Entry.{Entry}
-use Rattle.exchange_model.specs.Ends.{same_end}
-use Rattle.exchange_model.specs.Fair.{data_taken, takes_data}
-use Rattle.exchange_model.specs.Serving.{state_told}
-use Rattle.duo_run.specs.Summary.{has_reset, has_drop, counts_of, summary_of}
-use Rattle.duo_run.specs.Duo.{CountsEntry}
 use Rattle.duo_run.specs.declared.summary.Counts.{Counts}
-use Rattle.duo_run.specs.declared.summary.Summary.{Summary}
 
 -- what an end did and its state are counted
 pub record Noted (old : Counts) (did : Did) (state : State) (new : Counts) : Type 0 where

@@ -1,23 +1,14 @@
 -- The schedule of number 0 is honest.
+use Rattle.duo_run.proofs.Common.{End, Entry, Event, HasNoReset, IsProperEvent, Serves, TakesDelivery, entries_of, entry_at, event_in_turn, honest_serves, made, made_master, made_slave, peer}
 use Rattle.std.proofs.Common.{◌≡◌, ℕ, zero, suc, ◌%◌, ◌==◌, List, [], ◌∷◌, ◌++◌, true, false, Some, None, All, refl, sym, ap, ap₂, subst, ◌∙◌, arith}
 use Rattle.std.specs.List.{list_all}
 use Rattle.std.proofs.lemmas.Bool.{leb-true}
 use Rattle.std.proofs.lemmas.Bool.Decides.{nat_tests}
 use Rattle.std.proofs.lemmas.List.Elements.{All-nil, All-cons}
-use Rattle.fsoe_base.specs.declared.command.End.{End}
 use Rattle.fsoe_base.specs.declared.command.End.TheVariants as end_name
-use Rattle.param_load.specs.declared.entry.Entry.{Entry}
-use Rattle.schedule_file.specs.declared.event.Event.{Event}
 use Rattle.schedule_file.specs.declared.event.Event.TheVariants as event
-use Rattle.schedule_file.specs.Made.{event_in_turn, made, made_master, made_slave}
 use Rattle.schedule_file.proofs.Making.{event_at-zero}
-use Rattle.exchange_model.specs.Ends.{peer}
-use Rattle.exchange_model.specs.World.{entry_at}
-use Rattle.exchange_model.specs.Schedules.{IsProperEvent}
 use Rattle.exchange_model.specs.Honest.{Match, is_plain, in_turn, if_on, keeps_time, IsHonest}
-use Rattle.exchange_model.specs.Serving.{Serves, HasNoReset, TakesDelivery}
-use Rattle.exchange_model.proofs.Honest.ServingRuns.{honest_serves}
-use Rattle.duo_run.specs.Bulk.{entries_of}
 
 -- so many times the peer's last frame comes to an end, this one first, and to its peer in turn
 abbrev alternating : End → ℕ → List Event

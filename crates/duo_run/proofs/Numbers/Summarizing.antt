@@ -1,28 +1,10 @@
 -- What holds of a pair after so many events of a number.
+use Rattle.duo_run.proofs.Common.{Advances, CountsEntry, Did, DuoStands, DuoView, End, Entry, Event, Fits, FitsMade, HasRoom, Lengths, MasterSettings, Misses, MonitorView, NextEntry, Profiles, ShowsLast, SlaveSettings, State, Summary, counts_of, end_of_event, entries_of, entry_at, event_at, has_drop, has_reset, length_of, lengths_of, made_lengths, made_master, made_profiles, made_slave, profile_of, profiles_of, steps_done, summary_of, takes_data}
 use Rattle.std.proofs.Common.{◌≡◌, ℕ, suc, ◌+◌, ◌^◌, ◌<◌, List, [], ◌∷◌, length, Some, None, sym, ap, ap₂, subst, ◌∙◌, add-one, arith, rules}
 use Rattle.std.specs.Prelude.{Result, Ok, Err, IsOk, OnErr}
 use Rattle.std.proofs.lemmas.List.Sums.{count_by-le-length}
-use Rattle.fsoe_base.specs.LengthsOf.{length_of}
-use Rattle.fsoe_base.specs.declared.command.End.{End}
 use Rattle.fsoe_base.specs.declared.command.End.TheVariants as end_name
-use Rattle.fsoe_base.specs.declared.command.State.{State}
-use Rattle.fsoe_base.specs.declared.did.Did.{Did}
-use Rattle.param_load.specs.declared.entry.Entry.{Entry}
-use Rattle.param_load.specs.declared.master_settings.MasterSettings.{MasterSettings}
-use Rattle.param_load.specs.declared.profile.Profiles.{Profiles}
-use Rattle.param_load.specs.declared.slave_settings.SlaveSettings.{SlaveSettings}
-use Rattle.fsoe_base.specs.declared.lengths.Lengths.{Lengths}
-use Rattle.schedule_file.specs.Event.{Fits, profile_of, FitsMade, made_profiles}
-use Rattle.exchange_model.specs.Fair.{takes_data}
-use Rattle.schedule_file.specs.Made.{event_at, made_lengths, made_master, made_slave}
 use Rattle.schedule_file.specs.Maker.{MakerView, IsMaker, Makes}
-use Rattle.schedule_file.specs.declared.event.Event.{Event}
-use Rattle.exchange_model.specs.Monitor.{MonitorView}
-use Rattle.exchange_model.specs.World.{end_of_event, entry_at}
-use Rattle.duo_run.specs.Bulk.{entries_of}
-use Rattle.duo_run.specs.Duo.{DuoView, DuoStands, NextEntry, Advances, Misses, ShowsLast, lengths_of, profiles_of, steps_done, CountsEntry, HasRoom}
-use Rattle.duo_run.specs.Summary.{has_reset, has_drop, counts_of, summary_of}
-use Rattle.duo_run.specs.declared.summary.Summary.{Summary}
 use Rattle.duo_run.proofs.Numbers.WholeRuns.{Goes, entry_goes, entries_more, is_whole}
 
 -- a maker, a pair and a summary after so many events of a number

@@ -1,19 +1,7 @@
 -- What a bulk run reports.
+use Rattle.duo_run.proofs.Common.{Ended, Entry, Fair, IsWorld, Summary, Told, before_is_clean, before_is_world, before_other, ended_with, entries_of, fair_world, first_other, made_lengths, made_master, made_slave, number_line, other_line, report_of, summary_lines, summary_of}
 use Rattle.std.proofs.Common.{◌≡◌, ℕ, List, ◌++◌, Option, refl, ap, ap₂, subst, ◌∙◌}
-use Rattle.fsoe_io.specs.declared.status.Ended.{Ended}
-use Rattle.param_load.specs.declared.entry.Entry.{Entry}
-use Rattle.schedule_file.specs.Made.{made_lengths, made_master, made_slave}
 use Rattle.file_run.specs.Ending.{Writes}
-use Rattle.file_run.specs.Outside.{Told}
-use Rattle.exchange_model.specs.Fair.{Fair}
-use Rattle.exchange_model.specs.Other.{before_other, first_other}
-use Rattle.exchange_model.specs.Schedules.{IsWorld}
-use Rattle.exchange_model.proofs.Fairness.Headline.{fair_world}
-use Rattle.exchange_model.proofs.Worlds.Others.{before_is_clean, before_is_world}
-use Rattle.duo_run.specs.Bulk.{entries_of, number_line, summary_lines, report_of}
-use Rattle.file_run.specs.Report.{ended_with, other_line}
-use Rattle.duo_run.specs.Summary.{summary_of}
-use Rattle.duo_run.specs.declared.summary.Summary.{Summary}
 
 -- what is known of a run is its report
 reported : (number events : ℕ) (w : List Entry) (summary : Summary) (other : Option ℕ) → summary ≡ summary_of w → other ≡ first_other w

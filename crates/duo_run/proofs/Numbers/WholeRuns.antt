@@ -1,21 +1,13 @@
 -- No event of a number names a frame that wasn't sent, so each has its entry.
+use Rattle.duo_run.proofs.Common.{End, Entry, Event, altered_delivery, deed_in, deeds, delivery, end_of_event, entries_of, entry_at, entry_on, event_at, event_by, frames_of, is_empty, is_switch_on, load_of, made, made_master, made_slave, mask_of, move_from, next_entry, peer, place_of, same_end, setup_of, word_after, world_next}
 use Rattle.std.proofs.Common.{◌≡◌, ℕ, zero, suc, ◌-◌, ◌≤◌, ◌/◌, ◌%◌, ◌^◌, List, [], ◌∷◌, length, Bool, true, false, if◌then◌else◌, Some, refl, sym, ap, subst, ◌∙◌, length-append, arith}
-use Rattle.fsoe_base.specs.declared.command.End.{End}
 use Rattle.fsoe_base.specs.declared.command.End.TheVariants as end_name
 use Rattle.fsoe_crc.specs.Remainder.{computing}
-use Rattle.param_load.specs.declared.entry.Entry.{Entry}
 use Rattle.param_load.specs.declared.entry.Move.{Move}
 use Rattle.param_load.specs.declared.entry.Move.TheVariants as move
 use Rattle.black_channel.specs.Altered.{altered, back_th}
-use Rattle.schedule_file.specs.declared.event.Event.{Event}
 use Rattle.schedule_file.specs.declared.event.Event.TheVariants as event
-use Rattle.schedule_file.specs.Made.{event_at, event_by, word_after, place_of, mask_of, load_of, is_switch_on, made, made_master, made_slave}
-use Rattle.end_model.specs.Deed.{is_empty}
 use Rattle.end_model.specs.Chain.{own}
-use Rattle.exchange_model.specs.Ends.{same_end, peer}
-use Rattle.exchange_model.specs.World.{setup_of, deed_in, deeds, frames_of, end_of_event, delivery, altered_delivery, move_from, next_entry, entry_on, entry_at}
-use Rattle.exchange_model.proofs.Worlds.Longer.{world_next}
-use Rattle.duo_run.specs.Bulk.{entries_of}
 
 -- after an entry an end has sent as many frames or one more
 own_more : (sent : Bool) (frame : List ℕ) (frames : List (List ℕ)) → length frames ≤ length (if sent then frames else frame ∷ frames)

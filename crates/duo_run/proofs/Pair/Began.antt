@@ -1,15 +1,9 @@
 -- A new pair stands for no entry.
+use Rattle.duo_run.proofs.Common.{DuoStands, DuoView, IsDuo, MasterIsAfter, MasterSettings, SameLengths, SlaveIsAfter, SlaveSettings, window_of}
 use Rattle.std.proofs.Common.{◌≡◌, false, [], sym, ap, ◌∙◌}
-use Rattle.param_load.specs.declared.master_settings.MasterSettings.{MasterSettings}
-use Rattle.param_load.specs.declared.slave_settings.SlaveSettings.{SlaveSettings}
-use Rattle.black_channel.specs.Window.{window_of}
-use Rattle.exchange_model.specs.World.{SameLengths}
 use Rattle.exchange_model.specs.Monitor as monitor
 use Rattle.master_core.specs.Now.{is_due}
-use Rattle.master_core.specs.Standing.{MasterIsAfter}
 use Rattle.slave_core.specs.SlaveView.{SlaveView}
-use Rattle.slave_core.specs.Standing.{SlaveIsAfter}
-use Rattle.duo_run.specs.Duo.{DuoView, DuoStands, IsDuo}
 
 pub stands_new : (ms : MasterSettings) (ss : SlaveSettings) (v : DuoView) → MasterIsAfter ms v.master [] → SlaveIsAfter ss v.slave []
     → v.master_sent ≡ window_of [] → v.slave_sent ≡ window_of [] → v.monitor ≡ monitor.view_of [] → DuoStands ms ss v []

@@ -1,14 +1,7 @@
 -- The lines of entries one after another.
+use Rattle.duo_run.proofs.Common.{Entry, Event, IsPrefix, MasterSettings, SlaveSettings, entry_at, entry_line, entry_lines, going_on, world, world_after, world_on}
 use Rattle.std.proofs.Common.{◌≡◌, ℕ, ◌+◌, List, [], ◌∷◌, ◌++◌, length, Option, Some, None, ap, ◌∙◌, sym, append_assoc}
 use Rattle.std.proofs.lemmas.List.{append-nil}
-use Rattle.param_load.specs.declared.entry.Entry.{Entry}
-use Rattle.param_load.specs.declared.master_settings.MasterSettings.{MasterSettings}
-use Rattle.param_load.specs.declared.slave_settings.SlaveSettings.{SlaveSettings}
-use Rattle.schedule_file.specs.declared.event.Event.{Event}
-use Rattle.file_run.specs.Reporting.{IsPrefix}
-use Rattle.exchange_model.specs.World.{entry_at, going_on, world_after, world}
-use Rattle.exchange_model.proofs.Worlds.Longer.{world_on}
-use Rattle.duo_run.specs.Replay.{entry_line, entry_lines}
 
 lines_on : (ms : MasterSettings) (ss : SlaveSettings) (events : List Event) (w : List Entry) (next : Option Entry) → ((x : Entry) → IsPrefix (entry_lines (x ∷ w)) (entry_lines (world_after ms ss events (x ∷ w))))
     → IsPrefix (entry_lines w) (entry_lines (going_on w next (world_after ms ss events)))

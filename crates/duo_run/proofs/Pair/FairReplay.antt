@@ -1,26 +1,14 @@
 -- The events of an input are proper at ends that are set to its header, so that the laws of the pair hold of its run.
+use Rattle.duo_run.proofs.Common.{AreSetTo, Event, Fits, Heading, IsProperEvent, MasterSettings, Profile, RunsFairly, SameLengths, ServesIfHonest, SlaveSettings, allows_id, fair_before, heading_profile, honest_serves, input_of, own_length}
 use Rattle.std.proofs.Common.{ℕ, List, All, IsTrue, sym, subst, ◌∙◌}
 use Rattle.std.specs.Prelude.{IfSome, Some, None}
 use Rattle.std.specs.declared.option.Option.{Option}
 use Rattle.std.proofs.lemmas.List.Elements.{All-weaker}
 use Rattle.std.proofs.lemmas.Option.{IfSome_then}
 use Rattle.fsoe_base.specs.declared.command.End.TheVariants as end_name
-use Rattle.param_load.specs.Profile.{allows_id}
-use Rattle.param_load.specs.declared.master_settings.MasterSettings.{MasterSettings}
-use Rattle.param_load.specs.declared.profile.Profile.{Profile}
-use Rattle.param_load.specs.declared.slave_settings.SlaveSettings.{SlaveSettings}
-use Rattle.schedule_file.specs.Event.{Fits}
-use Rattle.schedule_file.specs.Header.{Heading}
-use Rattle.schedule_file.specs.Input.{own_length, heading_profile, input_of}
-use Rattle.schedule_file.specs.declared.event.Event.{Event}
 use Rattle.schedule_file.specs.declared.event.Event.TheVariants as event
 use Rattle.schedule_file.specs.declared.header_kind.HeaderKind.TheVariants as kind
 use Rattle.schedule_file.proofs.Fitting.{events_fit}
-use Rattle.exchange_model.specs.World.{SameLengths}
-use Rattle.exchange_model.specs.Schedules.{IsProperEvent}
-use Rattle.exchange_model.proofs.Fairness.Headline.{fair_before}
-use Rattle.exchange_model.proofs.Honest.ServingRuns.{honest_serves}
-use Rattle.duo_run.specs.Replay.{AreSetTo, RunsFairly, ServesIfHonest}
 
 -- ends that are set to a header have the same lengths
 pub same_lengths : (h : Heading) (ms : MasterSettings) (ss : SlaveSettings) → AreSetTo h ms ss → SameLengths ms ss

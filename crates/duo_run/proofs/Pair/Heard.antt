@@ -1,8 +1,7 @@
 -- A window hears the frame of a step, and none where none was sent.
+use Rattle.duo_run.proofs.Common.{Hears, Pushes, WindowView}
 use Rattle.std.proofs.Common.{◌≡◌, ◌==◌, ℕ, suc, arith, List, [], ◌∷◌, length, true, false}
 use Rattle.std.proofs.lemmas.Bool.{eqb-true}
-use Rattle.black_channel.specs.Window.{WindowView, Pushes}
-use Rattle.duo_run.specs.Acts.{Hears}
 
 pub hears_frame : (old : WindowView) (frame : List ℕ) (new : WindowView) → (length frame == 0) ≡ false → Pushes old frame new → Hears old frame new
 hears_frame old [] new some p = absurd (cc)

@@ -1,21 +1,11 @@
 -- What an event is to its end: by the last 64 frames of its peer as by all of them.
+use Rattle.duo_run.proofs.Common.{DuoView, End, Event, Fits, IsDuo, IsProper, IsWritable, OfMaster, OfSlave, WindowView, allows_id, altered_delivery, delivery, end_of_event, length_of, lengths_of, move_at, move_from, profile_of, profiles_of, window_of}
 use Rattle.std.proofs.Common.{◌≡◌, ℕ, List, refl, ap, subst, ◌∙◌}
 use Rattle.std.specs.Prelude.{IsTrue}
-use Rattle.fsoe_base.specs.LengthsOf.{length_of}
-use Rattle.fsoe_base.specs.declared.command.End.{End}
 use Rattle.fsoe_base.specs.declared.command.End.TheVariants as end_name
-use Rattle.param_load.specs.Profile.{allows_id}
-use Rattle.black_channel.specs.Window.{WindowView, window_of}
 use Rattle.black_channel.specs.Altered.{back_th}
 use Rattle.black_channel.proofs.Pushed.{back_within}
-use Rattle.schedule_file.specs.Event.{IsWritable, Fits, profile_of}
-use Rattle.schedule_file.specs.declared.event.Event.{Event}
 use Rattle.schedule_file.specs.declared.event.Event.TheVariants as event
-use Rattle.end_model.specs.Setup.{OfMaster, OfSlave}
-use Rattle.end_model.specs.Runs.{IsProper}
-use Rattle.exchange_model.specs.World.{delivery, altered_delivery, move_from, end_of_event}
-use Rattle.duo_run.specs.Duo.{DuoView, lengths_of, profiles_of, IsDuo}
-use Rattle.duo_run.specs.Acts.{move_at}
 
 -- the frames of a window are enough
 pub moved_within : (v : WindowView) (frames : List (List ℕ)) (event : Event) → IsWritable event → v ≡ window_of frames → move_from v.frames event ≡ move_from frames event

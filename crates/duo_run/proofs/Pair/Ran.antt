@@ -1,24 +1,9 @@
 -- A pair over a whole list of events.
+use Rattle.duo_run.proofs.Common.{DuoStands, DuoView, End, Entry, Event, Fair, IsProperEvent, MasterSettings, SameLengths, Serves, SlaveSettings, before_is_clean, before_is_world, before_other, entries, fair_world, going_on, honest_fair, honest_serves, moves, of_end, setup_of, world, world_after}
 use Rattle.std.proofs.Common.{◌≡◌, List, [], ◌∷◌, All, Option, sym, ap, subst, ◌∙◌, inl, inr}
-use Rattle.fsoe_base.specs.declared.command.End.{End}
-use Rattle.param_load.specs.declared.entry.Entry.{Entry}
-use Rattle.param_load.specs.declared.master_settings.MasterSettings.{MasterSettings}
-use Rattle.param_load.specs.declared.slave_settings.SlaveSettings.{SlaveSettings}
-use Rattle.schedule_file.specs.declared.event.Event.{Event}
-use Rattle.end_model.specs.Runs.{entries}
 use Rattle.end_model.specs.Step.{run}
-use Rattle.exchange_model.specs.Ends.{of_end}
-use Rattle.exchange_model.specs.Fair.{Fair}
 use Rattle.exchange_model.specs.Honest.{Match, IsHonest}
-use Rattle.exchange_model.specs.Other.{before_other}
-use Rattle.exchange_model.specs.Serving.{Serves}
-use Rattle.exchange_model.specs.World.{setup_of, going_on, world_after, world, SameLengths}
-use Rattle.exchange_model.specs.Schedules.{moves, IsProperEvent}
-use Rattle.exchange_model.proofs.Fairness.Headline.{fair_world}
-use Rattle.exchange_model.proofs.Honest.ServingRuns.{honest_serves, honest_fair}
-use Rattle.exchange_model.proofs.Worlds.Others.{before_is_clean, before_is_world}
 use Rattle.exchange_model.proofs.Worlds.Projection as alone
-use Rattle.duo_run.specs.Duo.{DuoView, DuoStands}
 use Rattle.duo_run.specs.Ran.{Ran}
 
 entries_after : (ms : MasterSettings) (ss : SlaveSettings) (first last : DuoView) (events : List Event) (w whole : List Entry) → DuoStands ms ss first w → Ran first events w last whole → whole ≡ world_after ms ss events w

@@ -1,36 +1,14 @@
 -- A pair does over its events what a world says, and reports it.
+use Rattle.duo_run.proofs.Common.{Advances, AtEnd, Did, DuoStands, DuoView, End, Ended, EndsReport, EndsUnmet, EndsWhole, Entry, Event, Fits, Heading, Input, MasterSettings, MayCome, Misses, NextEntry, NoFrame, Profile, Refused, ReplayReports, ReplayStands, ReportsSoFar, ShowsLast, SlaveSettings, State, Stop, TakesEvent, end_of_event, ended_at, ended_with, entry_at, entry_line, entry_lines, events_line, first_other, heading_profile, input_stopped, last_lines, length_of, lengths_of, line_of, number_of_first, other_line, own_length, profile_of, profiles_of, refused_line, replay_reporting, run_stop, schedule_format, world, world_missed, world_next}
 use Rattle.std.proofs.Common.{◌≡◌, ℕ, ◌+◌, Bool, true, List, [], ◌∷◌, ◌++◌, length, refl, arith, ap, ◌∙◌, sym, subst, append_assoc, eq-eqb}
 use Rattle.std.specs.Prelude.{Some, None, if◌then◌else◌}
 use Rattle.std.specs.declared.option.Option.{Option}
 use Rattle.std.proofs.lemmas.Bool.{ne_eqb}
 use Rattle.std.proofs.lemmas.List.{length_push, length-append}
-use Rattle.fsoe_base.specs.LengthsOf.{length_of}
-use Rattle.fsoe_base.specs.declared.command.End.{End}
 use Rattle.fsoe_base.specs.declared.command.End.TheVariants as end_name
-use Rattle.fsoe_base.specs.declared.command.State.{State}
-use Rattle.fsoe_base.specs.declared.did.Did.{Did}
-use Rattle.fsoe_io.specs.declared.status.Ended.{Ended}
-use Rattle.param_load.specs.declared.entry.Entry.{Entry}
-use Rattle.param_load.specs.declared.master_settings.MasterSettings.{MasterSettings}
-use Rattle.param_load.specs.declared.profile.Profile.{Profile}
-use Rattle.param_load.specs.declared.slave_settings.SlaveSettings.{SlaveSettings}
-use Rattle.schedule_file.specs.Event.{Fits, profile_of}
-use Rattle.schedule_file.specs.Header.{Heading}
-use Rattle.schedule_file.specs.Input.{NoFrame, Stop, AtEnd, Refused, Input, own_length, heading_profile, schedule_format}
 use Rattle.schedule_file.proofs.Fitting.{pair_event_fits}
-use Rattle.schedule_file.specs.declared.event.Event.{Event}
 use Rattle.schedule_file.specs.declared.header_kind.HeaderKind.TheVariants as kind
-use Rattle.file_run.specs.Machine.{TakesEvent, MayCome, EndsReport, EndsUnmet}
-use Rattle.file_run.specs.Ran.{EndsWhole}
 use Rattle.file_run.proofs.EndedWith.{ended_whole}
-use Rattle.file_run.specs.Report.{ended_with, events_line, other_line, refused_line}
-use Rattle.file_run.specs.Reporting.{ReportsSoFar, input_stopped}
-use Rattle.exchange_model.specs.Other.{first_other}
-use Rattle.exchange_model.specs.World.{end_of_event, entry_at, world}
-use Rattle.exchange_model.proofs.Worlds.Longer.{world_next, world_missed}
-use Rattle.exchange_model.proofs.Worlds.Others.{number_of_first}
-use Rattle.duo_run.specs.Duo.{DuoView, lengths_of, profiles_of, DuoStands, NextEntry, Advances, Misses, ShowsLast, ReplayStands}
-use Rattle.duo_run.specs.Replay.{line_of, entry_line, entry_lines, last_lines, ended_at, run_stop, ReplayReports, replay_reporting}
 use Rattle.duo_run.proofs.Pair.EntryLines.{lines_begin}
 
 -- the lengths and the profiles of a pair are those of its header

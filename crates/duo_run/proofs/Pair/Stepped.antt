@@ -1,32 +1,15 @@
 -- A pair whose end does its next deed does the next entry of the world.
+use Rattle.duo_run.proofs.Common.{Acts, Advances, Comes, Deed, Did, DuoStands, DuoView, End, Entry, Event, Happens, Hears, IsWritable, MasterActs, MasterIsAfter, MasterSettings, Misses, NextEntry, NotesParts, OfMaster, OfSlave, Setup, ShowsLast, SlaveActs, SlaveIsAfter, SlaveSettings, State, Steps, deeds, delivered, end_of_event, entry_at, entry_on, frames_of, heard_at, is_empty, move_at, move_from, next_entry, peer, sent_by, setup_of, window_of}
 use Rattle.std.proofs.Common.{◌≡◌, ℕ, List, ◌∷◌, Option, Some, None, refl, sym, ap, subst, ◌∙◌, if◌then◌else◌}
 use Rattle.std.specs.Prelude.{Result, Ok, Err, OnOk, OnErr}
-use Rattle.fsoe_base.specs.declared.command.End.{End}
 use Rattle.fsoe_base.specs.declared.command.End.TheVariants as end_name
-use Rattle.fsoe_base.specs.declared.command.State.{State}
-use Rattle.fsoe_base.specs.declared.did.Did.{Did}
-use Rattle.param_load.specs.declared.entry.Entry.{Entry}
 use Rattle.param_load.specs.declared.entry.Move.{Move}
-use Rattle.param_load.specs.declared.master_settings.MasterSettings.{MasterSettings}
-use Rattle.param_load.specs.declared.slave_settings.SlaveSettings.{SlaveSettings}
 use Rattle.param_load.specs.declared.terms.Terms.{Terms}
-use Rattle.black_channel.specs.Window.{window_of}
-use Rattle.schedule_file.specs.Event.{IsWritable}
-use Rattle.schedule_file.specs.declared.event.Event.{Event}
-use Rattle.end_model.specs.Setup.{Setup, OfMaster, OfSlave}
-use Rattle.end_model.specs.Deed.{Deed, delivered, is_empty}
 use Rattle.end_model.specs.Step.{step}
-use Rattle.exchange_model.specs.Ends.{peer}
-use Rattle.exchange_model.specs.Monitor.{NotesParts}
-use Rattle.exchange_model.specs.World.{setup_of, deeds, frames_of, end_of_event, move_from, next_entry, entry_on, entry_at}
 use Rattle.master_core.specs.MasterView.{MasterView}
 use Rattle.master_core.specs.Standing as master_core
-use Rattle.master_core.specs.Standing.{MasterIsAfter}
 use Rattle.slave_core.specs.SlaveView.{SlaveView}
 use Rattle.slave_core.specs.Standing as slave_core
-use Rattle.slave_core.specs.Standing.{SlaveIsAfter}
-use Rattle.duo_run.specs.Duo.{DuoView, sent_by, DuoStands, Steps, NextEntry, Advances, Misses, ShowsLast}
-use Rattle.duo_run.specs.Acts.{heard_at, move_at, Comes, Hears, MasterActs, SlaveActs, Acts, Happens}
 use Rattle.duo_run.proofs.Pair.Moved.{moved_within}
 
 window-is : (at : End) (ms : MasterSettings) (ss : SlaveSettings) (v : DuoView) (w : List Entry) → DuoStands ms ss v w → sent_by at v ≡ window_of (frames_of at w)

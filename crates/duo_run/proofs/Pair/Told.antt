@@ -1,26 +1,13 @@
 -- What the readers of an end give after an entry of that end is what the entry tells.
+use Rattle.duo_run.proofs.Common.{Deed, DuoStands, DuoView, End, Entry, IsNextEntry, IsRun, MasterIsAfter, MasterSettings, OfMaster, OfSlave, Setup, ShowsLast, SlaveIsAfter, SlaveSettings, State, deed_in, deeds, same_end, setup_of}
 use Rattle.std.proofs.Common.{◌≡◌, ℕ, List, ◌∷◌, Option, if◌then◌else◌, sym, ap, subst, ◌∙◌}
-use Rattle.fsoe_base.specs.declared.command.End.{End}
 use Rattle.fsoe_base.specs.declared.command.End.TheVariants as end_name
-use Rattle.fsoe_base.specs.declared.command.State.{State}
-use Rattle.param_load.specs.declared.entry.Entry.{Entry}
-use Rattle.param_load.specs.declared.master_settings.MasterSettings.{MasterSettings}
-use Rattle.param_load.specs.declared.slave_settings.SlaveSettings.{SlaveSettings}
 use Rattle.param_load.specs.declared.terms.Terms.{Terms}
-use Rattle.end_model.specs.Setup.{Setup, OfMaster, OfSlave}
-use Rattle.end_model.specs.Deed.{Deed}
-use Rattle.end_model.specs.Runs.{IsRun}
 use Rattle.end_model.specs.Readiness.{state_of, told_terms}
 use Rattle.end_model.specs.Outputs.{outputs, out}
 use Rattle.end_model.proofs.Shown.{looking_back}
-use Rattle.exchange_model.specs.Ends.{same_end}
-use Rattle.exchange_model.specs.World.{setup_of, deed_in, deeds}
-use Rattle.exchange_model.specs.Schedules.{IsNextEntry}
 use Rattle.master_core.specs.Standing as master_core
-use Rattle.master_core.specs.Standing.{MasterIsAfter}
 use Rattle.slave_core.specs.Standing as slave_core
-use Rattle.slave_core.specs.Standing.{SlaveIsAfter}
-use Rattle.duo_run.specs.Duo.{DuoView, DuoStands, ShowsLast}
 
 -- an entry tells a word of the deeds with its own
 record Tells {X : Type 0} (told : Entry → X) (word : Setup → List Deed → X) : Type 0 where

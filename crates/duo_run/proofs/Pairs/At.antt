@@ -1,13 +1,9 @@
 -- The pair of a number, and what a step at it leaves of the others.
+use Rattle.duo_run.proofs.Common.{DuoView, Entry, Event, Steps, StepsAt, lengths_of, numbered, profiles_of, steps_done}
 use Rattle.std.proofs.Common.{◌≡◌, ◌≤◌, ◌+◌, ◌-◌, ℕ, zero, suc, List, [], ◌∷◌, length, get_or, slice_get, slice_set, refl, arith, ap, sym, subst, ◌∙◌}
 use Rattle.std.specs.Prelude.{IfOk, IfSome, OnOk, Result, Ok, Err, Some}
 use Rattle.std.specs.declared.option.Option.{Option}
 use Rattle.std.proofs.lemmas.Option.{slice_get_read}
-use Rattle.param_load.specs.declared.entry.Entry.{Entry}
-use Rattle.schedule_file.specs.PairsEvent.{numbered}
-use Rattle.schedule_file.specs.declared.event.Event.{Event}
-use Rattle.duo_run.specs.Duo.{DuoView, Steps, lengths_of, profiles_of, steps_done}
-use Rattle.duo_run.specs.PairsStanding.{StepsAt}
 
 -- what has a number that there is stands at its place
 pub at_number : {X : Type 0} (xs ys : List X) (k place : ℕ) (x : X) → xs ≡ ys → place ≡ k - 1 → 1 ≤ k → k ≤ length ys → x ≡ get_or xs place x → slice_get xs place ≡ Some x

@@ -1,4 +1,5 @@
 -- Several new pairs are set to what a header says.
+use Rattle.duo_run.proofs.Common.{AreSetTo, DuoStands, DuoView, Heading, IsPairOf, MasterSettings, Pair, PairsHeading, PairsStage, PairsStand, SameLengths, SlaveSettings, StandsOver, is_done, numbered, other_events, pairs_begun, pairs_heading_is_whole, pairs_of}
 use Rattle.std.proofs.Common.{◌≡◌, ◌≤◌, ◌<◌, ◌+◌, ℕ, zero, suc, List, [], ◌∷◌, ◌++◌, All, IsTrue, length, map, take, slice_get, replicate, refl, arith, ap, sym, subst, ◌∙◌, add-one}
 use Rattle.std.specs.Prelude.{Some, None}
 use Rattle.std.specs.List.{AllZip}
@@ -6,19 +7,7 @@ use Rattle.std.specs.declared.option.Option.{Option}
 use Rattle.std.proofs.lemmas.List.{length_push, length-map}
 use Rattle.std.proofs.lemmas.List.Elements.{All-cons, All-nil}
 use Rattle.std.proofs.lemmas.Slice.Zip.{AllZip-long, all_zipped_more}
-use Rattle.param_load.specs.declared.master_settings.MasterSettings.{MasterSettings}
-use Rattle.param_load.specs.declared.slave_settings.SlaveSettings.{SlaveSettings}
-use Rattle.schedule_file.specs.Header.{Heading}
-use Rattle.schedule_file.specs.PairsEvent.{numbered}
-use Rattle.schedule_file.specs.PairsHeader.{PairsHeading, is_done, pairs_begun, pairs_heading_is_whole, pairs_of}
-use Rattle.schedule_file.specs.declared.pairs_header.PairsStage.{PairsStage}
 use Rattle.schedule_file.specs.declared.pairs_header.PairsStage.TheVariants as stage
-use Rattle.exchange_model.specs.World.{SameLengths}
-use Rattle.duo_run.specs.Duo.{DuoStands, DuoView}
-use Rattle.duo_run.specs.Pairs.{Pair, other_events}
-use Rattle.duo_run.specs.PairsReport.{IsPairOf}
-use Rattle.duo_run.specs.PairsStanding.{PairsStand, StandsOver}
-use Rattle.duo_run.specs.Replay.{AreSetTo}
 use Rattle.duo_run.proofs.Pair.FairReplay.{same_lengths}
 use Rattle.duo_run.proofs.Pairs.At.{named}
 use Rattle.duo_run.proofs.Pairs.Ticking.{found_at, some_same, taken}

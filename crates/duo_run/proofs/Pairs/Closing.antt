@@ -1,9 +1,9 @@
 -- The closing lines of pairs, one pair after another.
+use Rattle.duo_run.proofs.Common.{closing_line, closing_lines}
 use Rattle.std.proofs.Common.{◌≡◌, ◌+◌, ℕ, suc, List, [], ◌∷◌, ◌++◌, length, take, slice_get, arith, ap, sym, ◌∙◌, add-one, append_assoc}
 use Rattle.std.specs.Prelude.{Some}
 use Rattle.std.specs.declared.option.Option.{Option}
 use Rattle.std.proofs.lemmas.List.{append-nil}
-use Rattle.duo_run.specs.PairsReport.{closing_line, closing_lines}
 use Rattle.duo_run.proofs.Pairs.Ticking.{found_below, taken, taken_length}
 
 closing-push : (k m : ℕ) (others : List (Option ℕ)) (other : Option ℕ) → m ≡ k + length others → closing_lines k (others ++ other ∷ []) ≡ closing_lines k others ++ closing_line m other

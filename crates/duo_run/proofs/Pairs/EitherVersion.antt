@@ -1,13 +1,9 @@
 -- The run of one of two machines by the first line is a replay of the version that this line tells.
+use Rattle.duo_run.proofs.Common.{Ended, Outside, RanOver, RanPair, RanPairs, pairs_reporting, replay_reporting}
 use Rattle.std.proofs.Common.{ℕ, List, inl, inr}
 use Rattle.std.specs.Prelude.{◌⊎◌, IfSome, Some, None}
 use Rattle.std.specs.declared.option.Option.{Option}
-use Rattle.fsoe_io.specs.declared.status.Ended.{Ended}
 use Rattle.file_run.specs.ByTitle.{ByTitle, IsTitled}
-use Rattle.file_run.specs.Outside.{Outside}
-use Rattle.file_run.specs.Ran.{RanOver}
-use Rattle.duo_run.specs.PairsReport.{RanPairs, pairs_reporting}
-use Rattle.duo_run.specs.Replay.{RanPair, replay_reporting}
 use Rattle.duo_run.specs.Version.{RanReplay, pairs_title}
 use Rattle.duo_run.proofs.Pair.FairReplay.{told_fairly, told_serve}
 use Rattle.duo_run.proofs.Pairs.Fair.{told_pairs_fairly}

@@ -1,17 +1,9 @@
 -- A run of several pairs to the end of its input names an event from 1 on, where it names one.
+use Rattle.duo_run.proofs.Common.{DuoView, Ended, EndsWhole, Pair, PairsEvent, PairsHeading, PairsStand, ended_with, first_of_both, first_other, least, less_of, other_event, other_events, world_of}
 use Rattle.std.proofs.Common.{◌≡◌, ◌<◌, ℕ, suc, Bool, true, false, List, [], ◌∷◌, length, arith, ap, sym, subst, ◌∙◌}
 use Rattle.std.specs.Prelude.{IfSome, Some, None, is_some}
 use Rattle.std.specs.declared.option.Option.{Option}
-use Rattle.fsoe_io.specs.declared.status.Ended.{Ended}
-use Rattle.schedule_file.specs.PairsHeader.{PairsHeading}
-use Rattle.schedule_file.specs.declared.pairs_line.PairsEvent.{PairsEvent}
-use Rattle.file_run.specs.Ran.{EndsWhole}
-use Rattle.file_run.specs.Report.{ended_with}
 use Rattle.file_run.proofs.EndedWith.{ended_whole}
-use Rattle.exchange_model.specs.Other.{first_of_both, first_other}
-use Rattle.duo_run.specs.Duo.{DuoView}
-use Rattle.duo_run.specs.Pairs.{Pair, least, less_of, other_event, other_events, world_of}
-use Rattle.duo_run.specs.PairsStanding.{PairsStand}
 
 abbrev IsNumber : ℕ → Type 0
 IsNumber n = 0 < n

@@ -1,30 +1,14 @@
 -- An event that a line says to a pair fits this pair.
+use Rattle.duo_run.proofs.Common.{DuoView, End, Event, Fits, FitsEnds, FitsPair, Heading, IsPairOf, IsSaid, Pair, PairsEvent, PairsHeading, PairsStand, Profile, StandsOver, heading_profile, length_of, lengths_of, numbered, own_length, pairs_format, pairs_of, profile_of, profiles_of}
 use Rattle.std.proofs.Common.{◌≡◌, ◌≤◌, ◌+◌, ◌-◌, ℕ, zero, suc, List, [], ◌∷◌, length, map, slice_get, slice_index_or, refl, arith, ap, sym, subst, ◌∙◌}
 use Rattle.std.specs.Prelude.{Some, None, option_map}
 use Rattle.std.specs.List.{AllZip}
 use Rattle.std.specs.declared.option.Option.{Option}
 use Rattle.std.proofs.lemmas.Option.{slice_get-get_or}
-use Rattle.fsoe_base.specs.LengthsOf.{length_of}
-use Rattle.fsoe_base.specs.declared.command.End.{End}
 use Rattle.fsoe_base.specs.declared.command.End.TheVariants as end_name
-use Rattle.param_load.specs.declared.profile.Profile.{Profile}
-use Rattle.schedule_file.specs.Event.{Fits, profile_of}
-use Rattle.schedule_file.specs.Header.{Heading}
-use Rattle.schedule_file.specs.Input.{heading_profile, own_length}
-use Rattle.schedule_file.specs.PairsEvent.{numbered}
-use Rattle.schedule_file.specs.PairsFit.{FitsEnds, FitsPair}
-use Rattle.schedule_file.specs.PairsHeader.{PairsHeading, pairs_of}
-use Rattle.schedule_file.specs.PairsInput.{pairs_format}
-use Rattle.schedule_file.specs.declared.event.Event.{Event}
-use Rattle.schedule_file.specs.declared.pairs_line.PairsEvent.{PairsEvent}
 use Rattle.schedule_file.specs.declared.pairs_line.PairsEvent.TheVariants as common
 use Rattle.schedule_file.proofs.Pairs.{numbered_map}
 use Rattle.schedule_file.proofs.PairsFitting.{pairs_event_fits}
-use Rattle.file_run.specs.Machine.{IsSaid}
-use Rattle.duo_run.specs.Duo.{DuoView, lengths_of, profiles_of}
-use Rattle.duo_run.specs.Pairs.{Pair}
-use Rattle.duo_run.specs.PairsReport.{IsPairOf}
-use Rattle.duo_run.specs.PairsStanding.{PairsStand, StandsOver}
 use Rattle.duo_run.proofs.Pairs.Ticking.{found_below, some_same}
 use Rattle.duo_run.proofs.Pair.Replaying.{fits_ends, same_word}
 

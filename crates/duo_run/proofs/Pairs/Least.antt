@@ -1,12 +1,11 @@
 -- The least of numbers, one number after another; and whether pairs have room for an entry more.
+use Rattle.duo_run.proofs.Common.{PairsEvent, entries_by, least, less_of}
 use Rattle.std.proofs.Common.{◌≡◌, ◌≤◌, ◌<◌, ◌+◌, ℕ, List, [], ◌∷◌, ◌++◌, length, take, slice_get, refl, arith, ap, ◌∙◌, add-one}
 use Rattle.std.specs.Prelude.{Some, None, nat_le, min}
 use Rattle.std.specs.declared.option.Option.{Option}
 use Rattle.std.proofs.lemmas.Bool.Decides.{nat_tests}
-use Rattle.schedule_file.specs.PairsInput.{entries_by, entries_of}
-use Rattle.schedule_file.specs.declared.pairs_line.PairsEvent.{PairsEvent}
+use Rattle.schedule_file.specs.PairsInput.{entries_of}
 use Rattle.schedule_file.specs.declared.pairs_line.PairsEvent.TheVariants as common
-use Rattle.duo_run.specs.Pairs.{least, less_of}
 use Rattle.duo_run.proofs.Pairs.Ticking.{taken}
 
 min_three : (a b c : ℕ) → min a (min b c) ≡ min (min a b) c

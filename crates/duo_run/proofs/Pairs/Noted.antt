@@ -1,16 +1,9 @@
 -- The events with the first other entries of pairs are noted, one pair after another.
+use Rattle.duo_run.proofs.Common.{AllStandOver, DuoStands, DuoView, Entry, MasterSettings, NotesOthers, Pair, PairsEvent, SlaveSettings, events_to, first_of_both, first_other, other_event, other_events, world_of}
 use Rattle.std.proofs.Common.{◌≡◌, ◌≤◌, ◌<◌, ◌+◌, ℕ, zero, suc, List, [], ◌∷◌, length, slice_get, slice_set, refl, arith, ap, sym, subst, ◌∙◌, below_more}
 use Rattle.std.specs.Prelude.{Some, is_some}
 use Rattle.std.specs.declared.option.Option.{Option}
 use Rattle.std.proofs.lemmas.List.{length-set}
-use Rattle.param_load.specs.declared.entry.Entry.{Entry}
-use Rattle.param_load.specs.declared.master_settings.MasterSettings.{MasterSettings}
-use Rattle.param_load.specs.declared.slave_settings.SlaveSettings.{SlaveSettings}
-use Rattle.schedule_file.specs.declared.pairs_line.PairsEvent.{PairsEvent}
-use Rattle.exchange_model.specs.Other.{first_of_both, first_other}
-use Rattle.duo_run.specs.Duo.{DuoStands, DuoView}
-use Rattle.duo_run.specs.Pairs.{Pair, events_to, other_event, other_events, world_of}
-use Rattle.duo_run.specs.PairsStanding.{AllStandOver, NotesOthers}
 use Rattle.duo_run.proofs.Pairs.At.{set_at, set_beside}
 use Rattle.duo_run.proofs.Pairs.Ticking.{found_at, found_below, some_same}
 

@@ -1,21 +1,10 @@
 -- Several pairs do over their events what the world of each says, and report it.
+use Rattle.duo_run.proofs.Common.{DuoView, Ended, EndsUnmet, IsPrefix, NoFrame, Pair, PairsEvent, PairsHeading, PairsInput, PairsReports, PairsStand, Refused, ReportsSoFar, Stop, done_after, event_lines, events_done, input_stopped, is_met, lines_of_events, pairs_ended, pairs_input, pairs_last_lines, pairs_reporting, pairs_stop, refused_at, refused_line}
 use Rattle.std.proofs.Common.{◌≡◌, ◌+◌, ℕ, suc, Bool, true, false, List, [], ◌∷◌, ◌++◌, length, refl, arith, ap, sym, subst, ◌∙◌, append_assoc, eq-eqb}
 use Rattle.std.specs.Prelude.{if◌then◌else◌}
 use Rattle.std.specs.declared.option.Option.{Option}
 use Rattle.std.proofs.lemmas.Bool.{ne_eqb}
 use Rattle.std.proofs.lemmas.List.{append-nil, length-append}
-use Rattle.fsoe_io.specs.declared.status.Ended.{Ended}
-use Rattle.schedule_file.specs.Input.{NoFrame, Refused, Stop}
-use Rattle.schedule_file.specs.PairsHeader.{PairsHeading}
-use Rattle.schedule_file.specs.PairsInput.{pairs_input}
-use Rattle.schedule_file.specs.declared.pairs_line.PairsEvent.{PairsEvent}
-use Rattle.file_run.specs.Report.{refused_line}
-use Rattle.file_run.specs.Reporting.{IsPrefix, ReportsSoFar, input_stopped, refused_at}
-use Rattle.file_run.specs.Machine.{EndsUnmet}
-use Rattle.duo_run.specs.Duo.{DuoView}
-use Rattle.duo_run.specs.Pairs.{Pair, done_after, events_done, is_met}
-use Rattle.duo_run.specs.PairsReport.{PairsInput, PairsReports, event_lines, lines_of_events, pairs_ended, pairs_last_lines, pairs_reporting, pairs_stop}
-use Rattle.duo_run.specs.PairsStanding.{PairsStand}
 use Rattle.duo_run.proofs.Pairs.Sound.{some_pairs}
 
 -- where all events are done, the run goes on from there

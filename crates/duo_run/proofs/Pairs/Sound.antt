@@ -1,23 +1,15 @@
 -- Each header of several pairs that is whole says settings of both ends of each.
+use Rattle.duo_run.proofs.Common.{ArePairs, Heading, IsPairOf, Pair, PairsHeading, PairsStage, Sound, after_sound, by_word, each, fields_of, heading_after, known, last_taken, master_settings, new_sound, next_pair, pair_begun, pair_taken, pairs_begun, pairs_format, pairs_input, pairs_line_taken, pairs_of, slave_settings}
 use Rattle.std.proofs.Common.{◌+◌, ℕ, List, [], ◌∷◌, All, length, Option, Some, None, IfSome, refl}
 use Rattle.std.specs.Prelude.{IfOk, Ok, Err, codes, ◌&&◌}
 use Rattle.std.specs.List.{AllZip}
 use Rattle.std.specs.Str.{bytes_eq}
 use Rattle.std.proofs.lemmas.List.Elements.{All-head, All-tail, All-nil, All-push}
-use Rattle.schedule_file.specs.Field.{fields_of}
-use Rattle.schedule_file.specs.Fields.{by_word}
-use Rattle.schedule_file.specs.Header.{Heading, heading_after}
 use Rattle.schedule_file.specs.NodeHeader.{may_end}
-use Rattle.schedule_file.specs.PairsHeader.{PairsHeading, last_taken, next_pair, pair_begun, pair_taken, pairs_begun, pairs_line_taken, pairs_of}
-use Rattle.schedule_file.specs.PairsInput.{pairs_format, pairs_input}
 use Rattle.schedule_file.specs.declared.header_kind.HeaderKind.TheVariants as kind
 use Rattle.schedule_file.specs.declared.line_cause.LineCause.TheVariants as cause
-use Rattle.schedule_file.specs.declared.pairs_header.PairsStage.{PairsStage}
 use Rattle.schedule_file.specs.declared.pairs_header.PairsStage.TheVariants as stage
 use Rattle.schedule_file.proofs.Headed.{either, headed}
-use Rattle.schedule_file.proofs.Sound.{Sound, each, known, after_sound, new_sound, master_settings, slave_settings}
-use Rattle.duo_run.specs.Pairs.{Pair}
-use Rattle.duo_run.specs.PairsReport.{ArePairs, IsPairOf}
 
 -- the lines of each pair say values that settings may have
 abbrev AreSound : PairsHeading → Type 0

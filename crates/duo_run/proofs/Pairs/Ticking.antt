@@ -1,19 +1,10 @@
 -- One end of each pair ticks, one pair after another.
+use Rattle.duo_run.proofs.Common.{AllStandOver, CanStep, DuoStands, DuoView, End, Entry, Event, Misses, Pair, StandsOver, TellsNext, Ticks, ToldNext, entries_over, entry_after, entry_at, line_if, numbered, pair_line, steps_done, tick_lines, with_tick, world_next}
 use Rattle.std.proofs.Common.{◌≡◌, ◌≤◌, ◌<◌, ◌+◌, ◌^◌, ℕ, zero, suc, List, [], ◌∷◌, ◌++◌, length, take, slice_get, slice_set, refl, arith, ap, sym, subst, ◌∙◌, append_assoc, below_more}
 use Rattle.std.specs.Prelude.{Some, None}
 use Rattle.std.proofs.lemmas.List.{append-nil, length_push, length-set}
-use Rattle.fsoe_base.specs.declared.command.End.{End}
-use Rattle.param_load.specs.declared.entry.Entry.{Entry}
-use Rattle.schedule_file.specs.PairsEvent.{numbered}
-use Rattle.schedule_file.specs.declared.event.Event.{Event}
 use Rattle.schedule_file.specs.declared.event.Event.TheVariants as event
-use Rattle.exchange_model.specs.World.{entry_at}
-use Rattle.exchange_model.proofs.Worlds.Longer.{world_next}
-use Rattle.duo_run.specs.Duo.{DuoStands, DuoView, Misses, steps_done}
-use Rattle.duo_run.specs.Pairs.{Pair, entries_over, entry_after}
 use Rattle.duo_run.proofs.Pairs.At.{set_at, set_beside}
-use Rattle.duo_run.specs.PairsReport.{line_if, pair_line, tick_lines, with_tick}
-use Rattle.duo_run.specs.PairsStanding.{AllStandOver, CanStep, StandsOver, TellsNext, Ticks, ToldNext}
 
 pub some_same : {X : Type 0} {a b : X} → Some a ≡ Some b → a ≡ b
 some_same e = cc

@@ -1,15 +1,7 @@
 -- The line that is written of an event of a pair is that of its entry.
+use Rattle.duo_run.proofs.Common.{Advances, Did, DuoView, End, Entry, Event, NextEntry, ShowsLast, State, TellsNext, end_of_event, told_line}
 use Rattle.std.proofs.Common.{◌≡◌, ℕ, List, ◌++◌, sym, refl, ◌∙◌}
 use Rattle.std.specs.Prelude.{codes, decimal}
-use Rattle.fsoe_base.specs.declared.command.End.{End}
-use Rattle.fsoe_base.specs.declared.command.State.{State}
-use Rattle.fsoe_base.specs.declared.did.Did.{Did}
-use Rattle.param_load.specs.declared.entry.Entry.{Entry}
-use Rattle.schedule_file.specs.declared.event.Event.{Event}
-use Rattle.exchange_model.specs.World.{end_of_event}
-use Rattle.duo_run.specs.Duo.{Advances, DuoView, NextEntry, ShowsLast}
-use Rattle.duo_run.specs.PairsStanding.{TellsNext}
-use Rattle.duo_run.specs.Replay.{told_line}
 
 pub tells_next : (old new : DuoView) (event : Event) (number pair : ℕ) (at : End) (did : Did) (state : State) (outputs sent line : List ℕ) → Advances old event did sent new → at ≡ end_of_event event
     → ShowsLast new at state (λ x. x.state) → ShowsLast new at outputs (λ x. x.outputs) → line ≡ decimal number ++ codes " " ++ decimal pair ++ codes " " ++ told_line at did state outputs sent → TellsNext old event number pair new line

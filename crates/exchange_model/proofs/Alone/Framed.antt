@@ -1,26 +1,8 @@
 -- The frames that an end sends: how they begin, and what they carry.
+use Rattle.exchange_model.proofs.Common.{Command, Deed, IsRun, MasterSettings, OfMaster, OfSlave, Setup, SlaveSettings, Taking, answer_is, command_byte, command_in, command_of, conn_id, connection_payload, download_frame, frame_of, held, is_data, is_guarded, is_guarded_frame, is_guarded_if, offer, offer_len, one_byte, padded, padded_len, pairs, parameter_payload, pay, phase_of, phase_of_frame, phase_of_known, piece, piece_len, pieces, read_back, received, sealed, sends, session_id, since, slave_answer, with_data, with_piece}
 use Rattle.std.proofs.Common.{◌≡◌, ◌≢◌, ℕ, ◌≤◌, List, [], ◌∷◌, length, take, replicate, Bool, true, false, Some, ◌==◌, if◌then◌else◌, refl, sym, ap, subst, ◌∙◌, arith}
 use Rattle.std.proofs.lemmas.List.{length-replicate, length-take}
-use Rattle.fsoe_base.specs.declared.command.Command.{Command}
 use Rattle.fsoe_base.specs.declared.command.Command.TheVariants as command
-use Rattle.fsoe_base.specs.Command.{command_byte, command_of}
-use Rattle.fsoe_frame.specs.Parts.{frame_of, pairs, one_byte}
-use Rattle.param_load.specs.declared.master_settings.MasterSettings.{MasterSettings}
-use Rattle.param_load.specs.declared.slave_settings.SlaveSettings.{SlaveSettings}
-use Rattle.param_load.specs.Payload.{connection_payload, parameter_payload, padded}
-use Rattle.end_model.specs.Setup.{Setup, OfMaster, OfSlave, sends, piece_len}
-use Rattle.end_model.specs.Phases.{command_in, is_guarded, is_guarded_if, is_guarded_frame, phase_of, phase_of_known, phase_of_frame}
-use Rattle.end_model.specs.Deed.{Deed}
-use Rattle.end_model.specs.Chain.{since}
-use Rattle.end_model.specs.Payloads.{piece, pieces, conn_id, session_id, pay}
-use Rattle.end_model.specs.Readiness.{offer, held}
-use Rattle.end_model.specs.Step.{sealed, with_piece, with_data, download_frame, slave_answer}
-use Rattle.end_model.specs.Runs.{IsRun}
-use Rattle.end_model.specs.Reactions.{received, Taking}
-use Rattle.end_model.proofs.ReadBack.{read_back}
-use Rattle.end_model.proofs.SealedFrames.{padded_len, offer_len}
-use Rattle.end_model.proofs.Taken.{answer_is}
-use Rattle.fsoe_base.specs.Data.{is_data}
 use Rattle.exchange_model.proofs.Joint.Joint.{is_guarded_in}
 
 one-head : (b : ℕ) (bytes : List ℕ) (c : Command) → command_of (one_byte b bytes).cmd ≡ Some c → command_of b ≡ Some c

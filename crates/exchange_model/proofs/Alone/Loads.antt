@@ -1,30 +1,9 @@
 -- A data frame that an end sends carries what its end put, or zeros where the end was held.
+use Rattle.exchange_model.proofs.Common.{AfterConnection, AfterSession, Answers, Command, Deed, Did, End, Entry, IsRun, IsWorld, Item, MasterFirstData, MasterGoesOn, MasterMoreData, MasterNextPhase, MasterSettings, MasterStarts, Move, OfConnection, OfMaster, OfParameter, OfSession, OfSlave, Reaction, Setup, SlaveSettings, Taking, answer_is, begun, command_in, deed_in, deeds, frame_if, frame_of, frame_with, held, held_after, is_data, is_data_frame, is_data_if, is_empty, is_held, item_of, items, items_of, last_put, of_end, offer, offer_after, offered_of, offered_put, put_after, same_end, sends, setup_of, takes_frame}
 use Rattle.std.proofs.Common.{◌≡◌, ℕ, List, [], ◌∷◌, replicate, Bool, true, false, Option, Some, None, if◌then◌else◌, refl, sym, ap, subst, ◌∙◌}
 use Rattle.std.specs.List.{AllByRecursion}
-use Rattle.fsoe_base.specs.declared.command.End.{End}
-use Rattle.fsoe_base.specs.declared.command.Command.{Command}
 use Rattle.fsoe_base.specs.declared.command.Command.TheVariants as command
-use Rattle.fsoe_base.specs.declared.did.Did.{Did}
-use Rattle.fsoe_frame.specs.Parts.{frame_of}
-use Rattle.param_load.specs.declared.entry.Move.{Move}
 use Rattle.param_load.specs.declared.entry.Move.TheVariants as move
-use Rattle.param_load.specs.declared.entry.Entry.{Entry}
-use Rattle.param_load.specs.declared.master_settings.MasterSettings.{MasterSettings}
-use Rattle.param_load.specs.declared.slave_settings.SlaveSettings.{SlaveSettings}
-use Rattle.end_model.specs.Setup.{Setup, OfMaster, OfSlave, sends}
-use Rattle.end_model.specs.Deed.{Deed, is_empty}
-use Rattle.end_model.specs.Readiness.{offer, offer_after, held, held_after}
-use Rattle.end_model.specs.Step.{takes_frame, begun}
-use Rattle.end_model.specs.Runs.{IsRun}
-use Rattle.end_model.specs.Reactions.{OfSession, OfConnection, OfParameter, AfterSession, AfterConnection, Taking, MasterStarts, MasterGoesOn, MasterNextPhase, MasterFirstData, MasterMoreData, Reaction, Answers}
-use Rattle.end_model.proofs.Taken.{answer_is}
-use Rattle.exchange_model.specs.Ends.{same_end, of_end}
-use Rattle.exchange_model.specs.World.{setup_of, deed_in, deeds}
-use Rattle.exchange_model.specs.Schedules.{IsWorld}
-use Rattle.exchange_model.specs.Items.{put_after, last_put, is_held, offered_put, offered_of, Item, item_of, items_of, items}
-use Rattle.fsoe_base.specs.Data.{is_data}
-use Rattle.end_model.specs.Phases.{command_in, is_data_if, is_data_frame}
-use Rattle.exchange_model.specs.Fair.{frame_with, frame_if}
 use Rattle.exchange_model.proofs.Worlds.Projection.{same, deeds_are_run, entry_reacted}
 use Rattle.exchange_model.proofs.Alone.Framed.{IsFrame, command_framed, IsData, Zeros, Offers, SlaveSends, Echoes, Gives, slave_sends, piece_sent, data_sent}
 

@@ -1,32 +1,13 @@
 -- What a master has sent in its session, by its own frames alone: the pieces of its payloads, in order. Lists of frames
 -- are newest first.
+use Rattle.exchange_model.proofs.Common.{AfterConnection, AfterSession, Answers, Command, Deed, Did, Expires, IsInSession, IsRun, MasterFirstData, MasterGoesOn, MasterMoreData, MasterNextPhase, MasterSettings, MasterStarts, Move, OfConnection, OfMaster, OfParameter, OfSession, PeerResets, Reaction, Refuses, ResetsItself, SendsAgain, Setup, State, Taking, count_in, frame_of, is_empty, master_answers, own, padded, padded_len, phase_of_frame, phase_sent, piece, piece_len, reacted, sends, since, takes_frame, with_answer}
 use Rattle.std.proofs.Common.{◌≡◌, ℕ, suc, zero, ◌+◌, ◌-◌, ◌*◌, ◌≤◌, List, [], ◌∷◌, ◌++◌, length, take, drop, replicate, Bool, true, false, if◌then◌else◌, refl, sym, ap, subst, ◌∙◌, arith, inl, inr}
 use Rattle.std.proofs.lemmas.List.{length-take, take-replicate}
 use Rattle.std.proofs.lemmas.Bool.Decides.{eqb_tells}
 use Rattle.std.proofs.Math.Seq.{take-append-add}
-use Rattle.fsoe_base.specs.declared.command.State.{State}
 use Rattle.fsoe_base.specs.declared.command.State.TheVariants as state
-use Rattle.fsoe_base.specs.declared.command.Command.{Command}
 use Rattle.fsoe_base.specs.declared.command.Command.TheVariants as command
-use Rattle.fsoe_base.specs.declared.did.Did.{Did}
-use Rattle.fsoe_frame.specs.Parts.{frame_of}
-use Rattle.param_load.specs.declared.entry.Move.{Move}
 use Rattle.param_load.specs.declared.entry.Move.TheVariants as move
-use Rattle.param_load.specs.declared.master_settings.MasterSettings.{MasterSettings}
-use Rattle.param_load.specs.Payload.{padded}
-use Rattle.end_model.specs.Setup.{Setup, OfMaster, sends, piece_len}
-use Rattle.end_model.specs.Phases.{phase_of_frame}
-use Rattle.end_model.specs.Deed.{Deed, is_empty}
-use Rattle.end_model.specs.Chain.{since, own}
-use Rattle.end_model.specs.Payloads.{piece, count_in}
-use Rattle.end_model.specs.Readiness.{phase_sent}
-use Rattle.end_model.specs.Step.{takes_frame}
-use Rattle.end_model.specs.Runs.{IsRun}
-use Rattle.end_model.specs.Reactions.{OfSession, OfConnection, OfParameter, AfterSession, AfterConnection, with_answer, Taking, MasterStarts, MasterGoesOn, MasterNextPhase, MasterFirstData, MasterMoreData, Reaction, Expires, SendsAgain, ResetsItself, Refuses, PeerResets, Answers}
-use Rattle.end_model.proofs.Heads.{IsInSession}
-use Rattle.end_model.proofs.SealedFrames.{padded_len}
-use Rattle.end_model.proofs.SoundRuns.{reacted}
-use Rattle.end_model.proofs.Taken.{master_answers}
 use Rattle.exchange_model.proofs.Joint.Joint.{is_guarded_in, session, carried_by}
 use Rattle.exchange_model.proofs.Alone.Framed.{IsFrame, IsData, Zeros, Offers, phase_framed, piece_fits, connection_of, parameters_of, IsPiece, pieces_of, piece_sent, data_sent}
 

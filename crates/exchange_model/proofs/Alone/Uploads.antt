@@ -1,38 +1,15 @@
 -- What a slave uploads with the frames that it takes, and what it has tested of it.
+use Rattle.exchange_model.proofs.Common.{Answers, Code, Command, Deed, Did, Expires, IsRun, Move, OfSlave, PeerResets, Profile, Reaction, Refuses, ResetsItself, SendsAgain, SlaveSettings, State, Taking, answer_is, app_fault, app_part, code, command_in, communication_fault, contents_fault, exchange_of, fails, field_fault, frame_of, has_command, id_len, joined, joined_with, number_at, of_session, padding_fault, phase_of, phase_of_frame, phase_taken, piece_len, reacted, receives, rule_len, same_phase, since, state_of, takes_frame, uploaded, with_answer, word_is}
 use Rattle.std.proofs.Common.{◌≡◌, ◌≢◌, ◌==◌, ℕ, ◌+◌, ◌<◌, ◌≤◌, nat_le, nat_lt, List, [], ◌∷◌, ◌++◌, length, take, drop, Bool, true, false, ◌&&◌, Option, Some, None, if◌then◌else◌, refl, sym, ap, subst, ◌∙◌, arith, inl, inr}
 use Rattle.std.specs.Option.{option_or}
 use Rattle.std.proofs.lemmas.Bool.{eqb-true, cases_lt}
 use Rattle.std.proofs.lemmas.Bool.Decides.{nat_tests}
 use Rattle.std.proofs.lemmas.List.{get_or_append_left}
-use Rattle.fsoe_base.specs.declared.command.State.{State}
 use Rattle.fsoe_base.specs.declared.command.State.TheVariants as state
-use Rattle.fsoe_base.specs.declared.command.Command.{Command}
 use Rattle.fsoe_base.specs.declared.command.Command.TheVariants as command
-use Rattle.fsoe_base.specs.declared.command.Code.{Code}
-use Rattle.fsoe_base.specs.declared.did.Did.{Did}
-use Rattle.fsoe_base.specs.Command.{code}
-use Rattle.fsoe_frame.specs.Parts.{frame_of}
 use Rattle.param_load.specs.declared.contents.Expected.TheVariants as expected
-use Rattle.param_load.specs.declared.entry.Move.{Move}
 use Rattle.param_load.specs.declared.entry.Move.TheVariants as move
-use Rattle.param_load.specs.declared.profile.Profile.{Profile}
 use Rattle.param_load.specs.declared.profile.Profile.TheVariants as profile
-use Rattle.param_load.specs.declared.slave_settings.SlaveSettings.{SlaveSettings}
-use Rattle.param_load.specs.AppRule.{rule_len}
-use Rattle.param_load.specs.Contents.{fails, word_is, communication_fault, app_fault, app_part, field_fault, padding_fault, contents_fault}
-use Rattle.param_load.specs.Payload.{number_at}
-use Rattle.param_load.specs.Profile.{id_len}
-use Rattle.end_model.specs.Setup.{OfSlave, piece_len, receives}
-use Rattle.end_model.specs.Phases.{command_in, has_command, same_phase, phase_of, phase_of_frame}
-use Rattle.end_model.specs.Deed.{Deed, of_session}
-use Rattle.end_model.specs.Chain.{since}
-use Rattle.end_model.specs.Payloads.{joined, joined_with, uploaded}
-use Rattle.end_model.specs.Readiness.{state_of, phase_taken}
-use Rattle.end_model.specs.Step.{takes_frame}
-use Rattle.end_model.specs.Runs.{IsRun}
-use Rattle.end_model.specs.Reactions.{with_answer, Taking, Reaction, Expires, SendsAgain, ResetsItself, Refuses, PeerResets, Answers}
-use Rattle.end_model.proofs.SoundRuns.{reacted}
-use Rattle.end_model.proofs.Taken.{exchange_of, answer_is}
 use Rattle.exchange_model.proofs.Joint.Joint.{with_part, Uploads}
 use Rattle.exchange_model.proofs.Alone.Framed.{phase_by}
 use Rattle.exchange_model.proofs.Alone.Pieces.{deed}

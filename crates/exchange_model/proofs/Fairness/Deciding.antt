@@ -1,20 +1,13 @@
 -- A test of fairness that computes: where it says yes, a run is fair.
+use Rattle.exchange_model.proofs.Common.{Command, Entry, Fair, IsTakenFrom, Item, OutputsAreDue, Profile, TakesAwaited, Terms, Took, awaited, data_taken, frame_if, items, numbers_taken, of_end, outputs_due, received_len}
 use Rattle.std.proofs.Common.{◌≡◌, ℕ, ◌==◌, nat_eq, List, [], ◌∷◌, Bool, true, false, ◌&&◌, not, Option, Some, None, refl, ap, sym, IsSome, eqb-true}
 use Rattle.std.specs.Cmp.Lexicographic.{pointwise, same_text, other_text}
 use Rattle.std.proofs.lemmas.Bool.{and_parts}
 use Rattle.std.specs.List.{IsDistinct, AllByRecursion}
 use Rattle.fsoe_base.specs.declared.command.End.TheVariants as end_name
-use Rattle.fsoe_base.specs.declared.command.Command.{Command}
 use Rattle.fsoe_base.specs.declared.command.Command.TheVariants as command
-use Rattle.fsoe_base.specs.declared.did.Took.{Took}
 use Rattle.fsoe_base.specs.declared.lengths.Lengths.{Lengths}
-use Rattle.param_load.specs.declared.profile.Profile.{Profile}
 use Rattle.param_load.specs.declared.profile.Profile.TheVariants as profile
-use Rattle.param_load.specs.declared.terms.Terms.{Terms}
-use Rattle.param_load.specs.declared.entry.Entry.{Entry}
-use Rattle.exchange_model.specs.Ends.{of_end}
-use Rattle.exchange_model.specs.Items.{Item, items, awaited}
-use Rattle.exchange_model.specs.Fair.{received_len, data_taken, frame_if, IsTakenFrom, TakesAwaited, numbers_taken, outputs_due, OutputsAreDue, Fair}
 
 abbrev same_profile : Profile → Profile → Bool
 same_profile profile.One profile.One = true

@@ -2,39 +2,13 @@
 -- awaited answer, under equal terms. It rests on what both ends' items say of one another (Joint), on the pieces that a
 -- master sends (Pieces), on what a slave tests (Uploads) and on what data frames carry (Loads); Told and this file join
 -- them.
+use Rattle.exchange_model.proofs.Common.{Answers, Command, Deed, Did, End, Entry, Event, Fair, IsNextEntry, IsProperEvent, IsTakenFrom, IsWorld, Item, MasterSettings, Move, NoOther, OfSlave, Reaction, SameLengths, Setup, SlaveSettings, TakesAwaited, Taking, Terms, Took, awaited, before_other, command_in, data_after, data_taken, deed_in, deeds, exchange_of, frame_if, frame_of, is_data, is_empty, item_of, items, items_of, peer, phase_of_data, phase_of_frame, received_len, receives, same_end, sends, setup_of, state_of, takes_frame, terms_of, world}
 use Rattle.std.proofs.Common.{◌≡◌, ℕ, List, [], ◌∷◌, length, Bool, true, false, Option, Some, None, is_some, ◌==◌, suc, if◌then◌else◌, refl, sym, ap, subst, ◌∙◌, All}
 use Rattle.std.specs.List.{AllByRecursion}
-use Rattle.fsoe_base.specs.declared.command.End.{End}
 use Rattle.fsoe_base.specs.declared.command.End.TheVariants as end_name
 use Rattle.fsoe_base.specs.declared.command.State.TheVariants as state
-use Rattle.fsoe_base.specs.declared.command.Command.{Command}
 use Rattle.fsoe_base.specs.declared.command.Command.TheVariants as command
-use Rattle.fsoe_base.specs.declared.did.Did.{Did}
-use Rattle.fsoe_base.specs.declared.did.Took.{Took}
-use Rattle.fsoe_frame.specs.Parts.{frame_of}
-use Rattle.param_load.specs.declared.entry.Move.{Move}
 use Rattle.param_load.specs.declared.entry.Move.TheVariants as move
-use Rattle.param_load.specs.declared.entry.Entry.{Entry}
-use Rattle.param_load.specs.declared.terms.Terms.{Terms}
-use Rattle.param_load.specs.declared.master_settings.MasterSettings.{MasterSettings}
-use Rattle.param_load.specs.Download.{terms_of}
-use Rattle.param_load.specs.declared.slave_settings.SlaveSettings.{SlaveSettings}
-use Rattle.schedule_file.specs.declared.event.Event.{Event}
-use Rattle.end_model.specs.Setup.{Setup, OfSlave, sends, receives}
-use Rattle.end_model.specs.Phases.{command_in, phase_of_frame}
-use Rattle.end_model.specs.Deed.{Deed, is_empty}
-use Rattle.end_model.specs.Readiness.{state_of}
-use Rattle.end_model.specs.Step.{takes_frame}
-use Rattle.end_model.specs.Reactions.{Taking, Reaction, Answers}
-use Rattle.end_model.proofs.Reactions.{phase_of_data}
-use Rattle.end_model.proofs.Taken.{exchange_of, data_after}
-use Rattle.exchange_model.specs.Ends.{same_end, peer}
-use Rattle.exchange_model.specs.World.{setup_of, deed_in, deeds, world, SameLengths}
-use Rattle.exchange_model.specs.Schedules.{IsProperEvent, IsNextEntry, IsWorld}
-use Rattle.exchange_model.specs.Items.{Item, items_of, items, item_of, awaited}
-use Rattle.exchange_model.specs.Other.{NoOther, before_other}
-use Rattle.fsoe_base.specs.Data.{is_data}
-use Rattle.exchange_model.specs.Fair.{received_len, data_taken, frame_if, IsTakenFrom, TakesAwaited, Fair}
 use Rattle.exchange_model.proofs.Worlds.Projection.{same, entry_reacted, world_is_world}
 use Rattle.exchange_model.proofs.Fairness.Shown.{receives_is, outputs_are_due}
 use Rattle.exchange_model.proofs.Fairness.Once.{at_most_once}

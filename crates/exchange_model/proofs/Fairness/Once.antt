@@ -1,27 +1,11 @@
 -- No awaited item gives data twice: an end that takes data sends a frame, so that the next item it awaits answers a
 -- newer one.
+use Rattle.exchange_model.proofs.Common.{Answers, Deed, Did, End, Entry, IsWorld, Item, MasterSettings, Move, Reaction, Setup, SlaveSettings, Took, answer_among, answer_sent, answers_to, awaited, data_taken, deeds, has_command, is_empty, item_of, items, items_of, newest, newest_answer, numbers_taken, peer, same_end, setup_of, with_number}
 use Rattle.std.proofs.Common.{◌≡◌, ℕ, suc, ◌<◌, ◌≤◌, ◌==◌, nat_eq, List, [], ◌∷◌, length, Bool, true, false, ◌&&◌, not, Option, Some, None, is_some, if◌then◌else◌, refl, ap, subst, sym, ◌∙◌, eqb-true, arith}
 use Rattle.std.proofs.lemmas.Bool.{and_parts, eq-eqb}
 use Rattle.std.proofs.lemmas.Bool.Decides.{nat_tests}
 use Rattle.std.specs.List.{IsDistinct, AllByRecursion}
-use Rattle.fsoe_base.specs.declared.command.End.{End}
 use Rattle.fsoe_base.specs.declared.command.Command.TheVariants as command
-use Rattle.fsoe_base.specs.declared.did.Did.{Did}
-use Rattle.fsoe_base.specs.declared.did.Took.{Took}
-use Rattle.param_load.specs.declared.entry.Move.{Move}
-use Rattle.param_load.specs.declared.entry.Entry.{Entry}
-use Rattle.param_load.specs.declared.master_settings.MasterSettings.{MasterSettings}
-use Rattle.param_load.specs.declared.slave_settings.SlaveSettings.{SlaveSettings}
-use Rattle.end_model.specs.Setup.{Setup}
-use Rattle.end_model.specs.Phases.{has_command}
-use Rattle.end_model.specs.Deed.{Deed, is_empty}
-use Rattle.end_model.specs.Reactions.{Reaction, Answers}
-use Rattle.end_model.proofs.SoundRuns.{answer_sent}
-use Rattle.exchange_model.specs.Ends.{same_end, peer}
-use Rattle.exchange_model.specs.World.{setup_of, deeds}
-use Rattle.exchange_model.specs.Schedules.{IsWorld}
-use Rattle.exchange_model.specs.Items.{Item, item_of, items_of, newest, answers_to, newest_answer, answer_among, awaited, items}
-use Rattle.exchange_model.specs.Fair.{data_taken, with_number, numbers_taken}
 use Rattle.exchange_model.proofs.Worlds.Projection.{entry_reacted}
 use Rattle.exchange_model.proofs.Worlds.Numbered.{Numbered, Grown, Same, More, next_number, grown}
 

@@ -1,34 +1,11 @@
 -- In each world the outputs are those that looking back over the entries gives.
+use Rattle.exchange_model.proofs.Common.{Answers, Command, Deed, Did, End, Entry, IsRun, IsWorld, MasterSettings, Move, OutputsAreDue, Reaction, SameLengths, Setup, SlaveSettings, State, Terms, Took, data_after, deed_in, deeds, entries, entry_of, is_data, of_end, outputs_after, outputs_at, outputs_by, outputs_due, reacted, received_len, receives, setup_of, state_of, terms, ticked, told_in}
 use Rattle.std.proofs.Common.{◌≡◌, ℕ, List, [], ◌∷◌, ◌&&◌, nat_lt, Option, Some, None, is_some, if◌then◌else◌, refl, ap, subst, sym, ◌∙◌}
-use Rattle.fsoe_base.specs.declared.command.End.{End}
 use Rattle.fsoe_base.specs.declared.command.End.TheVariants as end_name
-use Rattle.fsoe_base.specs.declared.command.State.{State}
 use Rattle.fsoe_base.specs.declared.command.State.TheVariants as state
-use Rattle.fsoe_base.specs.declared.command.Command.{Command}
 use Rattle.fsoe_base.specs.declared.command.Command.TheVariants as command
-use Rattle.fsoe_base.specs.declared.did.Did.{Did}
-use Rattle.fsoe_base.specs.declared.did.Took.{Took}
-use Rattle.fsoe_base.specs.Data.{is_data}
-use Rattle.param_load.specs.declared.terms.Terms.{Terms}
-use Rattle.param_load.specs.declared.entry.Move.{Move}
-use Rattle.param_load.specs.declared.entry.Entry.{Entry}
-use Rattle.param_load.specs.declared.master_settings.MasterSettings.{MasterSettings}
-use Rattle.param_load.specs.declared.slave_settings.SlaveSettings.{SlaveSettings}
-use Rattle.end_model.specs.Setup.{Setup, receives}
-use Rattle.end_model.specs.Deed.{Deed, ticked}
-use Rattle.end_model.specs.Payloads.{terms}
-use Rattle.end_model.specs.Readiness.{state_of, told_in}
 use Rattle.end_model.specs.Outputs.{is_process, zeros, held_up, out_after, out}
-use Rattle.end_model.specs.Runs.{IsRun, entries}
-use Rattle.end_model.specs.Entries.{entry_of}
-use Rattle.end_model.specs.Reactions.{Reaction, Answers}
-use Rattle.end_model.proofs.SoundRuns.{reacted}
-use Rattle.end_model.proofs.Taken.{data_after}
 use Rattle.end_model.proofs.Shown.{looking_back}
-use Rattle.exchange_model.specs.Ends.{of_end}
-use Rattle.exchange_model.specs.World.{setup_of, deed_in, deeds, SameLengths}
-use Rattle.exchange_model.specs.Schedules.{IsWorld}
-use Rattle.exchange_model.specs.Fair.{received_len, outputs_by, outputs_at, outputs_after, outputs_due, OutputsAreDue}
 use Rattle.exchange_model.proofs.Worlds.Projection.{next_told, next_run, told}
 
 -- where ProcessData was taken, the state is Data

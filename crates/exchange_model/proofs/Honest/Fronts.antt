@@ -1,12 +1,9 @@
 -- The first pieces of a payload: how many bytes they are, and that they begin as the payload with zeros after it.
+use Rattle.exchange_model.proofs.Common.{all_zero, number_at, padded, padded_len, piece, pieces, pieces_for}
 use Rattle.std.proofs.Common.{◌≡◌, ℕ, zero, suc, ◌+◌, ◌-◌, ◌*◌, ◌/◌, ◌<◌, ◌≤◌, ◌==◌, List, [], ◌∷◌, ◌++◌, length, take, drop, replicate, true, ◌&&◌, refl, sym, ap, ap₂, ◌∙◌, arith, append_assoc}
 use Rattle.std.proofs.lemmas.List.{append-nil, length-append, get_or_append_left, take-append-le, drop-append-le, length-drop, drop_all, drop-replicate, replicate-append-replicate}
 use Rattle.std.proofs.Math.Nat.{mul-le-mul_left}
 use Rattle.std.proofs.Math.Seq.{drop-append-add}
-use Rattle.fsoe_base.specs.Bytes.{all_zero}
-use Rattle.param_load.specs.Payload.{number_at, padded}
-use Rattle.end_model.specs.Payloads.{piece, pieces, pieces_for}
-use Rattle.end_model.proofs.SealedFrames.{padded_len}
 use Rattle.exchange_model.proofs.Alone.Pieces.{front, piece_short}
 use Rattle.exchange_model.proofs.Terms.Agree.{front_whole}
 use Rattle.exchange_model.proofs.Honest.ResetFrames.{zeros_all}

@@ -1,29 +1,14 @@
 -- A master takes the answer that is on its way, and sends the next frame.
+use Rattle.exchange_model.proofs.Common.{Command, Deed, Frame, IsValid, MasterSettings, OfMaster, State, after_phase, answer, code, command_of, connection_payload, contents, count_in, download_frame, has_conn, held, id_sent, is_echo, is_padded, is_reset, master_allows, nonce, offer, own, padded, padded_len, parameter_payload, phase_of, piece, pieces, pieces_for, received, seal, sealed, session_id, session_payload, since, with_data}
 use Rattle.std.proofs.Common.{◌≡◌, ℕ, suc, ◌+◌, ◌<◌, ◌≤◌, nat_lt, List, [], ◌∷◌, length, replicate, Bool, true, false, Some, None, if◌then◌else◌, refl, sym, ap, ap₂, subst, ◌∙◌, arith, unwrap_or}
 use Rattle.std.specs.Option.{option_or}
 use Rattle.std.proofs.lemmas.Bool.{eq-eqb, ltb-true, ltb-false}
 use Rattle.std.proofs.lemmas.List.{length-replicate}
 use Rattle.std.specs.Cmp.Lexicographic.{bytes_decides}
-use Rattle.fsoe_base.specs.declared.command.State.{State}
 use Rattle.fsoe_base.specs.declared.command.State.TheVariants as state
-use Rattle.fsoe_base.specs.declared.command.Command.{Command}
 use Rattle.fsoe_base.specs.declared.command.Command.TheVariants as command
-use Rattle.fsoe_base.specs.Command.{command_of, code}
-use Rattle.fsoe_frame.specs.Parts.{Frame}
-use Rattle.param_load.specs.declared.master_settings.MasterSettings.{MasterSettings}
-use Rattle.param_load.specs.Payload.{is_padded, is_echo, session_payload, connection_payload, parameter_payload, padded}
-use Rattle.end_model.specs.Setup.{OfMaster}
-use Rattle.end_model.specs.Phases.{phase_of, is_reset}
-use Rattle.end_model.specs.Deed.{Deed}
-use Rattle.end_model.specs.Chain.{since, own, seal}
-use Rattle.end_model.specs.Payloads.{piece, pieces, pieces_for, count_in, nonce, id_sent, session_id}
-use Rattle.end_model.specs.Readiness.{offer, held, master_allows}
-use Rattle.end_model.specs.Verdict.{has_conn, contents}
-use Rattle.end_model.specs.Step.{sealed, with_data, answer, download_frame, after_phase}
-use Rattle.end_model.specs.Reactions.{received, IsValid}
 use Rattle.exchange_model.proofs.Alone.Pieces.{piece_in, piece_filled}
 use Rattle.exchange_model.proofs.Alone.Framed.{command_back}
-use Rattle.end_model.proofs.SealedFrames.{padded_len}
 use Rattle.exchange_model.proofs.Honest.OnItsWay.{OnItsWay, fits_on, answering}
 use Rattle.exchange_model.proofs.Honest.ResetFrames.{zeros_all}
 use Rattle.exchange_model.proofs.Honest.SlaveTurn.{Replies, Carries, parts_with}

@@ -1,28 +1,18 @@
 -- A sealed frame on its way from one end to the other, whose chains agree. s sends it, r receives it, and u and v are
 -- the deeds of both in their sessions.
+use Rattle.exchange_model.proofs.Common.{Command, Deed, Frame, Setup, command_byte, count_crcs, count_groups, fits, frame_len, frame_of, has_command, is_length, is_reset, kept, low_high, newest_crc, own, own_link, read_back, receives, seal, sends, taken, taken_link, takes_frame, valid_length}
 use Rattle.std.proofs.Common.{◌≡◌, ◌≢◌, ℕ, suc, ◌+◌, ◌*◌, ◌/◌, List, [], ◌∷◌, length, true, false, Option, Some, None, IsTrue, refl, sym, ap, ap₂, subst, ◌∙◌, arith, inl, inr}
 use Rattle.std.proofs.lemmas.Bool.{cases_eq}
 use Rattle.std.proofs.lemmas.Bool.Decides.{nat_tests}
 use Rattle.std.proofs.lemmas.List.{length-append}
 use Rattle.std.specs.Cmp.Lexicographic.{bytes_decides}
-use Rattle.fsoe_base.specs.declared.command.Command.{Command}
 use Rattle.fsoe_base.specs.declared.command.Command.TheVariants as command
-use Rattle.fsoe_base.specs.Command.{command_byte}
-use Rattle.fsoe_base.specs.Bytes.{low_high}
-use Rattle.fsoe_base.specs.Lengths.{is_length, frame_len}
 use Rattle.fsoe_frame.specs.Layout.{groups, with_crcs}
-use Rattle.fsoe_frame.specs.Parts.{Frame, frame_of}
 use Rattle.seq_chain.specs.declared.link.Link.{Link}
 use Rattle.seq_chain.specs.Cover.{first_of}
 use Rattle.seq_chain.specs.Sealing as sealing
 use Rattle.param_load.specs.declared.entry.Move.TheVariants as move
-use Rattle.end_model.specs.Setup.{Setup, sends, receives}
-use Rattle.end_model.specs.Phases.{is_reset, has_command}
-use Rattle.end_model.specs.Deed.{Deed}
-use Rattle.end_model.specs.Chain.{own, taken, kept, newest_crc, own_link, taken_link, fits, seal}
-use Rattle.end_model.specs.Step.{takes_frame}
 use Rattle.end_model.specs.Neighbours.{IsOtherThanNewest, NeighboursDiffer}
-use Rattle.end_model.proofs.ReadBack.{valid_length, count_crcs, count_groups, read_back}
 
 -- a frame that was taken is the newest of these, or a Reset frame where there is none
 abbrev pub IsNewestOf : List ℕ → List (List ℕ) → Type 0

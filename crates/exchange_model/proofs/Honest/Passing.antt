@@ -1,28 +1,15 @@
 -- A frame that passes all tests is taken and answered.
+use Rattle.exchange_model.proofs.Common.{Code, Command, Deed, IsRead, IsResetFrame, IsValid, MasterSettings, OfMaster, OfSlave, Setup, SlaveSettings, State, Valid, Verdict, answer, deed_of, download_frame, frame_len, is_repeat, judged, judged_contents, judged_session, kept, on_verdict, parts, received, receives, reset_frame, sends, session_fault, since, state_of, step, takes_frame, verdict}
 use Rattle.std.proofs.Common.{◌≡◌, ◌≢◌, ℕ, ◌==◌, List, ◌∷◌, length, Bool, true, false, Option, Some, None, Result, if◌then◌else◌, refl, sym, ap, ◌∙◌}
 use Rattle.std.proofs.lemmas.Bool.{eq-eqb}
 use Rattle.std.specs.Cmp.Lexicographic.{same_text}
-use Rattle.fsoe_base.specs.declared.command.State.{State}
 use Rattle.fsoe_base.specs.declared.command.State.TheVariants as state
-use Rattle.fsoe_base.specs.declared.command.Code.{Code}
-use Rattle.fsoe_base.specs.declared.command.Command.{Command}
 use Rattle.fsoe_base.specs.declared.command.Command.TheVariants as command
 use Rattle.fsoe_base.specs.declared.did.Dropped.TheVariants as dropped
-use Rattle.fsoe_base.specs.Lengths.{frame_len}
 use Rattle.seq_chain.specs.declared.opened.Opened.{Opened}
 use Rattle.seq_chain.specs.declared.opened.Opened.TheVariants as opened_as
 use Rattle.seq_chain.specs.Opened.{reset_opened, command_opened}
-use Rattle.seq_chain.specs.Reset.{reset_frame}
 use Rattle.param_load.specs.declared.entry.Move.TheVariants as move
-use Rattle.param_load.specs.declared.master_settings.MasterSettings.{MasterSettings}
-use Rattle.param_load.specs.declared.slave_settings.SlaveSettings.{SlaveSettings}
-use Rattle.end_model.specs.Setup.{Setup, OfMaster, OfSlave, sends, receives}
-use Rattle.end_model.specs.Deed.{Deed}
-use Rattle.end_model.specs.Chain.{since, kept}
-use Rattle.end_model.specs.Readiness.{state_of}
-use Rattle.end_model.specs.Verdict.{Verdict, Valid, judged_contents, session_fault, judged_session, judged, is_repeat, verdict}
-use Rattle.end_model.specs.Step.{takes_frame, on_verdict, deed_of, step, answer, download_frame}
-use Rattle.end_model.specs.Reactions.{parts, IsRead, IsResetFrame, IsValid, received}
 
 -- bytes other than those that are kept are no repeat
 is-new : (o : Option (List ℕ)) (bytes : List ℕ) → o ≢ Some bytes → is_repeat o bytes ≡ false

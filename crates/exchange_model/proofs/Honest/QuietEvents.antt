@@ -1,31 +1,11 @@
 -- Ticks below the limits, puts, holds and nonces leave the stage of an honest run; the master's first tick begins it.
+use Rattle.exchange_model.proofs.Common.{Deed, Did, End, Entry, Event, IsNextEntry, IsProperEvent, MasterSettings, Move, OfMaster, OfSlave, Setup, SlaveSettings, State, deed_of, deeds, deliveries_to, end_of_event, entry_at, entry_of, exchanges, had_tick, is_counted, is_delivery, items, items_of, may_tick, on_expiry, own, phase_sent, reaches_limit, reset_frame, same_end, setup_of, state_of, step}
 use Rattle.std.proofs.Common.{◌≡◌, ℕ, suc, nat_le, ◌&&◌, not, List, ◌∷◌, [], Bool, true, false, Some, if◌then◌else◌, refl, sym, ap, ◌∙◌}
-use Rattle.fsoe_base.specs.declared.command.End.{End}
 use Rattle.fsoe_base.specs.declared.command.End.TheVariants as end_name
-use Rattle.fsoe_base.specs.declared.command.State.{State}
 use Rattle.fsoe_base.specs.declared.command.State.TheVariants as state
-use Rattle.fsoe_base.specs.declared.did.Did.{Did}
 use Rattle.fsoe_base.specs.Did.{nothing}
-use Rattle.seq_chain.specs.Reset.{reset_frame}
-use Rattle.param_load.specs.declared.entry.Move.{Move}
 use Rattle.param_load.specs.declared.entry.Move.TheVariants as move
-use Rattle.param_load.specs.declared.entry.Entry.{Entry}
-use Rattle.param_load.specs.declared.master_settings.MasterSettings.{MasterSettings}
-use Rattle.param_load.specs.declared.slave_settings.SlaveSettings.{SlaveSettings}
-use Rattle.schedule_file.specs.declared.event.Event.{Event}
 use Rattle.schedule_file.specs.declared.event.Event.TheVariants as event
-use Rattle.end_model.specs.Setup.{Setup, OfMaster, OfSlave}
-use Rattle.end_model.specs.Deed.{Deed}
-use Rattle.end_model.specs.Chain.{own}
-use Rattle.end_model.specs.Readiness.{phase_sent, state_of, reaches_limit}
-use Rattle.end_model.specs.Step.{on_expiry, deed_of, step}
-use Rattle.end_model.specs.Entries.{entry_of}
-use Rattle.exchange_model.specs.Ends.{same_end}
-use Rattle.exchange_model.specs.World.{setup_of, deeds, end_of_event, entry_at}
-use Rattle.exchange_model.specs.Schedules.{IsProperEvent, IsNextEntry}
-use Rattle.exchange_model.specs.Items.{items_of, items}
-use Rattle.exchange_model.specs.Honest.{exchanges, had_tick, is_counted, may_tick}
-use Rattle.exchange_model.specs.Serving.{is_delivery, deliveries_to}
 use Rattle.exchange_model.proofs.Honest.OnItsWay.{fresh}
 use Rattle.exchange_model.proofs.Honest.StageSteps.{Enters, AtStage}
 use Rattle.exchange_model.proofs.Honest.Stages.{both, Asked, IsIdle}

@@ -1,20 +1,10 @@
 -- The Reset frame with code 0 passes all of its tests.
+use Rattle.exchange_model.proofs.Common.{Code, Deed, Frame, IsResetFrame, Setup, all_zero, bytes_of, code, command_of, count_crcs, count_groups, frame_len, frame_of, halves, is_length, kept, low_high, parts_made, receives, reset_crcs, reset_frame, reset_load, reset_view, since}
 use Rattle.std.proofs.Common.{◌≡◌, ℕ, zero, suc, ◌+◌, ◌-◌, ◌*◌, ◌/◌, ◌<◌, List, ◌∷◌, length, replicate, Bool, true, false, not, Some, None, Ok, Err, IsTrue, if◌then◌else◌, refl, sym, ap, subst, ◌∙◌, arith}
 use Rattle.std.proofs.lemmas.Bool.Decides.{nat_tests}
 use Rattle.std.proofs.lemmas.List.{length-replicate, length-append}
 use Rattle.std.specs.Cmp.Lexicographic.{bytes_decides}
-use Rattle.fsoe_base.specs.declared.command.Code.{Code}
-use Rattle.fsoe_base.specs.Bytes.{all_zero, low_high}
-use Rattle.fsoe_base.specs.Command.{code, command_of}
-use Rattle.fsoe_base.specs.Lengths.{is_length, frame_len}
 use Rattle.fsoe_frame.specs.Layout.{groups, with_crcs}
-use Rattle.fsoe_frame.specs.Parts.{Frame, frame_of, bytes_of}
-use Rattle.seq_chain.specs.Reset.{reset_load, reset_crcs, reset_frame, reset_view}
-use Rattle.end_model.specs.Setup.{Setup, receives}
-use Rattle.end_model.specs.Deed.{Deed}
-use Rattle.end_model.specs.Chain.{since, kept}
-use Rattle.end_model.specs.Reactions.{IsResetFrame}
-use Rattle.end_model.proofs.ReadBack.{count_crcs, count_groups, halves, parts_made}
 use Rattle.exchange_model.proofs.Honest.OnItsWay.{groups_long, lengths_add}
 
 pub zeros_all : (n : ℕ) → all_zero (replicate n 0) ≡ true

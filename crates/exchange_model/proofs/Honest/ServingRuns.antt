@@ -1,38 +1,20 @@
 -- Under an honest schedule a run of matching ends serves: honest schedules bring both into Data and keep them there.
+use Rattle.exchange_model.proofs.Common.{End, Entry, Event, Fair, HasNoReset, InDataAfter, InDataThroughout, IsHonest, IsNextEntry, IsProperEvent, IsWorld, MasterSettings, Match, Move, NoOther, Profile, Serves, SlaveSettings, State, TakesDataThroughout, TakesDelivery, allows_id, deed_in, deeds, deliveries_to, entry_at, exchanges, first_of_both, going_on, had_tick, if_on, in_turn, is_delivery, is_length, is_plain, is_tick, keeps_time, may_happen, peer, phase_of, phase_sent, same_end, same_phase, setup_of, state_of, state_told, ticks_first, world, world_after}
 use Rattle.std.proofs.Common.{◌≡◌, ℕ, suc, ◌+◌, ◌≤◌, nat_le, nat_lt, List, [], ◌∷◌, length, Bool, true, false, ◌&&◌, ◌||◌, All, Option, if◌then◌else◌, refl, sym, ap, ap₂, subst, ◌∙◌, arith, IsTrue}
 use Rattle.std.specs.List.{list_all}
 use Rattle.std.proofs.lemmas.Bool.{and_parts, eqb-true}
 use Rattle.std.proofs.lemmas.Bool.Decides.{nat_tests}
 use Rattle.std.proofs.lemmas.List.Elements.{All-head, All-tail, All-cons, All-nil}
-use Rattle.fsoe_base.specs.declared.command.End.{End}
 use Rattle.fsoe_base.specs.declared.command.End.TheVariants as end_name
-use Rattle.fsoe_base.specs.declared.command.State.{State}
 use Rattle.fsoe_base.specs.declared.command.State.TheVariants as state
-use Rattle.param_load.specs.declared.entry.Move.{Move}
 use Rattle.param_load.specs.declared.entry.Move.TheVariants as move
-use Rattle.param_load.specs.declared.entry.Entry.{Entry}
-use Rattle.param_load.specs.declared.master_settings.MasterSettings.{MasterSettings}
-use Rattle.param_load.specs.declared.slave_settings.SlaveSettings.{SlaveSettings}
-use Rattle.schedule_file.specs.declared.event.Event.{Event}
 use Rattle.schedule_file.specs.declared.event.Event.TheVariants as event
-use Rattle.end_model.specs.Phases.{same_phase, phase_of}
-use Rattle.end_model.specs.Readiness.{phase_sent, state_of}
-use Rattle.exchange_model.specs.Ends.{same_end, peer}
-use Rattle.exchange_model.specs.World.{setup_of, deed_in, deeds, entry_at, going_on, world_after, world}
-use Rattle.exchange_model.specs.Schedules.{IsProperEvent, IsNextEntry, IsWorld}
-use Rattle.exchange_model.specs.Other.{first_of_both, NoOther}
-use Rattle.exchange_model.specs.Honest.{exchanges, is_plain, in_turn, ticks_first, is_tick, had_tick, may_happen, if_on, keeps_time, Match, IsHonest}
-use Rattle.exchange_model.specs.Serving.{is_delivery, deliveries_to, state_told, InDataAfter, InDataThroughout, HasNoReset, TakesDelivery, TakesDataThroughout, Serves}
 use Rattle.exchange_model.proofs.Worlds.Projection.{same, next_told}
 use Rattle.exchange_model.proofs.Honest.QuietEvents.{quiet_entry, quiet_enters, both_kept, quiet_tick, quiet_put, quiet_hold, quiet_nonce, AtIdle, first_tick}
 use Rattle.exchange_model.proofs.Honest.SlaveTurn.{Accepts}
 use Rattle.exchange_model.proofs.Honest.StageSteps.{AtStage, Enters, Goes, asked_delivered, replied_delivered, down_delivered, up_delivered, some_session, some_connection, some_parameter}
 use Rattle.exchange_model.proofs.Honest.Stages.{Both, both, IsOutside, Stage, IsIdle, Asked, Replied, Down, Up}
 use Rattle.exchange_model.proofs.Honest.Turns.{Partner, partner, session_pieces, connection_pieces, parameter_pieces, spot_after, spot_data, turn_data, at_least, none_yet}
-use Rattle.fsoe_base.specs.Lengths.{is_length}
-use Rattle.param_load.specs.declared.profile.Profile.{Profile}
-use Rattle.param_load.specs.Profile.{allows_id}
-use Rattle.exchange_model.specs.Fair.{Fair}
 use Rattle.exchange_model.proofs.Fairness.Headline.{fair_run}
 use Rattle.exchange_model.proofs.Honest.OnItsWay.{fresh}
 

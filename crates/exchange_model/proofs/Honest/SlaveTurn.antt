@@ -1,28 +1,12 @@
 -- A slave takes the master's frame that is on its way, and answers it: the frame passes all tests, and what the slave
 -- took after it tells the answer that it seals.
+use Rattle.exchange_model.proofs.Common.{Command, Deed, Frame, IsValid, MasterSettings, OfMaster, Profile, State, all_zero, allows, answer, code, command_byte, command_of, conn_id, conn_in, connection_payload, contents, contents_fault, count_in, first_conn, frame_of, has_conn, held, id_len, id_piece, is_padded, is_reset, is_slave_conn, joined, number_at, offer, padded, parameter_payload, phase_of, piece, pieces_for, received, rule_len, seal, sealed, session_id, session_payload, since, slave_allows, taken, whole, with_data}
 use Rattle.std.proofs.Common.{◌≡◌, ℕ, zero, suc, ◌+◌, ◌*◌, ◌<◌, ◌≤◌, nat_le, List, ◌++◌, length, take, drop, true, false, not, Some, None, if◌then◌else◌, refl, sym, ap, ap₂, subst, ◌∙◌, arith, ◌-◌, [], ◌∷◌, min, replicate, Bool, Option, unwrap_or}
 use Rattle.std.proofs.lemmas.Bool.{eq-eqb}
 use Rattle.std.proofs.lemmas.Bool.Decides.{nat_tests}
-use Rattle.fsoe_base.specs.declared.command.State.{State}
 use Rattle.fsoe_base.specs.declared.command.State.TheVariants as state
-use Rattle.fsoe_base.specs.declared.command.Command.{Command}
 use Rattle.fsoe_base.specs.declared.command.Command.TheVariants as command
-use Rattle.fsoe_base.specs.Bytes.{all_zero}
-use Rattle.fsoe_base.specs.Command.{command_byte, command_of, code}
-use Rattle.fsoe_frame.specs.Parts.{Frame, frame_of}
 use Rattle.param_load.specs.declared.contents.Expected.TheVariants as expected
-use Rattle.param_load.specs.declared.profile.Profile.{Profile}
-use Rattle.param_load.specs.declared.master_settings.MasterSettings.{MasterSettings}
-use Rattle.param_load.specs.AppRule.{rule_len, allows}
-use Rattle.param_load.specs.Contents.{contents_fault}
-use Rattle.param_load.specs.Payload.{session_payload, connection_payload, parameter_payload, padded, number_at, is_padded}
-use Rattle.param_load.specs.Profile.{id_len}
-use Rattle.end_model.specs.Setup.{OfMaster}
-use Rattle.end_model.specs.Deed.{Deed}
-use Rattle.end_model.specs.Chain.{since, taken, seal}
-use Rattle.end_model.specs.Payloads.{piece, pieces_for, joined, first_conn, whole, count_in, conn_in, session_id, conn_id}
-use Rattle.end_model.specs.Readiness.{slave_allows, offer, held}
-use Rattle.end_model.specs.Verdict.{is_slave_conn, has_conn, contents}
 use Rattle.end_model.proofs.WholeUploads.{by_count}
 use Rattle.exchange_model.proofs.Honest.Fronts.{front_long, front_begun, drop_padded, not_yet, all_come, IsBegun, padded_twice}
 use Rattle.exchange_model.proofs.Alone.Framed.{piece_fits, command_back}
@@ -31,11 +15,8 @@ use Rattle.exchange_model.proofs.Alone.Pieces.{front, piece_short, take_padded, 
 use Rattle.exchange_model.proofs.Honest.ResetFrames.{some_bytes, zeros_all}
 use Rattle.exchange_model.proofs.Honest.Turns.{session_long, Partner, master_of, slave_of, width, session_pieces, connection_pieces, parameter_pieces, Turn, Starts, MoreSession, FirstConnection, MoreConnection, FirstParameter, MoreParameter, FirstZeros, FirstValues, MoreZeros, MoreValues, conn_after, SlaveAt, partner, more}
 use Rattle.exchange_model.proofs.Honest.UploadTests.{session_passes, connection_passes, parameters_pass, parameters_count}
-use Rattle.end_model.specs.Reactions.{IsValid, received}
 use Rattle.std.specs.Option.{option_or}
 use Rattle.std.proofs.lemmas.List.{length-replicate, length-take, length-drop}
-use Rattle.end_model.specs.Phases.{phase_of, is_reset}
-use Rattle.end_model.specs.Step.{sealed, with_data, answer, id_piece}
 
 -- what a frame of the master carries in its turn
 abbrev pub Carries : MasterSettings → ℕ → Command → ℕ → ℕ → ℕ → ℕ → List ℕ → Type 0

@@ -1,39 +1,16 @@
 -- Each delivery of an honest run brings the next stage: of a Reset frame, and of a frame of a session, which its
 -- receiver answers.
+use Rattle.exchange_model.proofs.Common.{Command, Deed, End, Entry, Event, Frame, HasNoReset, IsNext, IsNextEntry, IsProper, IsRun, IsValid, IsWorld, Item, MasterSettings, OfMaster, Profile, Setup, State, TakesDataAfter, TakesDelivery, answer, answer_among, answers_to, count_in, data_taken, deeds, delivery, entry_at, entry_of, entry_on, exchanges, first_conn, frame_of, has_bytes, has_command, id_len, is_guarded, is_guarded_frame, is_other, is_reset, items, items_of, newest, nonce, number_if, offer_len, own, padded, phase_of, phase_sent, piece, received, reset_frame, same_phase, seal, sends, session_id, session_payload, setup_of, since, step}
 use Rattle.std.proofs.Common.{◌≡◌, ℕ, suc, List, [], ◌∷◌, length, Bool, true, false, not, ◌&&◌, Option, Some, None, if◌then◌else◌, refl, sym, ap, ap₂, ◌∙◌, nat_le, is_some, unwrap_or, ◌≢◌, ◌+◌, ◌<◌, subst, arith}
 use Rattle.std.specs.Option.{option_or}
 use Rattle.std.proofs.lemmas.Bool.{eq-eqb}
 use Rattle.std.specs.Cmp.Lexicographic.{bytes_decides}
-use Rattle.fsoe_base.specs.declared.command.End.{End}
 use Rattle.fsoe_base.specs.declared.command.End.TheVariants as end_name
 use Rattle.fsoe_base.specs.declared.command.State.TheVariants as state
-use Rattle.fsoe_base.specs.declared.command.Command.{Command}
 use Rattle.fsoe_base.specs.declared.command.Command.TheVariants as command
-use Rattle.seq_chain.specs.Reset.{reset_frame}
 use Rattle.param_load.specs.declared.entry.Move.TheVariants as move
-use Rattle.param_load.specs.declared.entry.Entry.{Entry}
-use Rattle.param_load.specs.declared.master_settings.MasterSettings.{MasterSettings}
-use Rattle.param_load.specs.Payload.{session_payload, padded}
 use Rattle.schedule_file.specs.declared.event.Event.TheVariants as event
-use Rattle.schedule_file.specs.declared.event.Event.{Event}
-use Rattle.end_model.specs.Setup.{Setup, OfMaster, sends}
-use Rattle.end_model.specs.Phases.{is_guarded, has_command, phase_of, same_phase, is_reset, is_guarded_frame}
-use Rattle.end_model.specs.Deed.{Deed}
-use Rattle.end_model.specs.Chain.{since, own, seal}
-use Rattle.end_model.specs.Payloads.{piece, count_in, first_conn, nonce, session_id}
-use Rattle.end_model.specs.Readiness.{phase_sent}
-use Rattle.end_model.specs.Step.{step, answer}
-use Rattle.end_model.specs.Runs.{IsProper, IsNext, IsRun}
-use Rattle.end_model.specs.Entries.{entry_of}
-use Rattle.end_model.specs.Reactions.{received, IsValid}
 use Rattle.black_channel.specs.Altered.{back_th}
-use Rattle.exchange_model.specs.World.{setup_of, deeds, delivery, entry_on, entry_at}
-use Rattle.exchange_model.specs.Schedules.{IsNextEntry, IsWorld}
-use Rattle.exchange_model.specs.Items.{Item, items_of, items, newest, answers_to, answer_among, has_bytes, number_if}
-use Rattle.exchange_model.specs.Other.{is_other}
-use Rattle.exchange_model.specs.Serving.{TakesDelivery, HasNoReset, TakesDataAfter}
-use Rattle.exchange_model.specs.Honest.{exchanges}
-use Rattle.exchange_model.specs.Fair.{data_taken}
 use Rattle.exchange_model.proofs.Alone.Pieces.{piece_filled}
 use Rattle.exchange_model.proofs.Honest.MasterTurn.{next, Next, master_valid, master_after}
 use Rattle.exchange_model.proofs.Honest.OnItsWay.{answering, fresh, first_on_its_way, OnItsWay, next_on_its_way, head_on}
@@ -41,14 +18,9 @@ use Rattle.exchange_model.proofs.Honest.Passing.{slave_rejoins, master_starts, t
 use Rattle.exchange_model.proofs.Honest.ResetFrames.{zero_load, is_reset_frame}
 use Rattle.exchange_model.proofs.Honest.Stages.{both, NewestAnswers, IsAsked, IsReplied, Stage, Replied, Down, IsDown, IsUp, Up}
 use Rattle.exchange_model.proofs.Honest.Turns.{Partner, partner, master_of, slave_of, width, Starts, none_yet, session_pieces, connection_pieces, parameter_pieces, more, Spot, spot_after, SlaveAt, MasterAt, at_least, spot_data}
-use Rattle.fsoe_base.specs.declared.command.State.{State}
-use Rattle.fsoe_frame.specs.Parts.{Frame, frame_of}
-use Rattle.param_load.specs.declared.profile.Profile.{Profile}
 use Rattle.param_load.specs.declared.profile.Profile.TheVariants as profile
-use Rattle.param_load.specs.Profile.{id_len}
 use Rattle.end_model.specs.Neighbours.{NeighboursDiffer}
 use Rattle.end_model.proofs.Neighbours.{neighbours}
-use Rattle.end_model.proofs.SealedFrames.{offer_len}
 use Rattle.exchange_model.proofs.Worlds.Projection.{deeds_are_run}
 use Rattle.exchange_model.proofs.Alone.Uploads.{since_on}
 use Rattle.exchange_model.proofs.Honest.Fronts.{some_piece}

@@ -1,22 +1,9 @@
 -- The stages of an honest run: which frame is on its way, and where both ends stand.
+use Rattle.exchange_model.proofs.Common.{Command, Deed, End, Entry, Item, MasterSettings, State, deeds, deliveries_to, has_command, id_sent, is_reset, items, items_of, joined, own, phase_of, phase_taken, reset_frame, since}
 use Rattle.std.proofs.Common.{◌≡◌, ℕ, suc, List, [], ◌∷◌, false, Option, Some, None}
-use Rattle.fsoe_base.specs.declared.command.End.{End}
 use Rattle.fsoe_base.specs.declared.command.End.TheVariants as end_name
-use Rattle.fsoe_base.specs.declared.command.State.{State}
 use Rattle.fsoe_base.specs.declared.command.State.TheVariants as state
-use Rattle.fsoe_base.specs.declared.command.Command.{Command}
 use Rattle.fsoe_base.specs.declared.command.Command.TheVariants as command
-use Rattle.seq_chain.specs.Reset.{reset_frame}
-use Rattle.param_load.specs.declared.master_settings.MasterSettings.{MasterSettings}
-use Rattle.end_model.specs.Phases.{phase_of, is_reset, has_command}
-use Rattle.end_model.specs.Deed.{Deed}
-use Rattle.end_model.specs.Chain.{since, own}
-use Rattle.end_model.specs.Payloads.{joined, id_sent}
-use Rattle.end_model.specs.Readiness.{phase_taken}
-use Rattle.param_load.specs.declared.entry.Entry.{Entry}
-use Rattle.exchange_model.specs.World.{deeds}
-use Rattle.exchange_model.specs.Items.{Item, items_of, items}
-use Rattle.exchange_model.specs.Serving.{deliveries_to}
 use Rattle.exchange_model.proofs.Honest.OnItsWay.{Chained, chained, IsBetween, IsFresh}
 use Rattle.exchange_model.proofs.Honest.SlaveTurn.{Replies, Carries}
 use Rattle.exchange_model.proofs.Honest.Turns.{Partner, master_of, slave_of, width, session_pieces, connection_pieces, parameter_pieces, more, Turn, Spot, HasTaken, HasSent}

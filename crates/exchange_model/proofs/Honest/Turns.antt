@@ -1,28 +1,13 @@
 -- Where a handshake stands: the pieces of each payload that were sent and taken so far, and whose turn it is.
+use Rattle.exchange_model.proofs.Common.{Command, Deed, MasterSettings, OfMaster, OfSlave, Profile, Setup, SlaveSettings, State, allows_id, connection_payload, count_in, exchanges, first_conn, id_len, id_sent, is_acceptable, is_length, joined, own, parameter_payload, pay, phase_of, phase_sent, phase_taken, piece_len, pieces, pieces_for, same_phase, session_payload, since, taken}
 use Rattle.std.proofs.Common.{◌≡◌, ℕ, zero, suc, ◌+◌, ◌<◌, ◌≤◌, List, length, Bool, true, false, nat_lt, Option, Some, None, IsTrue, if◌then◌else◌, arith, nat_le, refl}
 use Rattle.std.proofs.lemmas.Bool.Decides.{nat_tests}
 use Rattle.std.proofs.lemmas.Bool.{lt-ltb, le-ltb}
-use Rattle.fsoe_base.specs.declared.command.State.{State}
 use Rattle.fsoe_base.specs.declared.command.State.TheVariants as state
-use Rattle.fsoe_base.specs.declared.command.Command.{Command}
 use Rattle.fsoe_base.specs.declared.command.Command.TheVariants as command
-use Rattle.fsoe_base.specs.Lengths.{is_length}
 use Rattle.param_load.specs.declared.app_rule.AppRule.{AppRule}
-use Rattle.param_load.specs.declared.master_settings.MasterSettings.{MasterSettings}
-use Rattle.param_load.specs.declared.slave_settings.SlaveSettings.{SlaveSettings}
-use Rattle.param_load.specs.AppRule.{is_acceptable}
-use Rattle.param_load.specs.Payload.{session_payload, connection_payload, parameter_payload}
-use Rattle.param_load.specs.Profile.{id_len, allows_id}
-use Rattle.end_model.specs.Setup.{Setup, OfMaster, OfSlave, piece_len}
-use Rattle.end_model.specs.Phases.{phase_of, same_phase}
-use Rattle.end_model.specs.Deed.{Deed}
-use Rattle.end_model.specs.Chain.{since, own, taken}
-use Rattle.end_model.specs.Payloads.{pieces_for, joined, count_in, first_conn, id_sent, pay, pieces}
-use Rattle.end_model.specs.Readiness.{phase_sent, phase_taken}
 use Rattle.exchange_model.proofs.Alone.Pieces.{front}
-use Rattle.param_load.specs.declared.profile.Profile.{Profile}
 use Rattle.param_load.specs.declared.profile.Profile.TheVariants as profile
-use Rattle.exchange_model.specs.Honest.{exchanges}
 
 -- what a slave whose settings match a master's has of its own
 pub record Partner (ms : MasterSettings) : Type 0 where

@@ -1,13 +1,10 @@
 -- The item that an end awaits, found among those of its peer.
+use Rattle.exchange_model.proofs.Common.{Item, State, answer_among, answers_to, has_bytes, has_command, newest, newest_answer, number_if, phase_of_frame, phase_sent}
 use Rattle.std.proofs.Common.{◌≡◌, ℕ, suc, ◌≤◌, List, [], ◌∷◌, length, Bool, true, false, Option, Some, None, nat_eq, not, ◌&&◌, ◌==◌, if◌then◌else◌, refl, ap, subst, ◌∙◌, arith, inl, inr}
 use Rattle.std.specs.Cmp.Lexicographic.{pointwise}
 use Rattle.std.proofs.lemmas.Bool.{eqb-true, eq-eqb, and_parts}
 use Rattle.std.proofs.lemmas.Bool.Decides.{eqb_tells}
-use Rattle.fsoe_base.specs.declared.command.State.{State}
 use Rattle.fsoe_base.specs.declared.command.Command.TheVariants as command
-use Rattle.end_model.specs.Phases.{has_command, phase_of_frame}
-use Rattle.end_model.specs.Readiness.{phase_sent}
-use Rattle.exchange_model.specs.Items.{Item, newest, answers_to, newest_answer, answer_among, has_bytes, number_if}
 use Rattle.exchange_model.proofs.Worlds.Frames.{bytes_in}
 use Rattle.exchange_model.proofs.Worlds.Numbered.{Numbered}
 

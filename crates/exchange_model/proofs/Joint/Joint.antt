@@ -1,14 +1,11 @@
 -- What both ends' items say of one another: the heart of the law. Lists of items are newest first; s are the slave's, m
 -- the master's, l the safe data bytes of a master's frame, c those of a piece. Pieces don't matter here: what a slave
 -- has uploaded is what the master's own frames carried, up to the item that the slave's newest item answers.
+use Rattle.exchange_model.proofs.Common.{Item, State, frame_of, has_command, phase_of_frame, same_phase}
 use Rattle.std.proofs.Common.{◌≡◌, ℕ, suc, ◌≤◌, List, [], ◌∷◌, ◌++◌, length, take, Bool, true, false, Option, Some, None, if◌then◌else◌, ◌==◌, refl, sym, ap, subst, ◌∙◌, inl, inr}
 use Rattle.std.proofs.lemmas.Bool.Decides.{eqb_tells}
-use Rattle.fsoe_base.specs.declared.command.State.{State}
 use Rattle.fsoe_base.specs.declared.command.State.TheVariants as state
 use Rattle.fsoe_base.specs.declared.command.Command.TheVariants as command
-use Rattle.fsoe_frame.specs.Parts.{frame_of}
-use Rattle.end_model.specs.Phases.{has_command, same_phase, phase_of_frame}
-use Rattle.exchange_model.specs.Items.{Item}
 use Rattle.exchange_model.proofs.Worlds.Frames.{bytes_in}
 use Rattle.exchange_model.proofs.Joint.Awaited.{up_to, up_to_all, newest_phase, Found}
 

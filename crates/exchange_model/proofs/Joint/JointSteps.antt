@@ -1,8 +1,6 @@
 -- Each change of the items of both ends keeps what they say of one another.
+use Rattle.exchange_model.proofs.Common.{Item, State, phase_of_frame}
 use Rattle.std.proofs.Common.{◌≡◌, ℕ, ◌≤◌, List, [], ◌∷◌, length, true, false, Some, sym, ap, subst, ◌∙◌, arith}
-use Rattle.fsoe_base.specs.declared.command.State.{State}
-use Rattle.end_model.specs.Phases.{phase_of_frame}
-use Rattle.exchange_model.specs.Items.{Item}
 use Rattle.exchange_model.proofs.Joint.Awaited.{up_to, up_to_more, up_to_all, newest_phase, Found}
 use Rattle.exchange_model.proofs.Joint.Joint.{is_guarded_in, is_loading, newest_answers, NoneCarried, Place, First, Next, Placed, AllPlaced, Mirrors, Answering, Standing, Before, Past, Joint, Uploads, slave_takes}
 

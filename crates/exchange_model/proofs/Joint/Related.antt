@@ -1,36 +1,10 @@
 -- Each entry of a world that isn't other keeps what both ends' items say of one another.
+use Rattle.exchange_model.proofs.Common.{AfterConnection, AfterSession, Answers, Command, Deed, Did, End, Entry, Expires, IsInSession, IsNextEntry, IsReaction, IsRun, IsValid, IsWorld, Item, MasterFirstData, MasterGoesOn, MasterMoreData, MasterNextPhase, MasterSettings, MasterStarts, Move, NoOther, OfConnection, OfMaster, OfParameter, OfSession, OfSlave, PeerResets, Reaction, Refuses, ResetsItself, SameLengths, SendsAgain, Setup, SlaveSettings, State, Taking, answer_is, answer_sent, command_in, deed_in, deeds, entry_of, exchange_of, is_empty, is_guarded, is_other, item_of, items, items_of, newest, number_if, own, phase_of, phase_of_data, phase_of_frame, phase_sent, piece_len, received, receives, reset_frame, sends, setup_of, since, slave_allows, state_of, takes_frame, uploaded}
 use Rattle.std.proofs.Common.{◌≡◌, ◌≢◌, ℕ, List, [], ◌∷◌, length, Bool, true, false, Option, Some, None, refl, sym, ap, subst, ◌∙◌, arith}
-use Rattle.fsoe_base.specs.declared.command.End.{End}
 use Rattle.fsoe_base.specs.declared.command.End.TheVariants as end_name
-use Rattle.fsoe_base.specs.declared.command.State.{State}
 use Rattle.fsoe_base.specs.declared.command.State.TheVariants as state
-use Rattle.fsoe_base.specs.declared.command.Command.{Command}
 use Rattle.fsoe_base.specs.declared.command.Command.TheVariants as command
-use Rattle.fsoe_base.specs.declared.did.Did.{Did}
-use Rattle.seq_chain.specs.Reset.{reset_frame}
-use Rattle.param_load.specs.declared.entry.Move.{Move}
 use Rattle.param_load.specs.declared.entry.Move.TheVariants as move
-use Rattle.param_load.specs.declared.entry.Entry.{Entry}
-use Rattle.param_load.specs.declared.master_settings.MasterSettings.{MasterSettings}
-use Rattle.param_load.specs.declared.slave_settings.SlaveSettings.{SlaveSettings}
-use Rattle.end_model.specs.Setup.{Setup, OfMaster, OfSlave, sends, receives, piece_len}
-use Rattle.end_model.specs.Phases.{command_in, is_guarded, phase_of, phase_of_frame}
-use Rattle.end_model.specs.Deed.{Deed, is_empty}
-use Rattle.end_model.specs.Chain.{since, own}
-use Rattle.end_model.specs.Payloads.{uploaded}
-use Rattle.end_model.specs.Readiness.{state_of, phase_sent, slave_allows}
-use Rattle.end_model.specs.Step.{takes_frame}
-use Rattle.end_model.specs.Runs.{IsRun}
-use Rattle.end_model.specs.Entries.{entry_of}
-use Rattle.end_model.specs.Reactions.{received, OfSession, OfConnection, OfParameter, AfterSession, AfterConnection, IsValid, IsReaction, Taking, MasterStarts, MasterGoesOn, MasterNextPhase, MasterFirstData, MasterMoreData, Reaction, Expires, SendsAgain, ResetsItself, Refuses, PeerResets, Answers}
-use Rattle.end_model.proofs.Reactions.{phase_of_data}
-use Rattle.end_model.proofs.SoundRuns.{answer_sent}
-use Rattle.end_model.proofs.Taken.{exchange_of, answer_is}
-use Rattle.end_model.proofs.Heads.{IsInSession}
-use Rattle.exchange_model.specs.World.{setup_of, deed_in, deeds, SameLengths}
-use Rattle.exchange_model.specs.Schedules.{IsNextEntry, IsWorld}
-use Rattle.exchange_model.specs.Items.{Item, newest, items_of, items, item_of, number_if}
-use Rattle.exchange_model.specs.Other.{is_other, NoOther}
 use Rattle.exchange_model.proofs.Worlds.Projection.{next_told, deeds_are_run, entry_reacted}
 use Rattle.exchange_model.proofs.Worlds.Frames.{bytes_in, frames}
 use Rattle.exchange_model.proofs.Worlds.Numbered.{numbered}

@@ -1,17 +1,9 @@
 -- What an entry that takes a frame says where it isn't other: the frame is the awaited item, where it is guarded, and
 -- the item that the entry gives answers it.
+use Rattle.exchange_model.proofs.Common.{Command, Entry, Item, NoOther, awaited, command_in, delivered, first_of_both, first_other, has_bytes, is_data, is_guarded, is_guarded_frame, is_other, is_reset, item_of, items, items_of, newest, number_if, peer, phase_of_frame, takes_frame}
 use Rattle.std.proofs.Common.{◌≡◌, ℕ, suc, List, ◌∷◌, length, Bool, true, false, ◌&&◌, not, Option, Some, None, refl, sym, ap, ◌∙◌}
-use Rattle.fsoe_base.specs.declared.command.Command.{Command}
 use Rattle.fsoe_base.specs.declared.command.Command.TheVariants as command
-use Rattle.param_load.specs.declared.entry.Entry.{Entry}
 use Rattle.param_load.specs.declared.entry.Move.TheVariants as move
-use Rattle.end_model.specs.Phases.{command_in, is_reset, is_guarded, is_guarded_frame, phase_of_frame}
-use Rattle.end_model.specs.Deed.{delivered}
-use Rattle.end_model.specs.Step.{takes_frame}
-use Rattle.exchange_model.specs.Ends.{peer}
-use Rattle.exchange_model.specs.Items.{Item, newest, items_of, items, item_of, awaited, has_bytes, number_if}
-use Rattle.exchange_model.specs.Other.{is_other, first_of_both, first_other, NoOther}
-use Rattle.fsoe_base.specs.Data.{is_data}
 use Rattle.exchange_model.proofs.Worlds.Numbered.{numbered}
 use Rattle.exchange_model.proofs.Joint.Awaited.{Found, awaited_found, Is, with_bytes}
 use Rattle.exchange_model.proofs.Joint.Joint.{is_guarded_in}

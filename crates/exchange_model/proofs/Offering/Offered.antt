@@ -1,33 +1,13 @@
 -- Where a bit of an end's outputs is 1, its peer offered it as 1 not long ago; and the watchdog that the end tells is
 -- the master's.
+use Rattle.exchange_model.proofs.Common.{Deed, End, Entry, FailSafe, IsFromItem, IsRun, IsTakenFrom, IsWorld, Item, MasterSettings, NoOther, Offered, SameLengths, Setup, SlaveSettings, State, Terms, Took, Unset, Values, WasOffered, awaited, data_taken, deed_in, deeds, frame_if, frame_with, in_time, is_data_frame, items, next_offered, of_end, offered_of, offers_bit, outputs_due, received_len, receives, same_end, setup_of, state_of, terms, terms_of, ticked, ticks, ticks_of, told_in, told_terms}
 use Rattle.std.proofs.Common.{◌≡◌, ℕ, ◌+◌, ◌-◌, ◌*◌, ◌<◌, ◌≤◌, nat_lt, List, ◌∷◌, ◌++◌, replicate, Bool, true, false, Option, Some, None, IsSomeAnd, if◌then◌else◌, refl, ap, sym, subst, ◌∙◌, append_assoc, arith}
 use Rattle.std.proofs.lemmas.Bool.{ltb-true}
-use Rattle.fsoe_base.specs.declared.command.End.{End}
 use Rattle.fsoe_base.specs.declared.command.End.TheVariants as end_name
-use Rattle.fsoe_base.specs.declared.command.State.{State}
 use Rattle.fsoe_base.specs.declared.command.State.TheVariants as state
-use Rattle.fsoe_base.specs.declared.did.Took.{Took}
 use Rattle.fsoe_base.specs.Image.{bit_of}
-use Rattle.param_load.specs.declared.entry.Entry.{Entry}
-use Rattle.param_load.specs.declared.terms.Terms.{Terms}
-use Rattle.param_load.specs.declared.master_settings.MasterSettings.{MasterSettings}
-use Rattle.param_load.specs.Download.{terms_of}
-use Rattle.param_load.specs.declared.slave_settings.SlaveSettings.{SlaveSettings}
-use Rattle.end_model.specs.Setup.{Setup, receives}
-use Rattle.end_model.specs.Phases.{is_data_frame}
-use Rattle.end_model.specs.Deed.{Deed, ticked}
-use Rattle.end_model.specs.Payloads.{terms}
-use Rattle.end_model.specs.Readiness.{state_of, ticks, told_in, told_terms}
 use Rattle.end_model.specs.Outputs.{outputs}
-use Rattle.end_model.specs.Runs.{IsRun}
 use Rattle.end_model.proofs.Shown.{looking_back, fail_safe}
-use Rattle.exchange_model.specs.Ends.{same_end, of_end}
-use Rattle.exchange_model.specs.World.{setup_of, deed_in, deeds, SameLengths}
-use Rattle.exchange_model.specs.Schedules.{IsWorld}
-use Rattle.exchange_model.specs.Items.{Offered, FailSafe, Values, Unset, next_offered, offered_of, Item, items, awaited}
-use Rattle.exchange_model.specs.Other.{NoOther}
-use Rattle.exchange_model.specs.Fair.{received_len, data_taken, frame_with, frame_if, IsFromItem, IsTakenFrom, in_time, outputs_due, offers_bit}
-use Rattle.exchange_model.specs.Offering.{ticks_of, WasOffered}
 use Rattle.exchange_model.proofs.Worlds.Projection.{next_told, told, deeds_are_run, entry_reacted}
 use Rattle.exchange_model.proofs.Joint.Related.{related}
 use Rattle.exchange_model.proofs.Terms.Told.{terms_agree}

@@ -1,16 +1,7 @@
 -- What holds of a run holds of its older entries; and the ticks of an end since.
+use Rattle.exchange_model.proofs.Common.{End, Entry, IsWorld, MasterSettings, Move, NoOther, SlaveSettings, same_end, ticked, ticks_of}
 use Rattle.std.proofs.Common.{◌≡◌, ℕ, ◌+◌, ◌≤◌, List, [], ◌∷◌, ◌++◌, Bool, true, false, if◌then◌else◌, refl, ap, ◌∙◌, arith}
-use Rattle.fsoe_base.specs.declared.command.End.{End}
-use Rattle.param_load.specs.declared.entry.Move.{Move}
 use Rattle.param_load.specs.declared.entry.Move.TheVariants as move
-use Rattle.param_load.specs.declared.entry.Entry.{Entry}
-use Rattle.param_load.specs.declared.master_settings.MasterSettings.{MasterSettings}
-use Rattle.param_load.specs.declared.slave_settings.SlaveSettings.{SlaveSettings}
-use Rattle.end_model.specs.Deed.{ticked}
-use Rattle.exchange_model.specs.Ends.{same_end}
-use Rattle.exchange_model.specs.Schedules.{IsWorld}
-use Rattle.exchange_model.specs.Other.{NoOther}
-use Rattle.exchange_model.specs.Offering.{ticks_of}
 use Rattle.exchange_model.proofs.Joint.Taking.{NoneOther, none_other}
 
 -- the older entries of a world are one

@@ -1,19 +1,9 @@
 -- The entry that sent an awaited item: the end that awaits it sent nothing since.
+use Rattle.exchange_model.proofs.Common.{Deed, End, Entry, Item, Setup, Took, answer_among, answers_to, awaited, deed_in, deeds, delivered, has_command, is_empty, is_guarded, item_of, item_taken, items, items_of, newest, newest_answer, number_if, peer, same_end, ticked, ticks, ticks_of}
 use Rattle.std.proofs.Common.{◌≡◌, ℕ, suc, ◌≤◌, List, [], ◌∷◌, ◌++◌, length, nat_eq, Bool, true, false, not, ◌&&◌, Option, Some, None, if◌then◌else◌, refl, ap, sym, subst, ◌∙◌, arith}
 use Rattle.std.specs.Cmp.Lexicographic.{pointwise}
-use Rattle.fsoe_base.specs.declared.command.End.{End}
 use Rattle.fsoe_base.specs.declared.command.End.TheVariants as end_name
 use Rattle.fsoe_base.specs.declared.command.Command.TheVariants as command
-use Rattle.fsoe_base.specs.declared.did.Took.{Took}
-use Rattle.param_load.specs.declared.entry.Entry.{Entry}
-use Rattle.end_model.specs.Setup.{Setup}
-use Rattle.end_model.specs.Phases.{has_command, is_guarded}
-use Rattle.end_model.specs.Deed.{Deed, delivered, ticked, is_empty}
-use Rattle.end_model.specs.Readiness.{ticks}
-use Rattle.exchange_model.specs.Ends.{same_end, peer}
-use Rattle.exchange_model.specs.World.{deed_in, deeds}
-use Rattle.exchange_model.specs.Items.{Item, items_of, newest, answers_to, newest_answer, answer_among, awaited, number_if, item_taken, item_of, items}
-use Rattle.exchange_model.specs.Offering.{ticks_of}
 use Rattle.exchange_model.proofs.Worlds.Projection.{same}
 use Rattle.exchange_model.proofs.Worlds.Numbered.{Numbered, Grown, Same, More, numbered, grown}
 use Rattle.exchange_model.proofs.Joint.Awaited.{Found, awaited_found}

@@ -1,16 +1,9 @@
 -- The entry whose data an end shows, where a bit of its outputs is 1.
+use Rattle.exchange_model.proofs.Common.{Command, End, Entry, Took, data_taken, in_time, of_end, outputs_after, outputs_at, outputs_by, same_end, ticked, ticks_of}
 use Rattle.std.proofs.Common.{◌≡◌, ℕ, zero, suc, ◌+◌, ◌/◌, ◌%◌, ◌^◌, ◌==◌, bit_and, slice_index, List, [], ◌∷◌, ◌++◌, replicate, Bool, true, false, not, Option, Some, None, is_some, if◌then◌else◌, refl, ap, sym, ◌∙◌, arith}
 use Rattle.std.specs.Int.Bits.{and_zero_l}
-use Rattle.fsoe_base.specs.declared.command.End.{End}
-use Rattle.fsoe_base.specs.declared.command.Command.{Command}
 use Rattle.fsoe_base.specs.declared.command.Command.TheVariants as command
-use Rattle.fsoe_base.specs.declared.did.Took.{Took}
 use Rattle.fsoe_base.specs.Image.{bit_of}
-use Rattle.param_load.specs.declared.entry.Entry.{Entry}
-use Rattle.end_model.specs.Deed.{ticked}
-use Rattle.exchange_model.specs.Ends.{same_end, of_end}
-use Rattle.exchange_model.specs.Fair.{data_taken, in_time, outputs_by, outputs_at, outputs_after}
-use Rattle.exchange_model.specs.Offering.{ticks_of}
 use Rattle.exchange_model.proofs.Worlds.Projection.{same}
 use Rattle.exchange_model.proofs.Offering.Older.{ticked_across}
 

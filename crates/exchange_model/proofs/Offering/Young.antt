@@ -1,26 +1,10 @@
 -- An end takes data before its watchdog expires: the watchdog in the terms that it tells then.
+use Rattle.exchange_model.proofs.Common.{Answers, Command, Deed, Did, IsRun, Move, OfMaster, OfSlave, Reaction, Setup, SlaveFirstData, SlaveGoesOn, SlaveMoreData, SlaveNextPhase, SlaveRejoins, SlaveSettings, SlaveStarts, State, Taking, Took, age, data_after, data_taken, handshake-data, is_data, limit, next-data, number_at, phase_of_data, slave_age, slave_limit, state_of, terms, ticked, ticks, upload_is_whole, uploaded, whole, with_answer}
 use Rattle.std.proofs.Common.{◌≡◌, ◌≢◌, ℕ, ◌<◌, List, ◌∷◌, Bool, true, false, Some, None, if◌then◌else◌, refl, sym, ap, ◌∙◌, arith}
-use Rattle.fsoe_base.specs.declared.command.State.{State}
 use Rattle.fsoe_base.specs.declared.command.State.TheVariants as state
-use Rattle.fsoe_base.specs.declared.command.Command.{Command}
 use Rattle.fsoe_base.specs.declared.command.Command.TheVariants as command
-use Rattle.fsoe_base.specs.declared.did.Did.{Did}
-use Rattle.fsoe_base.specs.declared.did.Took.{Took}
-use Rattle.fsoe_base.specs.Data.{is_data}
-use Rattle.param_load.specs.declared.entry.Move.{Move}
-use Rattle.param_load.specs.declared.slave_settings.SlaveSettings.{SlaveSettings}
-use Rattle.param_load.specs.Payload.{number_at}
-use Rattle.end_model.specs.Setup.{Setup, OfMaster, OfSlave}
-use Rattle.end_model.specs.Deed.{Deed, ticked}
-use Rattle.end_model.specs.Payloads.{uploaded, whole, terms}
-use Rattle.end_model.specs.Readiness.{state_of, ticks, slave_age, age, slave_limit, limit, upload_is_whole}
-use Rattle.end_model.specs.Runs.{IsRun}
-use Rattle.end_model.specs.Reactions.{IsInSession, with_answer, Taking, SlaveRejoins, SlaveStarts, SlaveGoesOn, SlaveNextPhase, SlaveFirstData, SlaveMoreData, Reaction, Answers}
-use Rattle.end_model.proofs.Reactions.{phase_of_data}
-use Rattle.end_model.proofs.SoundRuns.{handshake-data, next-data}
+use Rattle.end_model.specs.Reactions.{IsInSession}
 use Rattle.end_model.proofs.AgeBelow.{age_below}
-use Rattle.end_model.proofs.Taken.{data_after}
-use Rattle.exchange_model.specs.Fair.{data_taken}
 use Rattle.exchange_model.proofs.Alone.Pieces.{deed}
 
 -- data leave what a slave uploaded

@@ -1,19 +1,11 @@
 -- A slave that uploaded what a master downloaded has the master's terms.
+use Rattle.exchange_model.proofs.Common.{MasterSettings, OfMaster, Profile, SlaveSettings, Terms, id_len, number_at, padded, parameter_payload, piece, pieces, terms, terms_in, word_is}
 use Rattle.std.proofs.Common.{◌≡◌, ℕ, suc, zero, ◌+◌, ◌-◌, ◌*◌, ◌/◌, ◌%◌, ◌<◌, ◌≤◌, List, [], ◌++◌, length, take, drop, replicate, true, refl, sym, ap, ap₂, subst, ◌∙◌, arith, inl, inr, append_assoc}
 use Rattle.std.proofs.lemmas.Bool.{eqb-true, cases_lt}
 use Rattle.std.proofs.lemmas.List.{append-nil, length-take, length-drop, take_all, drop_all, replicate-append-replicate}
 use Rattle.std.proofs.Math.Seq.{take-append_seam, take-add}
 use Rattle.std.proofs.Math.Nat.{mul-le-mul_left}
-use Rattle.param_load.specs.declared.profile.Profile.{Profile}
 use Rattle.param_load.specs.declared.profile.Profile.TheVariants as profile
-use Rattle.param_load.specs.declared.terms.Terms.{Terms}
-use Rattle.param_load.specs.declared.master_settings.MasterSettings.{MasterSettings}
-use Rattle.param_load.specs.declared.slave_settings.SlaveSettings.{SlaveSettings}
-use Rattle.param_load.specs.Contents.{word_is}
-use Rattle.param_load.specs.Payload.{number_at, padded, parameter_payload}
-use Rattle.param_load.specs.Profile.{id_len}
-use Rattle.end_model.specs.Setup.{OfMaster}
-use Rattle.end_model.specs.Payloads.{piece, pieces, terms, terms_in}
 use Rattle.exchange_model.proofs.Alone.Framed.{connection_of, parameters_of}
 use Rattle.exchange_model.proofs.Alone.Pieces.{front}
 use Rattle.exchange_model.proofs.Alone.Uploads.{Tested}

@@ -1,29 +1,9 @@
 -- Both ends tell equal terms in state Data: those of the master's settings.
+use Rattle.exchange_model.proofs.Common.{Command, Deed, End, Entry, IsInSession, IsNextEntry, IsWorld, Item, MasterSettings, OfMaster, OfSlave, SameLengths, SlaveSettings, State, Terms, command_in, deed_in, deeds, is_data, is_length, items, items_of, phase_of_data, phase_sent, piece_len, receives, same_end, state_of, terms, terms_in, terms_of, told_in, uploaded}
 use Rattle.std.proofs.Common.{◌≡◌, ℕ, suc, ◌<◌, List, [], ◌∷◌, length, Bool, true, false, Some, IsTrue, ◌==◌, if◌then◌else◌, refl, sym, ap, subst, ◌∙◌, arith}
 use Rattle.std.proofs.lemmas.Bool.Decides.{nat_tests}
-use Rattle.fsoe_base.specs.declared.command.End.{End}
 use Rattle.fsoe_base.specs.declared.command.End.TheVariants as end_name
-use Rattle.fsoe_base.specs.declared.command.State.{State}
 use Rattle.fsoe_base.specs.declared.command.State.TheVariants as state
-use Rattle.fsoe_base.specs.declared.command.Command.{Command}
-use Rattle.fsoe_base.specs.Lengths.{is_length}
-use Rattle.param_load.specs.declared.entry.Entry.{Entry}
-use Rattle.param_load.specs.declared.terms.Terms.{Terms}
-use Rattle.param_load.specs.declared.master_settings.MasterSettings.{MasterSettings}
-use Rattle.param_load.specs.Download.{terms_of}
-use Rattle.param_load.specs.declared.slave_settings.SlaveSettings.{SlaveSettings}
-use Rattle.end_model.specs.Phases.{command_in}
-use Rattle.end_model.specs.Setup.{OfMaster, OfSlave, receives, piece_len}
-use Rattle.end_model.specs.Deed.{Deed}
-use Rattle.end_model.specs.Payloads.{uploaded, terms, terms_in}
-use Rattle.end_model.specs.Readiness.{state_of, phase_sent, told_in}
-use Rattle.end_model.proofs.Heads.{IsInSession}
-use Rattle.end_model.proofs.Reactions.{phase_of_data}
-use Rattle.exchange_model.specs.Ends.{same_end}
-use Rattle.exchange_model.specs.World.{deed_in, deeds, SameLengths}
-use Rattle.exchange_model.specs.Schedules.{IsNextEntry, IsWorld}
-use Rattle.exchange_model.specs.Items.{Item, items_of, items}
-use Rattle.fsoe_base.specs.Data.{is_data}
 use Rattle.exchange_model.proofs.Worlds.Projection.{next_told, deeds_are_run}
 use Rattle.exchange_model.proofs.Worlds.Frames.{bytes_in, frames}
 use Rattle.exchange_model.proofs.Joint.Awaited.{up_to}

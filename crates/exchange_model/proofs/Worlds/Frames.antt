@@ -1,12 +1,6 @@
 -- The items of an end are the frames that it sent.
+use Rattle.exchange_model.proofs.Common.{End, Entry, Item, deed_in, deeds, frames_of, is_empty, item_of, items, items_of, own, same_end}
 use Rattle.std.proofs.Common.{◌≡◌, ℕ, List, [], ◌∷◌, map, Bool, true, false, refl, if◌then◌else◌}
-use Rattle.fsoe_base.specs.declared.command.End.{End}
-use Rattle.param_load.specs.declared.entry.Entry.{Entry}
-use Rattle.end_model.specs.Deed.{is_empty}
-use Rattle.end_model.specs.Chain.{own}
-use Rattle.exchange_model.specs.Ends.{same_end}
-use Rattle.exchange_model.specs.World.{deed_in, deeds, frames_of}
-use Rattle.exchange_model.specs.Items.{Item, item_of, items_of, items}
 
 -- the frames that items are
 abbrev pub bytes_in : List Item → List (List ℕ)

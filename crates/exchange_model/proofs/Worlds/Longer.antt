@@ -1,10 +1,6 @@
 -- The entries over a longer schedule: those over its first events come first.
+use Rattle.exchange_model.proofs.Common.{Entry, Event, MasterSettings, SlaveSettings, entry_at, going_on, world, world_after}
 use Rattle.std.proofs.Common.{◌≡◌, suc, ◌+◌, List, [], ◌∷◌, ◌++◌, length, Option, Some, None, refl, ap, ◌∙◌, arith}
-use Rattle.param_load.specs.declared.entry.Entry.{Entry}
-use Rattle.param_load.specs.declared.master_settings.MasterSettings.{MasterSettings}
-use Rattle.param_load.specs.declared.slave_settings.SlaveSettings.{SlaveSettings}
-use Rattle.schedule_file.specs.declared.event.Event.{Event}
-use Rattle.exchange_model.specs.World.{entry_at, going_on, world_after, world}
 
 whole_on : (ms : MasterSettings) (ss : SlaveSettings) (log more : List Event) (w : List Entry) (next : Option Entry)
     → ((x : Entry) → length (world_after ms ss log (x ∷ w)) ≡ length (x ∷ w) + length log → world_after ms ss (log ++ more) (x ∷ w) ≡ world_after ms ss more (world_after ms ss log (x ∷ w)))

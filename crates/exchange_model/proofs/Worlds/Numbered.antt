@@ -1,10 +1,6 @@
 -- The items of an end are numbered from 1, in the order in which they were sent.
+use Rattle.exchange_model.proofs.Common.{End, Entry, Item, is_empty, item_of, items, items_of, same_end}
 use Rattle.std.proofs.Common.{◌≡◌, suc, List, [], ◌∷◌, length, Bool, true, false, if◌then◌else◌, refl, ap, subst, sym}
-use Rattle.fsoe_base.specs.declared.command.End.{End}
-use Rattle.param_load.specs.declared.entry.Entry.{Entry}
-use Rattle.end_model.specs.Deed.{is_empty}
-use Rattle.exchange_model.specs.Ends.{same_end}
-use Rattle.exchange_model.specs.Items.{Item, item_of, items_of, items}
 use Rattle.exchange_model.proofs.Worlds.Projection.{same}
 
 -- the number of an item is one more than the older ones of its end

@@ -1,11 +1,6 @@
 -- The first other entry, and the entries before it.
+use Rattle.exchange_model.proofs.Common.{Entry, IsWorld, MasterSettings, NoOther, SlaveSettings, before_other, first_of_both, first_other, is_other, items}
 use Rattle.std.proofs.Common.{◌≡◌, ℕ, suc, List, [], ◌∷◌, length, Bool, true, false, Option, Some, None, is_some, refl, ap, ◌∙◌, if◌then◌else◌}
-use Rattle.param_load.specs.declared.entry.Entry.{Entry}
-use Rattle.param_load.specs.declared.master_settings.MasterSettings.{MasterSettings}
-use Rattle.param_load.specs.declared.slave_settings.SlaveSettings.{SlaveSettings}
-use Rattle.exchange_model.specs.Schedules.{IsWorld}
-use Rattle.exchange_model.specs.Items.{items}
-use Rattle.exchange_model.specs.Other.{is_other, first_of_both, first_other, NoOther, before_other}
 
 none_of : (first : Option ℕ) → is_some first ≡ false → first ≡ None
 none_of None h = refl

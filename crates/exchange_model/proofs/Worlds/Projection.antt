@@ -1,26 +1,11 @@
 -- Each end of a world runs as it runs alone.
+use Rattle.exchange_model.proofs.Common.{Deed, End, Entry, Event, IsNext, IsNextEntry, IsProper, IsProperEvent, IsReaction, IsRun, IsWorld, MasterSettings, Move, Setup, SlaveSettings, altered_delivery, deed_in, deeds, delivery, end_of_event, entries, entry_at, entry_of, entry_on, frames_of, going_on, move_from, moves, of_end, peer, reacted, run, same_end, setup_of, step, world, world_after}
 use Rattle.std.proofs.Common.{◌≡◌, ℕ, List, [], ◌∷◌, ◌++◌, Bool, true, false, if◌then◌else◌, refl, ap, subst, sym, ◌∙◌, All, Option, Some, None}
 use Rattle.std.proofs.lemmas.List.Elements.{All-head, All-tail}
-use Rattle.fsoe_base.specs.declared.command.End.{End}
 use Rattle.fsoe_base.specs.declared.command.End.TheVariants as end_name
-use Rattle.param_load.specs.declared.entry.Move.{Move}
-use Rattle.param_load.specs.declared.entry.Entry.{Entry}
-use Rattle.param_load.specs.declared.master_settings.MasterSettings.{MasterSettings}
-use Rattle.param_load.specs.declared.slave_settings.SlaveSettings.{SlaveSettings}
 use Rattle.black_channel.specs.Altered.{back_th}
-use Rattle.schedule_file.specs.declared.event.Event.{Event}
 use Rattle.schedule_file.specs.declared.event.Event.TheVariants as event
-use Rattle.end_model.specs.Setup.{Setup}
-use Rattle.end_model.specs.Deed.{Deed}
-use Rattle.end_model.specs.Step.{step, run}
-use Rattle.end_model.specs.Runs.{IsProper, IsNext, IsRun, entries}
-use Rattle.end_model.specs.Reactions.{IsReaction}
-use Rattle.end_model.specs.Entries.{entry_of}
 use Rattle.end_model.proofs.Runs.{run_append}
-use Rattle.end_model.proofs.SoundRuns.{reacted}
-use Rattle.exchange_model.specs.Ends.{same_end, peer, of_end}
-use Rattle.exchange_model.specs.World.{setup_of, deed_in, deeds, frames_of, end_of_event, delivery, altered_delivery, move_from, entry_on, entry_at, going_on, world_after, world}
-use Rattle.exchange_model.specs.Schedules.{moves, IsProperEvent, IsNextEntry, IsWorld}
 
 pub same : (a b : End) → same_end a b ≡ true → b ≡ a
 same end_name.Master end_name.Master h = refl

@@ -1,6 +1,5 @@
+use Rattle.duo_run.proofs.Common.{entries_of, made_master, made_slave}
 use Rattle.std.proofs.Common.{arith}
-use Rattle.schedule_file.specs.Made.{made_master, made_slave}
-use Rattle.duo_run.specs.Bulk.{entries_of}
 use Rattle.duo_run.proofs.Numbers.Summarizing.{none_done, next_fits, has_room, all_done, never_misses, never_err, goes_on}
 use Rattle.duo_run.proofs.bulk.summarize.Goals as goal
 

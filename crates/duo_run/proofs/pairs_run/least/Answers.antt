@@ -1,8 +1,8 @@
+use Rattle.duo_run.proofs.Common.{less_of}
 use Rattle.std.proofs.Common.{ℕ, slice_index_or, sym, ap, ◌∙◌, arith}
 use Rattle.std.specs.Prelude.{None}
 use Rattle.std.specs.declared.option.Option.{Option}
 use Rattle.std.proofs.lemmas.Option.{slice_get-get_or}
-use Rattle.duo_run.specs.Pairs.{less_of}
 use Rattle.duo_run.proofs.Pairs.Least.{least_more}
 use Rattle.duo_run.proofs.pairs_run.least.Goals as goal
 

@@ -1,5 +1,5 @@
+use Rattle.duo_run.proofs.Common.{least}
 use Rattle.std.proofs.Common.{◌≡◌, take}
-use Rattle.duo_run.specs.Pairs.{least}
 use Rattle.duo_run.proofs.pairs_run.least.Given as goal
 
 abbrev pub invariant-loop-number : goal.invariant-loop-number

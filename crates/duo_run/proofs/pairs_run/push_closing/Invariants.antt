@@ -1,5 +1,5 @@
+use Rattle.duo_run.proofs.Common.{closing_lines}
 use Rattle.std.proofs.Common.{◌≡◌, ◌≤◌, ◌*◌, length, take}
-use Rattle.duo_run.specs.PairsReport.{closing_lines}
 use Rattle.duo_run.proofs.pairs_run.push_closing.Given as goal
 
 abbrev pub invariant-loop-i : goal.invariant-loop-i

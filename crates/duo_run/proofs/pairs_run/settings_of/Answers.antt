@@ -1,10 +1,6 @@
+use Rattle.duo_run.proofs.Common.{AreSetTo, IsMasterOf, IsSlaveOf, MasterSettings, SlaveSettings, pairs_of}
 use Rattle.std.proofs.Common.{◌≡◌, ◌<◌, ◌+◌, [], ◌∷◌, ◌++◌, length, take, sym, subst, arith}
 use Rattle.std.proofs.lemmas.Grind.{common_steps}
-use Rattle.param_load.specs.declared.master_settings.MasterSettings.{MasterSettings}
-use Rattle.param_load.specs.declared.slave_settings.SlaveSettings.{SlaveSettings}
-use Rattle.schedule_file.specs.Header.{IsMasterOf, IsSlaveOf}
-use Rattle.schedule_file.specs.PairsHeader.{pairs_of}
-use Rattle.duo_run.specs.Replay.{AreSetTo}
 use Rattle.duo_run.proofs.Pairs.At.{of_named}
 use Rattle.duo_run.proofs.Pairs.Begun.{AreSettings, heading_at, settings_more}
 use Rattle.duo_run.proofs.pairs_run.settings_of.Goals as goal

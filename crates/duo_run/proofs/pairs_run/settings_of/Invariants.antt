@@ -1,5 +1,5 @@
+use Rattle.duo_run.proofs.Common.{pairs_of}
 use Rattle.std.proofs.Common.{◌≡◌, take, vec_len}
-use Rattle.schedule_file.specs.PairsHeader.{pairs_of}
 use Rattle.duo_run.proofs.Pairs.Begun.{AreSettings}
 use Rattle.duo_run.proofs.pairs_run.settings_of.Given as goal
 

@@ -1,5 +1,5 @@
+use Rattle.exchange_model.proofs.Common.{last_answer}
 use Rattle.std.proofs.Common.{◌≡◌, ◌+◌, ◌-◌, take, true, false, sym, ap, ◌∙◌, arith}
-use Rattle.exchange_model.specs.ListMonitor.{last_answer}
 use Rattle.exchange_model.proofs.Monitors.ListNoted.{last_answer_at}
 use Rattle.exchange_model.proofs.list_monitor.last_answer.Goals as goal
 

@@ -1,5 +1,5 @@
+use Rattle.exchange_model.proofs.Common.{last_answer}
 use Rattle.std.proofs.Common.{◌≡◌, ◌≤◌, length, take}
-use Rattle.exchange_model.specs.ListMonitor.{last_answer}
 use Rattle.exchange_model.proofs.list_monitor.last_answer.Given as goal
 
 abbrev pub invariant-loop-left : goal.invariant-loop-left

@@ -1,5 +1,5 @@
+use Rattle.fb_net.proofs.Common.{bits_on, driven_images, with_on}
 use Rattle.std.proofs.Common.{◌≡◌, map, length, fold, drop}
-use Rattle.fb_net.specs.Outputs.{with_on, bits_on, driven_images}
 use Rattle.fb_net.proofs.cycle.drive_outputs.Given as goal
 
 abbrev pub invariant-loop-drive : goal.invariant-loop-drive

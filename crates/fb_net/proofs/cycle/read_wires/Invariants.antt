@@ -1,5 +1,5 @@
+use Rattle.fb_net.proofs.Common.{wire_value}
 use Rattle.std.proofs.Common.{◌≡◌, map, take}
-use Rattle.fb_net.specs.Values.{wire_value}
 use Rattle.fb_net.proofs.cycle.read_wires.Given as goal
 
 abbrev pub invariant-loop-wire : goal.invariant-loop-wire

@@ -1,5 +1,5 @@
+use Rattle.fb_net.proofs.Common.{NetCycle}
 use Rattle.std.proofs.Common.{◌<◌, length, arith}
-use Rattle.fb_net.specs.Values.{NetCycle}
 use Rattle.fb_net.proofs.Running.{ready_at, ready_set, rest_after, value_is, block_is, values_more, blocks_more}
 use Rattle.fb_net.proofs.cycle.run_blocks.Goals as goal
 

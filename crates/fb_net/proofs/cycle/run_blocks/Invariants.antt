@@ -1,6 +1,5 @@
+use Rattle.fb_net.proofs.Common.{AllReady, run_blocks, run_values}
 use Rattle.std.proofs.Common.{◌≡◌, ◌++◌, [], length, take, drop}
-use Rattle.fb_net.specs.Ready.{AllReady}
-use Rattle.fb_net.specs.Steps.{run_values, run_blocks}
 use Rattle.fb_net.proofs.cycle.run_blocks.Given as goal
 
 abbrev pub invariant-loop-i : goal.invariant-loop-i

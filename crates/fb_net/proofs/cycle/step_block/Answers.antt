@@ -1,5 +1,5 @@
+use Rattle.fb_net.proofs.Common.{wire_value}
 use Rattle.std.proofs.Common.{◌≡◌, map}
-use Rattle.fb_net.specs.Values.{wire_value}
 use Rattle.fb_net.proofs.Stepping.{stepped_is, gives_is}
 use Rattle.fb_net.proofs.cycle.step_block.Goals as goal
 

@@ -1,6 +1,5 @@
+use Rattle.fb_net.proofs.Common.{guarded_blocks, guarded_from, plan}
 use Rattle.std.proofs.Common.{◌≡◌, length, drop}
-use Rattle.fb_net.specs.NetView.{plan}
-use Rattle.fb_net.specs.Guarded.{guarded_from, guarded_blocks}
 use Rattle.fb_net.proofs.guards.guarded_blocks.Given as goal
 
 abbrev pub invariant-loop-i : goal.invariant-loop-i

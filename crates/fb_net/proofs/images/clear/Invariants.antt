@@ -1,5 +1,5 @@
+use Rattle.fb_net.proofs.Common.{zero_images}
 use Rattle.std.proofs.Common.{◌≡◌, ◌++◌, map, length, take, drop}
-use Rattle.fb_net.specs.Outputs.{zero_images}
 use Rattle.fb_net.proofs.images.clear.Given as goal
 
 abbrev pub invariant-loop-i : goal.invariant-loop-i

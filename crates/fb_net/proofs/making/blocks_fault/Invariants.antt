@@ -1,5 +1,5 @@
+use Rattle.fb_net.proofs.Common.{blocks_fault}
 use Rattle.std.proofs.Common.{◌≡◌, drop}
-use Rattle.fb_net.specs.Fault.{blocks_fault}
 use Rattle.fb_net.proofs.making.blocks_fault.Given as goal
 
 abbrev pub invariant-loop-i : goal.invariant-loop-i

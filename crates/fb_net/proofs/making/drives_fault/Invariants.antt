@@ -1,5 +1,5 @@
+use Rattle.fb_net.proofs.Common.{drives_fault}
 use Rattle.std.proofs.Common.{◌≡◌, [], take, drop}
-use Rattle.fb_net.specs.Fault.{drives_fault}
 use Rattle.fb_net.proofs.making.drives_fault.Given as goal
 
 abbrev pub invariant-loop-i : goal.invariant-loop-i

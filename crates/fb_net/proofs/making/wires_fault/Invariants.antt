@@ -1,5 +1,5 @@
+use Rattle.fb_net.proofs.Common.{wires_fault}
 use Rattle.std.proofs.Common.{◌≡◌, drop}
-use Rattle.fb_net.specs.Fault.{wires_fault}
 use Rattle.fb_net.proofs.making.wires_fault.Given as goal
 
 abbrev pub invariant-loop-wire : goal.invariant-loop-wire

@@ -1,5 +1,5 @@
+use Rattle.fb_net.proofs.Common.{mirror_images}
 use Rattle.std.proofs.Common.{◌≡◌, ◌++◌, map, length, take, drop}
-use Rattle.fb_net.specs.Mirror.{mirror_images}
 use Rattle.fb_net.proofs.mirror.mirror_all.Given as goal
 
 abbrev pub invariant-loop-i : goal.invariant-loop-i

@@ -1,5 +1,5 @@
+use Rattle.fb_net.proofs.Common.{mirrored}
 use Rattle.std.proofs.Common.{◌≡◌, length}
-use Rattle.fb_net.specs.Mirror.{mirrored}
 use Rattle.fb_net.proofs.mirror.write_over.Given as goal
 
 abbrev pub invariant-loop-i : goal.invariant-loop-i

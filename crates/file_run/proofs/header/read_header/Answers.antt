@@ -1,7 +1,7 @@
+use Rattle.file_run.proofs.Common.{from_line}
 use Rattle.std.proofs.Common.{◌≡◌, ◌+◌, arith, refl, ap, sym, ◌∙◌}
 use Rattle.std.specs.Io.KnownBytes.{prepend_known}
 use Rattle.std.specs.Prelude.{Bool, Err}
-use Rattle.file_run.specs.NextLine.{from_line}
 use Rattle.file_run.proofs.Declined.{blames_since, declines_goes, declines_stalls}
 use Rattle.file_run.proofs.HeaderSeen.{header_none, header_line, header_done, header_halts, heading_as}
 use Rattle.file_run.proofs.Taken.{halts_after, line_taken, took_line, took_none, took_one}

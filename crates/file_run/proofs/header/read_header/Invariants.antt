@@ -1,8 +1,6 @@
+use Rattle.file_run.proofs.Common.{TookLines, from_line, most_lines}
 use Rattle.std.proofs.Common.{◌≡◌, ◌≤◌, ◌+◌}
 use Rattle.std.specs.Io.KnownBytes.{prepend_known}
-use Rattle.file_run.specs.Header.{most_lines}
-use Rattle.file_run.specs.NextLine.{from_line}
-use Rattle.file_run.specs.WholeLines.{TookLines}
 use Rattle.file_run.proofs.HeaderSeen.{HeaderSeen}
 use Rattle.file_run.proofs.header.read_header.Given as goal
 

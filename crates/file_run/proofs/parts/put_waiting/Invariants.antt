@@ -1,6 +1,5 @@
+use Rattle.file_run.proofs.Common.{Keeps, most_waiting}
 use Rattle.std.proofs.Common.{◌≡◌, ◌≤◌, ◌+◌, ◌*◌, length}
-use Rattle.fsoe_io.specs.Sink.{most_waiting}
-use Rattle.file_run.specs.Machine.{Keeps}
 use Rattle.file_run.proofs.Putting.{Putting}
 use Rattle.file_run.proofs.parts.put_waiting.Given as goal
 

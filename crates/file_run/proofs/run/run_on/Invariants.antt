@@ -1,6 +1,5 @@
+use Rattle.file_run.proofs.Common.{Runs, from_line, since}
 use Rattle.std.proofs.Common.{◌-◌}
-use Rattle.file_run.specs.NextLine.{from_line}
-use Rattle.file_run.specs.Running.{Runs, since}
 use Rattle.file_run.proofs.run.run_on.Given as goal
 
 abbrev pub invariant-loop-ended : goal.invariant-loop-ended

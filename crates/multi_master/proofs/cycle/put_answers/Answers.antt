@@ -1,11 +1,9 @@
+use Rattle.multi_master.proofs.Common.{IsNumber, MasterView, PutStep, own_len}
 use Rattle.std.proofs.Common.{◌≡◌, ◌<◌, ◌+◌, ◌++◌, ◌∷◌, [], ℕ, List, Some, length, slice_get, slice_index_or, sym, ap, ◌∙◌, arith, if◌then◌else◌, refl}
 use Rattle.std.proofs.lemmas.Grind.{common_steps}
 use Rattle.std.proofs.lemmas.List.{append-nil}
 use Rattle.std.proofs.lemmas.List.Elements.{All-nil}
 use Rattle.std.proofs.lemmas.Option.{slice_get_read, slice_get-get_or}
-use Rattle.master_core.specs.MasterView.{MasterView}
-use Rattle.multi_master.specs.Puts.{own_len, PutStep}
-use Rattle.multi_master.specs.Standing.{IsNumber}
 use Rattle.multi_master.proofs.Places.{same_at, same_length, map_set}
 use Rattle.multi_master.proofs.Looping.{puts_begun, puts_more, number_told}
 use Rattle.multi_master.proofs.cycle.put_answers.Goals.{then-put_answer, else-put_answer}

@@ -1,6 +1,5 @@
+use Rattle.multi_master.proofs.Common.{IsNumber, own_len}
 use Rattle.std.proofs.Common.{◌≡◌, ◌≤◌, length, map, All}
-use Rattle.multi_master.specs.Puts.{own_len}
-use Rattle.multi_master.specs.Standing.{IsNumber}
 use Rattle.multi_master.proofs.Looping.{PutsSoFar}
 use Rattle.multi_master.proofs.cycle.put_answers.Given as goal
 

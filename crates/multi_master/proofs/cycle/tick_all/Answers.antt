@@ -1,7 +1,6 @@
+use Rattle.multi_master.proofs.Common.{MasterView, TickStep}
 use Rattle.std.proofs.Common.{◌≡◌, ℕ, List, Some, slice_get, slice_index_or, refl, sym, ◌∙◌, arith}
 use Rattle.std.proofs.lemmas.Option.{slice_get-get_or}
-use Rattle.master_core.specs.MasterView.{MasterView}
-use Rattle.multi_master.specs.Puts.{TickStep}
 use Rattle.multi_master.proofs.Places.{set_before}
 use Rattle.multi_master.proofs.Looping.{ticks_more}
 use Rattle.multi_master.proofs.cycle.tick_all.Goals as goal

@@ -1,6 +1,5 @@
+use Rattle.multi_master.proofs.Common.{MasterView, is_due}
 use Rattle.std.proofs.Common.{◌≡◌, ◌≤◌, ℕ, false, slice_get, Some}
-use Rattle.master_core.specs.MasterView.{MasterView}
-use Rattle.master_core.specs.Now.{is_due}
 use Rattle.multi_master.proofs.Looping.{TicksSoFar}
 use Rattle.multi_master.proofs.cycle.tick_all.Given as goal
 

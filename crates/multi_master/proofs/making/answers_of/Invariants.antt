@@ -1,5 +1,5 @@
+use Rattle.multi_master.proofs.Common.{own_len}
 use Rattle.std.proofs.Common.{◌≡◌, map, length, take}
-use Rattle.multi_master.specs.Puts.{own_len}
 use Rattle.multi_master.proofs.making.answers_of.Given as goal
 
 abbrev pub invariant-loop-i : goal.invariant-loop-i

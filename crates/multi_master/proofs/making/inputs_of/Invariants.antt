@@ -1,5 +1,5 @@
+use Rattle.multi_master.proofs.Common.{first_input}
 use Rattle.std.proofs.Common.{◌≡◌, map, take}
-use Rattle.multi_master.specs.Puts.{first_input}
 use Rattle.multi_master.proofs.making.inputs_of.Given as goal
 
 abbrev pub invariant-loop-i : goal.invariant-loop-i

@@ -1,9 +1,8 @@
+use Rattle.multi_master.proofs.Common.{IsNewMaster, MasterView}
 use Rattle.std.proofs.Common.{◌≡◌, List, [], ◌∷◌, ◌++◌, sym, subst, arith}
 use Rattle.std.specs.List.{AllZip}
 use Rattle.std.proofs.lemmas.Grind.{common_steps}
 use Rattle.std.proofs.lemmas.Slice.Zip.{all_zipped_more}
-use Rattle.master_core.specs.MasterView.{MasterView}
-use Rattle.multi_master.specs.New.{IsNewMaster}
 use Rattle.multi_master.proofs.making.masters_of.Goals as goal
 
 pub loop-own-preserved : goal.loop-own-preserved

@@ -1,5 +1,5 @@
+use Rattle.plant_core.proofs.Common.{is_named}
 use Rattle.std.proofs.Common.{◌≡◌, drop}
-use Rattle.plant_core.specs.Making.{is_named}
 use Rattle.plant_core.proofs.making.is_named.Given as goal
 
 abbrev pub invariant-loop-bound : goal.invariant-loop-bound

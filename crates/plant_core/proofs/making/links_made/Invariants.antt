@@ -1,5 +1,5 @@
+use Rattle.plant_core.proofs.Common.{links_made}
 use Rattle.std.proofs.Common.{◌≡◌, take}
-use Rattle.plant_core.specs.Making.{links_made}
 use Rattle.plant_core.proofs.making.links_made.Given as goal
 
 abbrev pub invariant-loop-i : goal.invariant-loop-i

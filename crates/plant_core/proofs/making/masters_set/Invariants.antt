@@ -1,5 +1,5 @@
+use Rattle.plant_core.proofs.Common.{master_in}
 use Rattle.std.proofs.Common.{◌≡◌, map, take}
-use Rattle.plant_core.specs.Making.{master_in}
 use Rattle.plant_core.proofs.making.masters_set.Given as goal
 
 abbrev pub invariant-loop-i : goal.invariant-loop-i

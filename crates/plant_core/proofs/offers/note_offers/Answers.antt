@@ -1,8 +1,6 @@
+use Rattle.plant_core.proofs.Common.{IsNumber, LinkView, all_at, links}
 use Rattle.std.proofs.Common.{◌≡◌, ◌≤◌, ◌+◌, ◌-◌, ◌*◌, ℕ, List, Some, vec_len, slice_get, slice_index_or, slice_index, ◌∙◌, arith}
 use Rattle.std.proofs.lemmas.Option.{slice_get-get_or}
-use Rattle.plant_core.specs.Link.{LinkView}
-use Rattle.multi_master.specs.Standing.{IsNumber, links}
-use Rattle.multi_master.proofs.Places.{all_at}
 use Rattle.plant_core.proofs.Acting.{noted_set, noted_less, fixed_set}
 use Rattle.plant_core.proofs.Offering.{offers_all, offers_next}
 use Rattle.plant_core.proofs.offers.note_offers.Goals as goal

@@ -1,6 +1,5 @@
+use Rattle.plant_core.proofs.Common.{AreNoted, fixed_in, seen}
 use Rattle.std.proofs.Common.{◌≡◌, ◌≤◌, ◌+◌, ◌*◌, take, vec_len, vec_capacity}
-use Rattle.multi_master.specs.Standing.{seen}
-use Rattle.plant_core.specs.Standing.{AreNoted, fixed_in}
 use Rattle.plant_core.proofs.Offering.{OffersOf}
 use Rattle.plant_core.proofs.offers.note_offers.Given as goal
 

@@ -1,5 +1,5 @@
+use Rattle.plant_core.proofs.Common.{lowest_other}
 use Rattle.std.proofs.Common.{◌+◌, drop}
-use Rattle.plant_model.specs.Pair.{lowest_other}
 use Rattle.plant_core.proofs.Others.{met, left_at, goes_on, none_left}
 use Rattle.plant_core.proofs.plant.lowest_other.Goals as goal
 

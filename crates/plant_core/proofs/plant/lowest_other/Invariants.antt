@@ -1,8 +1,5 @@
+use Rattle.plant_core.proofs.Common.{AllNoted, JournalStep, LinkConf, lowest_other}
 use Rattle.std.proofs.Common.{◌+◌, List, drop}
-use Rattle.plant_conf.specs.declared.conf.LinkConf.{LinkConf}
-use Rattle.plant_model.specs.declared.journal.JournalStep.{JournalStep}
-use Rattle.plant_model.specs.Pair.{lowest_other}
-use Rattle.plant_core.specs.Standing.{AllNoted}
 use Rattle.plant_core.proofs.Others.{Left}
 use Rattle.plant_core.proofs.plant.lowest_other.Given as goal
 

@@ -1,9 +1,6 @@
+use Rattle.plant_core.proofs.Common.{ActedTo, AreNoted, Entry, HaveParts, LinkConf, LinksAre, fixed_in}
 use Rattle.std.proofs.Common.{◌≡◌, ℕ, List, Bool}
 use Rattle.fsoe_base.specs.declared.command.End.TheVariants as side
-use Rattle.param_load.specs.declared.entry.Entry.{Entry}
-use Rattle.plant_conf.specs.declared.conf.LinkConf.{LinkConf}
-use Rattle.plant_core.specs.Doing.{HaveParts, ActedTo}
-use Rattle.plant_core.specs.Standing.{AreNoted, LinksAre, fixed_in}
 use Rattle.plant_core.proofs.Acting.{NotedTo}
 use Rattle.plant_core.proofs.pushing.masters_ticked.Given as goal
 

@@ -1,11 +1,7 @@
+use Rattle.plant_core.proofs.Common.{ActedTo, AreNoted, Entry, LinkConf, LinksAre, fixed_in, next_of}
 use Rattle.std.proofs.Common.{◌≡◌, ℕ, List, Bool}
 use Rattle.fsoe_base.specs.declared.command.End.TheVariants as side
-use Rattle.param_load.specs.declared.entry.Entry.{Entry}
 use Rattle.param_load.specs.declared.entry.Move.TheVariants as move
-use Rattle.plant_conf.specs.declared.conf.LinkConf.{LinkConf}
-use Rattle.plant_model.specs.Pair.{next_of}
-use Rattle.plant_core.specs.Doing.{ActedTo}
-use Rattle.plant_core.specs.Standing.{AreNoted, LinksAre, fixed_in}
 use Rattle.plant_core.proofs.Acting.{NotedTo}
 use Rattle.plant_core.proofs.pushing.tick_slaves.Given as goal
 

@@ -1,9 +1,7 @@
+use Rattle.plant_run.proofs.Common.{BoundSpec, HasRoom, ReactionView}
 use Rattle.std.proofs.Common.{◌≡◌, ℕ, Some, slice_get, slice_index_or, refl, sym, ◌∙◌, arith}
 use Rattle.std.proofs.lemmas.Option.{slice_get-get_or}
-use Rattle.plant_conf.specs.declared.conf.BoundSpec.{BoundSpec}
-use Rattle.reaction_bound.specs.Kept.{ReactionView}
 use Rattle.multi_master.proofs.Places.{all_at}
-use Rattle.plant_run.specs.Watching.{HasRoom}
 use Rattle.plant_run.proofs.Watched.{heard_all, heard_more}
 use Rattle.plant_run.proofs.watching.hear_each.Goals as goal
 

@@ -1,4 +1,4 @@
-use Rattle.plant_core.specs.Standing.{seen}
+use Rattle.plant_run.proofs.Common.{seen}
 use Rattle.plant_run.proofs.Watched.{HeardTo}
 use Rattle.plant_run.proofs.watching.hear_each.Given as goal
 

@@ -1,5 +1,5 @@
+use Rattle.plant_run.proofs.Common.{reactions_by}
 use Rattle.std.proofs.Common.{◌≡◌, [], take}
-use Rattle.plant_run.specs.Watching.{reactions_by}
 use Rattle.plant_run.proofs.watching.reactions_made.Given as goal
 
 abbrev pub invariant-loop-i : goal.invariant-loop-i

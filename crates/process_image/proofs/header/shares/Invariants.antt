@@ -1,7 +1,6 @@
+use Rattle.process_image.proofs.Common.{heading_spans, overlap}
 use Rattle.std.proofs.Common.{◌≡◌, drop}
 use Rattle.std.specs.List.{list_any}
-use Rattle.process_image.specs.Header.{heading_spans}
-use Rattle.process_image.specs.Places.{overlap}
 use Rattle.process_image.proofs.header.shares.Given as goal
 
 abbrev pub invariant-loop-slot : goal.invariant-loop-slot

@@ -1,6 +1,5 @@
+use Rattle.process_image.proofs.Common.{WaitingText, encode_lower}
 use Rattle.std.proofs.Common.{◌≡◌, ◌-◌, ◌++◌, ℕ, List, length, take, drop, length-take, length-drop, refl, ap, ◌∙◌, arith}
-use Rattle.hex.specs.Hex.{encode_lower}
-use Rattle.file_run.specs.Waiting.{WaitingText}
 use Rattle.process_image.proofs.ImageText.{piece_first, piece_more, piece_room}
 use Rattle.process_image.proofs.run.push_image.Goals as goal
 

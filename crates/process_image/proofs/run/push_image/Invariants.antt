@@ -1,5 +1,5 @@
+use Rattle.process_image.proofs.Common.{encode_lower}
 use Rattle.std.proofs.Common.{◌≡◌, ◌≤◌, ◌-◌, ◌++◌, length, take}
-use Rattle.hex.specs.Hex.{encode_lower}
 use Rattle.process_image.proofs.run.push_image.Given as goal
 
 abbrev pub invariant-loop-at : goal.invariant-loop-at

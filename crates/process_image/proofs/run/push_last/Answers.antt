@@ -1,7 +1,6 @@
+use Rattle.process_image.proofs.Common.{WaitingText, encode_lower, lower_digits}
 use Rattle.std.proofs.Common.{codes, length, length-append, ap, arith}
-use Rattle.hex.specs.Hex.{encode_lower, lower_digits}
 use Rattle.hex.proofs.HexLemmas.{length-encode_with}
-use Rattle.file_run.specs.Waiting.{WaitingText}
 use Rattle.process_image.proofs.run.push_last.Goals as goal
 
 pub push-requires-2 : goal.push-requires-2

@@ -1,7 +1,5 @@
+use Rattle.process_image.proofs.Common.{IsSampleStep, IsSoundSeat, Seat, told_by}
 use Rattle.std.proofs.Common.{◌≡◌, ◌≤◌, ℕ, length, slice_get, Some}
-use Rattle.process_image.specs.Sound.{IsSoundSeat}
-use Rattle.process_image.specs.Steps.{IsSampleStep, told_by}
-use Rattle.process_image.specs.declared.seat.Seat.{Seat}
 use Rattle.process_image.proofs.Looping.{DoneSoFar}
 use Rattle.process_image.proofs.seat.sample_all.Given as goal
 

@@ -1,8 +1,6 @@
+use Rattle.process_image.proofs.Common.{IsTickStep, MaySend, Seat, did_in}
 use Rattle.std.proofs.Common.{◌≡◌, ℕ, Some, length, slice_get, slice_index_or, refl, sym, subst, ◌∙◌, arith}
 use Rattle.std.proofs.lemmas.Option.{slice_get-get_or}
-use Rattle.process_image.specs.Sound.{MaySend}
-use Rattle.process_image.specs.Steps.{IsTickStep, did_in}
-use Rattle.process_image.specs.declared.seat.Seat.{Seat}
 use Rattle.process_image.proofs.Looping.{does_begun, does_more, does_size, some_at, set_before}
 use Rattle.process_image.proofs.Seats.{did_alone}
 use Rattle.process_image.proofs.Zips.{all_at}

@@ -1,7 +1,5 @@
+use Rattle.process_image.proofs.Common.{IsTickStep, MaySend, Seat, did_in}
 use Rattle.std.proofs.Common.{◌≡◌, ◌≤◌, ℕ, length, slice_get, Some}
-use Rattle.process_image.specs.Sound.{MaySend}
-use Rattle.process_image.specs.Steps.{IsTickStep, did_in}
-use Rattle.process_image.specs.declared.seat.Seat.{Seat}
 use Rattle.process_image.proofs.Looping.{DoneSoFar}
 use Rattle.process_image.proofs.seat.tick_all.Given as goal
 

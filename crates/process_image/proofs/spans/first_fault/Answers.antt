@@ -1,5 +1,5 @@
+use Rattle.process_image.proofs.Common.{first_pair, outside_or, places_from}
 use Rattle.std.proofs.Common.{ℕ, Option, sym, ap, ◌∙◌, arith}
-use Rattle.process_image.specs.Fault.{first_pair, outside_or, places_from}
 use Rattle.process_image.proofs.Faults.{too_many, tested}
 use Rattle.process_image.proofs.spans.first_fault.Goals as goal
 

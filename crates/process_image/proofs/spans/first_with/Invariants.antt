@@ -1,5 +1,5 @@
+use Rattle.process_image.proofs.Common.{first_with, places_from}
 use Rattle.std.proofs.Common.{◌≡◌, ◌+◌, drop}
-use Rattle.process_image.specs.Fault.{first_with, places_from}
 use Rattle.process_image.proofs.spans.first_with.Given as goal
 
 abbrev pub invariant-loop-i : goal.invariant-loop-i

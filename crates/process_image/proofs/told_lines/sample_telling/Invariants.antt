@@ -1,7 +1,5 @@
+use Rattle.process_image.proofs.Common.{IsSampleStep, IsSoundSeat, Seat}
 use Rattle.std.proofs.Common.{◌≡◌, ◌≤◌, ◌*◌, ◌++◌, ℕ, [], length, slice_get, Some}
-use Rattle.process_image.specs.Sound.{IsSoundSeat}
-use Rattle.process_image.specs.Steps.{IsSampleStep}
-use Rattle.process_image.specs.declared.seat.Seat.{Seat}
 use Rattle.process_image.proofs.Looping.{ToldSoFar}
 use Rattle.process_image.proofs.told_lines.sample_telling.Given as goal
 

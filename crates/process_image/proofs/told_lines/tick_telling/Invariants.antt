@@ -1,7 +1,5 @@
+use Rattle.process_image.proofs.Common.{IsTickStep, MaySend, Seat}
 use Rattle.std.proofs.Common.{◌≡◌, ◌≤◌, ◌*◌, ◌++◌, ℕ, [], length, slice_get, Some}
-use Rattle.process_image.specs.Sound.{MaySend}
-use Rattle.process_image.specs.Steps.{IsTickStep}
-use Rattle.process_image.specs.declared.seat.Seat.{Seat}
 use Rattle.process_image.proofs.Looping.{ToldSoFar}
 use Rattle.process_image.proofs.told_lines.tick_telling.Given as goal
 

@@ -1,7 +1,5 @@
+use Rattle.schedule_file.proofs.Common.{Ranges, is_acceptable, ranges_with}
 use Rattle.std.proofs.Common.{◌≡◌, ◌+◌, ◌*◌, ◌≤◌, length, drop, IsTrue}
-use Rattle.param_load.specs.AppRule.{is_acceptable}
-use Rattle.param_load.specs.declared.app_rule.AppRule.TheVariants.{Ranges}
-use Rattle.schedule_file.specs.HeaderPart.{ranges_with}
 use Rattle.schedule_file.proofs.header_part.append_pairs.Given as goal
 
 abbrev pub invariant-loop-k : goal.invariant-loop-k

@@ -1,6 +1,6 @@
+use Rattle.schedule_file.proofs.Common.{bytes_said}
 use Rattle.std.proofs.Common.{◌≡◌, ◌/◌, ℕ, List, length, subst, sym, take, inl, inr, arith}
 use Rattle.std.specs.Prelude.{Some}
-use Rattle.schedule_file.specs.Field.{bytes_said}
 use Rattle.schedule_file.proofs.HexDigits.{odd_count, other_count, one_read, all_read}
 use Rattle.schedule_file.proofs.hex_digits.read_hex.Goals as goal
 use Rattle.schedule_file.proofs.hex_digits.read_hex.Goals.{then-count-eq0-via-then-count-eq0, then-count-eq0-via-else-count-eq0+then-count-out, then-count-eq0-via-else-count-eq0+else-count-out+then-text-ne0}

@@ -1,4 +1,4 @@
-use Rattle.schedule_file.specs.Event.{profile_of}
+use Rattle.schedule_file.proofs.Common.{profile_of}
 use Rattle.schedule_file.proofs.pair_event.read_step.Goals as goal
 
 pub returns-in-Altered-clause-fits : goal.returns-in-Altered-clause-fits

@@ -1,7 +1,5 @@
-use Rattle.fsoe_base.specs.LengthsOf.{length_of}
+use Rattle.schedule_file.proofs.Common.{fields_after, length_of, profile_of}
 use Rattle.std.proofs.Common.{map}
-use Rattle.schedule_file.specs.Event.{profile_of}
-use Rattle.schedule_file.specs.FieldsRead.{fields_after}
 use Rattle.schedule_file.proofs.Pairs.{so_fits}
 use Rattle.schedule_file.proofs.pairs_event.read_pairs_event_into.Goals as goal
 

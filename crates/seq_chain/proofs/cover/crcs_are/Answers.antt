@@ -1,5 +1,5 @@
+use Rattle.seq_chain.proofs.Common.{common}
 use Rattle.std.proofs.Common.{arith}
-use Rattle.seq_chain.specs.Cover.{common}
 use Rattle.seq_chain.proofs.NextGroup.{next_compared}
 use Rattle.seq_chain.proofs.cover.crcs_are.Goals as goal
 

@@ -1,7 +1,6 @@
+use Rattle.seq_chain.proofs.Common.{crcs, crcs_from, groups}
 use Rattle.std.proofs.Common.{◌≡◌, ℕ, ◌*◌, nat_eq, drop}
 use Rattle.std.specs.Cmp.Lexicographic.{pointwise}
-use Rattle.fsoe_frame.specs.Layout.{groups}
-use Rattle.seq_chain.specs.Cover.{crcs_from, crcs}
 use Rattle.seq_chain.specs.Numbered.{IsNumbered}
 use Rattle.seq_chain.proofs.cover.crcs_are.Given as goal
 

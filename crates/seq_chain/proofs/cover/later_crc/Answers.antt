@@ -1,6 +1,5 @@
+use Rattle.seq_chain.proofs.Common.{place, rem}
 use Rattle.std.proofs.Common.{ℕ, ap, ◌∙◌, ◌++◌, bit_xor, replicate}
-use Rattle.fsoe_crc.specs.Remainder.{rem}
-use Rattle.seq_chain.specs.Cover.{place}
 use Rattle.seq_chain.proofs.PartsOfCover.{rem-three_parts}
 use Rattle.seq_chain.proofs.cover.later_crc.Goals as goal
 

@@ -1,5 +1,5 @@
+use Rattle.seq_chain.proofs.Common.{common}
 use Rattle.std.proofs.Common.{◌∷◌, [], sym, arith, append_assoc}
-use Rattle.seq_chain.specs.Cover.{common}
 use Rattle.seq_chain.proofs.NextGroup.{first_crc, next_crc}
 use Rattle.seq_chain.proofs.cover.write_frame.Goals as goal
 

@@ -1,6 +1,6 @@
+use Rattle.seq_chain.proofs.Common.{Frame}
 use Rattle.std.proofs.Common.{length, refl, ap, ◌∙◌}
 use Rattle.fsoe_frame.proofs.Places.{whole}
-use Rattle.fsoe_frame.specs.Parts.{Frame}
 use Rattle.seq_chain.specs.SessionFrame.{SessionFrameView}
 use Rattle.seq_chain.proofs.opened.open.Goals as goal
 

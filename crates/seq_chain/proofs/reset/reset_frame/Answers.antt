@@ -1,6 +1,6 @@
+use Rattle.seq_chain.proofs.Common.{layout}
 use Rattle.std.proofs.Common.{◌≡◌, ◌≤◌, ◌∷◌, ℕ, zero, suc, List, take, replicate, ap, refl, arith}
 use Rattle.std.proofs.lemmas.List.{take-replicate}
-use Rattle.fsoe_frame.specs.Layout.{layout}
 use Rattle.seq_chain.specs.Reset.{reset_load, reset_crcs}
 use Rattle.seq_chain.proofs.reset.reset_frame.Goals as goal
 

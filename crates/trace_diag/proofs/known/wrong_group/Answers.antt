@@ -1,6 +1,6 @@
+use Rattle.trace_diag.proofs.Common.{bytes_of}
 use Rattle.std.proofs.Common.{◌≡◌, sym, ◌∙◌}
 use Rattle.std.specs.Cmp.Lexicographic.{bytes_decides}
-use Rattle.fsoe_frame.specs.Parts.{bytes_of}
 use Rattle.trace_diag.proofs.DueMade.{same_groups}
 use Rattle.trace_diag.proofs.known.wrong_group.Goals as goal
 

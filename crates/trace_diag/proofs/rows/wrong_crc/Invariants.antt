@@ -1,5 +1,5 @@
+use Rattle.trace_diag.proofs.Common.{first_differing}
 use Rattle.std.proofs.Common.{◌≡◌, drop}
-use Rattle.trace_diag.specs.Table.{first_differing}
 use Rattle.trace_diag.proofs.rows.wrong_crc.Given as goal
 
 -- the CRCs so far are the same

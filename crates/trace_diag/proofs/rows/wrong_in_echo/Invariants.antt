@@ -1,6 +1,5 @@
+use Rattle.trace_diag.proofs.Common.{first_differing, padded}
 use Rattle.std.proofs.Common.{◌≡◌, drop, length}
-use Rattle.param_load.specs.Payload.{padded}
-use Rattle.trace_diag.specs.Table.{first_differing}
 use Rattle.trace_diag.proofs.rows.wrong_in_echo.Given as goal
 
 -- the bytes so far are the same

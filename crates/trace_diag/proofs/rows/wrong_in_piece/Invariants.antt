@@ -1,5 +1,5 @@
+use Rattle.trace_diag.proofs.Common.{first_failing, payload_holds, piece_holds}
 use Rattle.std.proofs.Common.{◌≡◌, drop}
-use Rattle.trace_diag.specs.Table.{first_failing, payload_holds, piece_holds}
 use Rattle.trace_diag.proofs.rows.wrong_in_piece.Given as goal
 
 -- the bytes so far hold

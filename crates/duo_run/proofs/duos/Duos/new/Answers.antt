@@ -1,10 +1,8 @@
+use Rattle.duo_run.proofs.Common.{DuoStands, DuoView, MasterSettings, SlaveSettings}
 use Rattle.std.proofs.Common.{◌≡◌, List, [], ◌∷◌, ◌++◌, sym, subst, arith}
 use Rattle.std.specs.List.{AllZip}
 use Rattle.std.proofs.lemmas.Grind.{common_steps}
 use Rattle.std.proofs.lemmas.Slice.Zip.{all_zipped_more}
-use Rattle.param_load.specs.declared.master_settings.MasterSettings.{MasterSettings}
-use Rattle.param_load.specs.declared.slave_settings.SlaveSettings.{SlaveSettings}
-use Rattle.duo_run.specs.Duo.{DuoStands, DuoView}
 use Rattle.duo_run.proofs.duos.Duos.new.Goals as goal
 
 pub loop-master-preserved : goal.loop-master-preserved

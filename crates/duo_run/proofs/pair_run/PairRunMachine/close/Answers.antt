@@ -1,5 +1,5 @@
+use Rattle.duo_run.proofs.Common.{replay_reporting}
 use Rattle.file_run.proofs.OnePart.{ends_one}
-use Rattle.duo_run.specs.Replay.{replay_reporting}
 use Rattle.duo_run.proofs.Pair.Replaying.{pair_ends, pair_ends_whole}
 use Rattle.duo_run.proofs.pair_run.PairRunMachine.close.Goals as goal
 

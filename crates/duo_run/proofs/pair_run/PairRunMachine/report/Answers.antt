@@ -1,7 +1,7 @@
+use Rattle.duo_run.proofs.Common.{DuoView, ReplayStands}
 use Rattle.std.proofs.Common.{subst, sym}
 use Rattle.std.proofs.lemmas.Result.{on_err_weaker, on_ok_weaker}
 use Rattle.file_run.proofs.OnePart.{takes_one}
-use Rattle.duo_run.specs.Duo.{DuoView, ReplayStands}
 use Rattle.duo_run.proofs.pair_run.PairRunMachine.report.Goals as goal
 
 pub returns-clause-takes_event : goal.returns-clause-takes_event

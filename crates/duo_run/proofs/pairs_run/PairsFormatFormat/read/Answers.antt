@@ -1,12 +1,7 @@
+use Rattle.duo_run.proofs.Common.{Lengths, LineCause, Profiles, length_of, pairs_line, profile_of}
 use Rattle.std.proofs.Common.{◌≡◌, List, map, sym, ap, ◌∙◌}
 use Rattle.std.specs.Prelude.{Ok, Err, Result}
-use Rattle.fsoe_base.specs.LengthsOf.{length_of}
-use Rattle.fsoe_base.specs.declared.lengths.Lengths.{Lengths}
-use Rattle.param_load.specs.declared.profile.Profiles.{Profiles}
-use Rattle.schedule_file.specs.Event.{profile_of}
 use Rattle.schedule_file.specs.FieldsRead.{Becomes}
-use Rattle.schedule_file.specs.PairsEvent.{pairs_line}
-use Rattle.schedule_file.specs.declared.line_cause.LineCause.{LineCause}
 use Rattle.file_run.specs.Event.{what_says}
 use Rattle.duo_run.proofs.pairs_run.PairsFormatFormat.read.Goals as goal
 

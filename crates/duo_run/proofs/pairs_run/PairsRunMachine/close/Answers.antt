@@ -1,5 +1,5 @@
+use Rattle.duo_run.proofs.Common.{least}
 use Rattle.std.proofs.Common.{ap, ◌∙◌}
-use Rattle.duo_run.specs.Pairs.{least}
 use Rattle.duo_run.proofs.Pairs.Ending.{pairs_end_whole}
 use Rattle.duo_run.proofs.pairs_run.PairsRunMachine.close.Goals as goal
 

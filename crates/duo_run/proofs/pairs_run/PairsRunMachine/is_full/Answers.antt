@@ -1,5 +1,5 @@
+use Rattle.duo_run.proofs.Common.{pairs_of}
 use Rattle.std.proofs.Common.{arith, length}
-use Rattle.schedule_file.specs.PairsHeader.{pairs_of}
 use Rattle.duo_run.proofs.Pairs.Least.{room_for_one}
 use Rattle.duo_run.proofs.pairs_run.PairsRunMachine.is_full.Goals as goal
 

@@ -1,5 +1,5 @@
+use Rattle.fb_net.proofs.Common.{first_fault}
 use Rattle.std.proofs.Common.{◌≡◌, None, arith}
-use Rattle.fb_net.specs.Fault.{first_fault}
 use Rattle.fb_net.proofs.Faults.{ready_by, stands_new}
 use Rattle.fb_net.proofs.net.Net.new.Goals as goal
 

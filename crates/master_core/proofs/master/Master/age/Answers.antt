@@ -1,5 +1,5 @@
+use Rattle.master_core.proofs.Common.{MasterView}
 use Rattle.std.proofs.Common.{ap, ◌∙◌}
-use Rattle.master_core.specs.MasterView.{MasterView}
 use Rattle.master_core.proofs.ShownDue.{age_zero}
 use Rattle.master_core.proofs.master.Master.age.Goals as goal
 

@@ -1,9 +1,6 @@
+use Rattle.master_core.proofs.Common.{Exchange, Phase, connection_download, first_data, parameter_download, with_download}
 use Rattle.std.proofs.Common.{refl, ap, ◌∙◌, Ok}
-use Rattle.master_core.specs.declared.phase.Phase.{Phase}
 use Rattle.master_core.specs.declared.phase.Phase.TheVariants as phase
-use Rattle.master_core.specs.declared.states.Exchange.{Exchange}
-use Rattle.master_core.specs.Kit.{connection_download, parameter_download}
-use Rattle.master_core.specs.States.{with_download, first_data}
 use Rattle.master_core.proofs.Taken.{phase_over}
 use Rattle.master_core.proofs.phase.Phase.shake_hands.Goals as goal
 

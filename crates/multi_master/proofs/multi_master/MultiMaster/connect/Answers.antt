@@ -1,7 +1,5 @@
+use Rattle.multi_master.proofs.Common.{MasterView, first_fault, first_input, own_len}
 use Rattle.std.proofs.Common.{◌≡◌, List, map, None, refl, sym, ap, ◌∙◌}
-use Rattle.master_core.specs.MasterView.{MasterView}
-use Rattle.multi_master.specs.New.{first_fault}
-use Rattle.multi_master.specs.Puts.{own_len, first_input}
 use Rattle.multi_master.proofs.Beginning.{new_settings, new_multi, new_stands}
 use Rattle.multi_master.proofs.multi_master.MultiMaster.connect.Goals as goal
 

@@ -1,12 +1,7 @@
+use Rattle.multi_master.proofs.Common.{MasterView, MultiView, ShowsDue, due_in, is_due, out, own_len, seen, settings_in}
 use Rattle.std.proofs.Common.{◌≡◌, ◌≤◌, ◌<◌, ◌++◌, ◌-◌, ℕ, suc, List, Some, true, false, map, length, take, drop, slice_get, slice_set, refl, sym, ap, subst, ◌∙◌, arith}
 use Rattle.std.proofs.Math.ListN.{length-set}
 use Rattle.std.proofs.lemmas.Option.{slice_get_read}
-use Rattle.end_model.specs.Outputs.{out}
-use Rattle.master_core.specs.MasterView.{MasterView}
-use Rattle.master_core.specs.Now.{is_due}
-use Rattle.master_core.specs.Waiting.{ShowsDue}
-use Rattle.multi_master.specs.Puts.{own_len, due_in}
-use Rattle.multi_master.specs.Standing.{MultiView, seen, settings_in}
 use Rattle.multi_master.proofs.Delivering.{Drops, Hears, drop_follows, drop_answers, hear_follows, hear_answers}
 use Rattle.multi_master.proofs.Following.{runs_alike}
 use Rattle.multi_master.proofs.Keeping.{multi_set, one_rest, written_back}

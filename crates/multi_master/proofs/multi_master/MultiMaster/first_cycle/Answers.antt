@@ -1,5 +1,5 @@
+use Rattle.multi_master.proofs.Common.{MasterView}
 use Rattle.std.proofs.Common.{List, refl, sym, ◌∙◌, arith}
-use Rattle.master_core.specs.MasterView.{MasterView}
 use Rattle.multi_master.proofs.Following.{runs_alike, change_follows}
 use Rattle.multi_master.proofs.Keeping.{written_back, all_rest}
 use Rattle.multi_master.proofs.multi_master.MultiMaster.first_cycle.Goals as goal

@@ -1,7 +1,7 @@
+use Rattle.multi_master.proofs.Common.{settings_in}
 use Rattle.std.proofs.Common.{ℕ, refl, subst}
 use Rattle.param_load.specs.declared.entry.Move.TheVariants as move
 use Rattle.master_core.specs.Standing as core
-use Rattle.multi_master.specs.Standing.{settings_in}
 use Rattle.multi_master.proofs.Keeping.{multi_set}
 use Rattle.multi_master.proofs.Places.{map_set, master_placed}
 use Rattle.multi_master.proofs.Reading.{nonce_follows}

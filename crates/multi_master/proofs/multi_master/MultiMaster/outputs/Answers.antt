@@ -1,4 +1,4 @@
-use Rattle.end_model.specs.Outputs.{out}
+use Rattle.multi_master.proofs.Common.{out}
 use Rattle.multi_master.proofs.Places.{master_placed}
 use Rattle.multi_master.proofs.Reading.{shown_at}
 use Rattle.multi_master.proofs.multi_master.MultiMaster.outputs.Goals as goal

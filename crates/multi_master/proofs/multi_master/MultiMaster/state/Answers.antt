@@ -1,4 +1,4 @@
-use Rattle.end_model.specs.Readiness.{state_of}
+use Rattle.multi_master.proofs.Common.{state_of}
 use Rattle.multi_master.proofs.Places.{master_placed}
 use Rattle.multi_master.proofs.Reading.{shown_at}
 use Rattle.multi_master.proofs.multi_master.MultiMaster.state.Goals as goal

@@ -1,4 +1,4 @@
-use Rattle.end_model.specs.Readiness.{told_terms}
+use Rattle.multi_master.proofs.Common.{told_terms}
 use Rattle.multi_master.proofs.Places.{master_placed}
 use Rattle.multi_master.proofs.Reading.{shown_at}
 use Rattle.multi_master.proofs.multi_master.MultiMaster.terms.Goals as goal

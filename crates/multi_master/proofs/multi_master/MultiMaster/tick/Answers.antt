@@ -1,6 +1,5 @@
+use Rattle.multi_master.proofs.Common.{due_in, own_len, settings_in}
 use Rattle.std.proofs.Common.{◌≡◌, map, length, refl, sym, ap, ◌∙◌, arith}
-use Rattle.multi_master.specs.Puts.{own_len, due_in}
-use Rattle.multi_master.specs.Standing.{settings_in}
 use Rattle.multi_master.proofs.Following.{runs_alike, ticks_alike, tick_follows, tick_answers}
 use Rattle.multi_master.proofs.Keeping.{written_back, all_rest, same_lens, ticks_settings, ticks_rest}
 use Rattle.multi_master.proofs.multi_master.MultiMaster.tick.Goals as goal

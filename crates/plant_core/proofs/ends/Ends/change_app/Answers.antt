@@ -1,6 +1,5 @@
+use Rattle.plant_core.proofs.Common.{fixed_in, written_back}
 use Rattle.std.proofs.Common.{◌≡◌, length, ap, ◌∙◌}
-use Rattle.multi_master.proofs.Keeping.{written_back}
-use Rattle.plant_core.specs.Standing.{fixed_in}
 use Rattle.plant_core.proofs.Acting.{same_count}
 use Rattle.plant_core.proofs.Cycling.{app_goes}
 use Rattle.plant_core.proofs.ends.Ends.change_app.Goals as goal

@@ -1,6 +1,5 @@
+use Rattle.plant_core.proofs.Common.{fixed_of, placed}
 use Rattle.std.proofs.Common.{◌-◌, refl, ap}
-use Rattle.plant_core.specs.Link.{fixed_of}
-use Rattle.multi_master.proofs.Places.{placed}
 use Rattle.plant_core.proofs.Acting.{fixed_set}
 use Rattle.plant_core.proofs.OneDeed.{cut_event}
 use Rattle.plant_core.proofs.ends.Ends.cut.Goals as goal

@@ -1,5 +1,5 @@
+use Rattle.plant_core.proofs.Common.{Parcel}
 use Rattle.std.proofs.Common.{◌≡◌, ◌<◌, ◌⊎◌, inl, inr, length, refl, arith}
-use Rattle.black_channel.specs.declared.channel.Parcel.{Parcel}
 use Rattle.plant_core.proofs.Pulling.{nowhere_delivered}
 use Rattle.plant_core.proofs.ends.Ends.deliver.Goals.{then-to-eq0-via-then-to-eq0, then-to-eq0-via-else-to-eq0+then-from-len}
 use Rattle.plant_core.proofs.ends.Ends.deliver.Goals as goal

@@ -1,8 +1,5 @@
+use Rattle.plant_core.proofs.Common.{LinkView, all_at, fixed_in, placed, written_back}
 use Rattle.std.proofs.Common.{◌≡◌, ◌≤◌, ◌-◌, ◌*◌, ℕ, List, length, option_copied, vec_len, slice_set, refl, sym, ap, ◌∙◌, arith}
-use Rattle.plant_core.specs.Link.{LinkView}
-use Rattle.plant_core.specs.Standing.{fixed_in}
-use Rattle.multi_master.proofs.Keeping.{written_back}
-use Rattle.multi_master.proofs.Places.{all_at, placed}
 use Rattle.plant_core.proofs.Acting.{same_count, still_plant, noted_set, noted_less, fixed_set}
 use Rattle.plant_core.proofs.Cycling.{frame_goes}
 use Rattle.plant_core.proofs.ends.Ends.deliver_to_master.Goals as goal

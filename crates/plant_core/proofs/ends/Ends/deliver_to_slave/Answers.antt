@@ -1,5 +1,5 @@
+use Rattle.plant_core.proofs.Common.{placed}
 use Rattle.std.proofs.Common.{◌-◌, refl}
-use Rattle.multi_master.proofs.Places.{placed}
 use Rattle.plant_core.proofs.Acting.{fixed_set}
 use Rattle.plant_core.proofs.OneDeed.{slave_delivered}
 use Rattle.plant_core.proofs.ends.Ends.deliver_to_slave.Goals as goal

@@ -1,5 +1,5 @@
+use Rattle.plant_core.proofs.Common.{placed}
 use Rattle.std.proofs.Common.{◌-◌, refl}
-use Rattle.multi_master.proofs.Places.{placed}
 use Rattle.plant_core.proofs.Acting.{fixed_set}
 use Rattle.plant_core.proofs.OneDeed.{slave_event, proper_move}
 use Rattle.plant_core.proofs.ends.Ends.happen_at_slave.Goals as goal

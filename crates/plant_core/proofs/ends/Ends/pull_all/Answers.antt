@@ -1,5 +1,5 @@
+use Rattle.plant_core.proofs.Common.{Parcel}
 use Rattle.std.proofs.Common.{◌≡◌, ◌+◌, ◌-◌, suc, length, vec_len, vec_capacity, refl, sym, ◌∙◌, arith}
-use Rattle.black_channel.specs.declared.channel.Parcel.{Parcel}
 use Rattle.plant_core.proofs.Acting.{same_count}
 use Rattle.plant_core.proofs.Pulling.{none_gone, one_pulled, pulled_until, pull_room}
 use Rattle.plant_core.proofs.ends.Ends.pull_all.Goals as goal

@@ -1,6 +1,5 @@
+use Rattle.plant_core.proofs.Common.{IsPlant, Pulls, fixed_in, sees}
 use Rattle.std.proofs.Common.{◌≡◌, ◌≤◌, ◌+◌, ◌-◌, ◌*◌, vec_len, vec_capacity}
-use Rattle.plant_core.specs.Doing.{Pulls, sees}
-use Rattle.plant_core.specs.Standing.{IsPlant, fixed_in}
 use Rattle.plant_core.proofs.ends.Ends.pull_all.Given as goal
 
 abbrev pub invariant-loop : goal.invariant-loop

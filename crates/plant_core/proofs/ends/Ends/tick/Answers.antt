@@ -1,7 +1,5 @@
+use Rattle.plant_core.proofs.Common.{AreNoted, LinkView, fixed_in, written_back}
 use Rattle.std.proofs.Common.{◌≡◌, ◌+◌, ◌-◌, ◌*◌, ◌^◌, ℕ, List, length, vec_len, sym, ap, subst, ◌∙◌, arith}
-use Rattle.plant_core.specs.Link.{LinkView}
-use Rattle.plant_core.specs.Standing.{AreNoted, fixed_in}
-use Rattle.multi_master.proofs.Keeping.{written_back}
 use Rattle.plant_core.proofs.Acting.{same_count, noted_less, still_plant}
 use Rattle.plant_core.proofs.Cycling.{tick_goes}
 use Rattle.plant_core.proofs.ends.Ends.tick.Goals as goal

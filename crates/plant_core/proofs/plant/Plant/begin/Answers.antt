@@ -1,7 +1,6 @@
+use Rattle.plant_core.proofs.Common.{fixed_in, links_made}
 use Rattle.std.proofs.Common.{◌≡◌, length, vec_len, ap, ap₂, ◌∙◌, arith}
-use Rattle.plant_core.specs.Making.{links_made}
 use Rattle.multi_master.specs.Standing as multi
-use Rattle.plant_core.specs.Standing.{fixed_in}
 use Rattle.plant_core.proofs.Made.{made_count}
 use Rattle.plant_core.proofs.Pulling.{starts}
 use Rattle.plant_core.proofs.plant.Plant.begin.Goals as goal

@@ -1,5 +1,5 @@
+use Rattle.plant_core.proofs.Common.{kept_at}
 use Rattle.std.proofs.Common.{◌≡◌, None, arith}
-use Rattle.plant_core.specs.Standing.{kept_at}
 use Rattle.plant_core.proofs.Found.{none_after, none_before, still_without}
 use Rattle.plant_core.proofs.plant.Plant.is_still.Goals as goal
 use Rattle.plant_core.proofs.plant.Plant.is_still.Goals.{else-bound-gt0-via-then-bound-gt0+else-bound-links, else-bound-gt0-via-else-bound-gt0}

@@ -1,6 +1,5 @@
+use Rattle.plant_core.proofs.Common.{LinkView, kept_at}
 use Rattle.std.proofs.Common.{List, ◌-◌, slice_get, ap, ◌∙◌, arith}
-use Rattle.plant_core.specs.Link.{LinkView}
-use Rattle.plant_core.specs.Standing.{kept_at}
 use Rattle.plant_core.proofs.Found.{item_copied, kept_by}
 use Rattle.plant_core.proofs.plant.Plant.link.Goals as goal
 

@@ -1,5 +1,5 @@
+use Rattle.plant_core.proofs.Common.{placed}
 use Rattle.std.proofs.Common.{◌&&◌, Bool, not, refl, sym, ap}
-use Rattle.multi_master.proofs.Places.{placed}
 use Rattle.plant_core.proofs.QuietTold.{still_told, moving_told}
 use Rattle.plant_core.proofs.plant.Plant.quiet.Goals as goal
 

@@ -1,6 +1,5 @@
+use Rattle.plant_core.proofs.Common.{placed, state_of}
 use Rattle.std.proofs.Common.{refl}
-use Rattle.end_model.specs.Readiness.{state_of}
-use Rattle.multi_master.proofs.Places.{placed}
 use Rattle.plant_core.proofs.Readers.{slave_shown}
 use Rattle.plant_core.proofs.plant.Plant.slave_state.Goals as goal
 

@@ -1,5 +1,5 @@
+use Rattle.plant_run.proofs.Common.{other_line}
 use Rattle.std.proofs.Common.{List, ℕ, ◌++◌, ap, ◌∙◌}
-use Rattle.file_run.specs.Report.{other_line}
 use Rattle.plant_run.proofs.NextLine.{closed, other_ends}
 use Rattle.plant_run.proofs.machine.TellingMachine.close.Goals as goal
 

@@ -1,5 +1,5 @@
+use Rattle.plant_run.proofs.Common.{Start}
 use Rattle.std.proofs.Common.{[], ◌∷◌, refl}
-use Rattle.plant_model.specs.Acts.{Start}
 use Rattle.plant_run.proofs.Scripted.{plant_ends, plant_so_far, some_plant_report}
 use Rattle.plant_run.proofs.machine.TellingMachine.laws.Goals as goal
 

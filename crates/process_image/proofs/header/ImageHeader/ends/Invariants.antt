@@ -1,6 +1,6 @@
+use Rattle.process_image.proofs.Common.{end_terms}
 use Rattle.std.proofs.Common.{◌≡◌, map, take}
 use Rattle.arrayvec.specs.ArrayVec.{array_vec_len}
-use Rattle.process_image.specs.Report.{end_terms}
 use Rattle.process_image.proofs.header.ImageHeader.ends.Given as goal
 
 abbrev pub invariant-loop-slot : goal.invariant-loop-slot

@@ -1,10 +1,7 @@
+use Rattle.process_image.proofs.Common.{ImageHeading, IsMadeOf, IsTested, SlotHeader, slots_of}
 use Rattle.std.proofs.Common.{◌≡◌, ◌∷◌, ◌++◌, [], List, length, ap, sym, subst, ◌∙◌, arith}
-use Rattle.process_image.specs.Header.{ImageHeading, slots_of}
-use Rattle.process_image.specs.Fault.{IsMadeOf}
-use Rattle.process_image.specs.declared.header.SlotHeader.{SlotHeader}
 use Rattle.std.proofs.lemmas.Slice.Zip.{AllZip-long}
 use Rattle.std.specs.List.{AllZip}
-use Rattle.process_image.specs.Tested.{IsTested}
 use Rattle.process_image.proofs.Headers.{some_slots}
 use Rattle.process_image.proofs.Tested.{whole_fit}
 use Rattle.process_image.proofs.Zips.{zip_more, zip_last, zip_whole}

@@ -1,10 +1,6 @@
+use Rattle.process_image.proofs.Common.{Heading, ImageHeading, IsTested, Stage, fits_images, is_end_line}
 use Rattle.std.proofs.Common.{◌≡◌, true, sym, ap, subst, ◌∙◌}
 use Rattle.std.specs.Prelude.{if◌then◌else◌}
-use Rattle.schedule_file.specs.Header.{Heading}
-use Rattle.schedule_file.specs.NodeHeader.{is_end_line}
-use Rattle.process_image.specs.Header.{ImageHeading, fits_images}
-use Rattle.process_image.specs.Tested.{IsTested}
-use Rattle.process_image.specs.declared.header.Stage.{Stage}
 use Rattle.process_image.specs.declared.header.Stage.TheVariants as stage
 use Rattle.process_image.proofs.Tested.{own_tested}
 use Rattle.process_image.proofs.header.ImageHeader.take_own.Goals.{else-is_end_line-via-then-is_end_line+else-not-fits, else-is_end_line-via-else-is_end_line, then-done, else-done}

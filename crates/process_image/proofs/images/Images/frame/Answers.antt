@@ -1,7 +1,5 @@
+use Rattle.process_image.proofs.Common.{ImagesView, IsSoundSeat, bytes_at}
 use Rattle.std.proofs.Common.{◌-◌, ℕ, List, length, ap, arith}
-use Rattle.process_image.specs.Image.{bytes_at}
-use Rattle.process_image.specs.Sound.{IsSoundSeat}
-use Rattle.process_image.specs.Standing.{ImagesView}
 use Rattle.process_image.proofs.Counts.{seat_there}
 use Rattle.process_image.proofs.Reading.{frame_shown}
 use Rattle.process_image.proofs.Zips.{all_at}

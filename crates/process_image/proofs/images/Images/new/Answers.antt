@@ -1,6 +1,5 @@
+use Rattle.process_image.proofs.Common.{Slot, first_fault, plan_of}
 use Rattle.std.proofs.Common.{◌≡◌, List, None, sym, ap, ◌∙◌}
-use Rattle.process_image.specs.Fault.{first_fault, plan_of}
-use Rattle.process_image.specs.declared.slot.Slot.{Slot}
 use Rattle.process_image.proofs.Beginning.{new_stands, new_sound, new_setups}
 use Rattle.process_image.proofs.images.Images.new.Goals as goal
 

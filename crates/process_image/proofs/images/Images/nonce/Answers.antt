@@ -1,10 +1,7 @@
+use Rattle.process_image.proofs.Common.{Setup, numbered, profile_of, setups_of}
 use Rattle.std.proofs.Common.{◌-◌, IfSome, IsTrue, length, refl, sym, subst, arith}
 use Rattle.param_load.specs.Profile.{allows_id}
 use Rattle.param_load.specs.declared.entry.Move.TheVariants as move
-use Rattle.end_model.specs.Setup.{Setup}
-use Rattle.end_model.specs.Runs.{profile_of}
-use Rattle.process_image.specs.Standing.{setups_of}
-use Rattle.process_image.specs.Places.{numbered}
 use Rattle.process_image.proofs.Counts.{seat_there}
 use Rattle.process_image.proofs.One.{nonce_follows}
 use Rattle.process_image.proofs.Set.{set_moved, named_setup, set_sound, set_setups}

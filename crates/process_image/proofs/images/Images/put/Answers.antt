@@ -1,8 +1,6 @@
+use Rattle.process_image.proofs.Common.{Setup, numbered, sends, setups_of}
 use Rattle.std.proofs.Common.{◌≡◌, ◌-◌, IfSome, length, refl, sym, subst, arith}
 use Rattle.param_load.specs.declared.entry.Move.TheVariants as move
-use Rattle.end_model.specs.Setup.{Setup, sends}
-use Rattle.process_image.specs.Standing.{setups_of}
-use Rattle.process_image.specs.Places.{numbered}
 use Rattle.process_image.proofs.Counts.{seat_there}
 use Rattle.process_image.proofs.One.{put_follows}
 use Rattle.process_image.proofs.Set.{set_moved, named_setup, set_sound, set_setups}

@@ -1,6 +1,5 @@
+use Rattle.process_image.proofs.Common.{IsSoundSeat, with_sent}
 use Rattle.std.proofs.Common.{◌-◌, length, refl, ap, ◌∙◌, arith}
-use Rattle.process_image.specs.Sound.{IsSoundSeat}
-use Rattle.process_image.specs.Steps.{with_sent}
 use Rattle.process_image.proofs.Counts.{seat_there}
 use Rattle.process_image.proofs.Keeping.{written_back}
 use Rattle.process_image.proofs.Looping.{sent_size}

@@ -1,5 +1,5 @@
+use Rattle.process_image.proofs.Common.{IsSampleStep, told_by}
 use Rattle.std.proofs.Common.{length, refl, ap, ◌∙◌}
-use Rattle.process_image.specs.Steps.{IsSampleStep, told_by}
 use Rattle.process_image.proofs.Keeping.{sampled_alike, images_sound, does_setups, written_back}
 use Rattle.process_image.proofs.Telling.{sample_follows, sample_answers}
 use Rattle.process_image.proofs.images.Images.sample.Goals as goal

@@ -1,5 +1,5 @@
+use Rattle.process_image.proofs.Common.{ImagesView}
 use Rattle.std.proofs.Common.{length, refl, ap, ◌∙◌}
-use Rattle.process_image.specs.Standing.{ImagesView}
 use Rattle.process_image.proofs.Keeping.{written_back}
 use Rattle.process_image.proofs.Telling.{sample_alike, sample_does, sample_sound}
 use Rattle.process_image.proofs.images.Images.sample_telling.Goals as goal

@@ -1,5 +1,5 @@
+use Rattle.process_image.proofs.Common.{state_of}
 use Rattle.std.proofs.Common.{◌-◌, arith}
-use Rattle.end_model.specs.Readiness.{state_of}
 use Rattle.process_image.proofs.Counts.{seat_there}
 use Rattle.process_image.proofs.Reading.{shown_at}
 use Rattle.process_image.proofs.images.Images.state.Goals as goal

@@ -1,5 +1,5 @@
+use Rattle.process_image.proofs.Common.{IsTickStep, did_in}
 use Rattle.std.proofs.Common.{length, refl, ap, ◌∙◌}
-use Rattle.process_image.specs.Steps.{IsTickStep, did_in}
 use Rattle.process_image.proofs.Keeping.{ticked_alike, images_sound, does_setups, written_back}
 use Rattle.process_image.proofs.Telling.{tick_follows, tick_answers}
 use Rattle.process_image.proofs.images.Images.tick.Goals as goal

@@ -1,5 +1,5 @@
+use Rattle.process_image.proofs.Common.{ImagesView}
 use Rattle.std.proofs.Common.{length, refl, ap, ◌∙◌}
-use Rattle.process_image.specs.Standing.{ImagesView}
 use Rattle.process_image.proofs.Keeping.{written_back}
 use Rattle.process_image.proofs.Telling.{tick_alike, tick_does, tick_sound}
 use Rattle.process_image.proofs.images.Images.tick_telling.Goals as goal

@@ -1,5 +1,5 @@
+use Rattle.process_image.proofs.Common.{with_bytes}
 use Rattle.std.proofs.Common.{ℕ, length, refl, ap, ◌∙◌}
-use Rattle.process_image.specs.Image.{with_bytes}
 use Rattle.process_image.proofs.Keeping.{written_back}
 use Rattle.process_image.proofs.One.{write_follows}
 use Rattle.process_image.proofs.images.Images.write.Goals as goal

@@ -1,6 +1,5 @@
+use Rattle.process_image.proofs.Common.{ImagesView, ShowsAt, last_frame}
 use Rattle.std.proofs.Common.{◌≡◌, ◌-◌, [], true, false, refl, arith}
-use Rattle.process_image.specs.Calls.{last_frame}
-use Rattle.process_image.specs.Standing.{ImagesView, ShowsAt}
 use Rattle.process_image.proofs.Counts.{seat_there}
 use Rattle.process_image.proofs.Reading.{told_at}
 use Rattle.process_image.proofs.images.Images.write_line.Goals.{then-did, else-did}

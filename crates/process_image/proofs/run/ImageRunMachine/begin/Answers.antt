@@ -1,4 +1,4 @@
-use Rattle.process_image.specs.Header.{slots_of}
+use Rattle.process_image.proofs.Common.{slots_of}
 use Rattle.process_image.proofs.Runs.{all_new, begins_so}
 use Rattle.process_image.proofs.run.ImageRunMachine.begin.Goals as goal
 

@@ -1,7 +1,6 @@
+use Rattle.process_image.proofs.Common.{image_format, input_read}
 use Rattle.std.proofs.Common.{refl}
-use Rattle.schedule_file.specs.Input.{input_read}
 use Rattle.file_run.specs.Reporting.{ended_at}
-use Rattle.process_image.specs.Ran.{image_format}
 use Rattle.process_image.proofs.Runs.{so_far}
 use Rattle.process_image.proofs.SomeReport.{some_report}
 use Rattle.process_image.proofs.run.ImageRunMachine.laws.Goals as goal

@@ -1,7 +1,5 @@
+use Rattle.process_image.proofs.Common.{DoesEvent, FitsImages, ImagesView, RunView, waits}
 use Rattle.std.proofs.Common.{◌≡◌, ◌∷◌, ◌++◌, [], ℕ, List, sym, ap, subst, ◌∙◌}
-use Rattle.process_image.specs.Telling.{RunView, DoesEvent, FitsImages}
-use Rattle.process_image.specs.Standing.{ImagesView}
-use Rattle.file_run.specs.Waiting.{waits}
 use Rattle.process_image.proofs.Runs.{run_fits, same_images, takes_more}
 use Rattle.process_image.proofs.run.ImageRunMachine.report.Goals as goal
 

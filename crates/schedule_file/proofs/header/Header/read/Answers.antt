@@ -1,6 +1,5 @@
+use Rattle.schedule_file.proofs.Common.{fields_after, may_stand}
 use Rattle.std.specs.Prelude.{IsTrue}
-use Rattle.schedule_file.specs.FieldsRead.{fields_after}
-use Rattle.schedule_file.specs.Place.{may_stand}
 use Rattle.schedule_file.proofs.LinesLeft.{Becomes-heading_with-fewer}
 use Rattle.schedule_file.proofs.Sound.{said_in_range}
 use Rattle.schedule_file.proofs.header.Header.read.Goals as goal

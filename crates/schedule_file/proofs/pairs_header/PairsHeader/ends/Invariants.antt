@@ -1,8 +1,5 @@
+use Rattle.schedule_file.proofs.Common.{heading_profile, length_of, own_length, pairs_of, profile_of}
 use Rattle.std.proofs.Common.{◌≡◌, take, map, length}
-use Rattle.fsoe_base.specs.LengthsOf.{length_of}
-use Rattle.schedule_file.specs.Event.{profile_of}
-use Rattle.schedule_file.specs.Input.{heading_profile, own_length}
-use Rattle.schedule_file.specs.PairsHeader.{pairs_of}
 use Rattle.schedule_file.proofs.pairs_header.PairsHeader.ends.Given as goal
 
 abbrev pub invariant-loop-before : goal.invariant-loop-before

@@ -1,6 +1,5 @@
+use Rattle.trace_diag.proofs.Common.{AreBytes, NotesFrame, TraceView}
 use Rattle.std.proofs.Common.{◌≡◌, ◌+◌, arith, not, ap, sym, subst, ◌∙◌, None}
-use Rattle.fsoe_frame.specs.Parts.{AreBytes}
-use Rattle.trace_diag.specs.Judged.{NotesFrame, TraceView}
 use Rattle.trace_diag.proofs.Judging.{none_where, noted_right}
 use Rattle.trace_diag.proofs.trace.Trace.note.Goals as goal
 

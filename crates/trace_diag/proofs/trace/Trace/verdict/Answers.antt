@@ -1,6 +1,5 @@
+use Rattle.trace_diag.proofs.Common.{TraceView, settings_by}
 use Rattle.std.proofs.Common.{ap, sym, ◌∙◌}
-use Rattle.trace_diag.specs.Judged.{TraceView}
-use Rattle.trace_diag.specs.Settings.{settings_by}
 use Rattle.trace_diag.proofs.Judging.{verdict_conforms, verdict_differs}
 use Rattle.trace_diag.proofs.trace.Trace.verdict.Goals as goal
 

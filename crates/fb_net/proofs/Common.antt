@@ -1,0 +1,19 @@
+-- The names that most proofs of this crate cite, passed on from one place. Declares nothing.
+pub use Rattle.failsafe_io.specs.Bits.{at_number, bit_at, has_bit, is_same_bit}
+pub use Rattle.failsafe_io.specs.declared.bit.Bit.{Bit}
+pub use Rattle.fb_lib.specs.Cycle.{Cycle, second}
+pub use Rattle.fb_lib.specs.Standing.{AreOff, BlockFollows, BlockGives, BlockStands, kind_of}
+pub use Rattle.fb_lib.specs.Steps.{BlockView, next_block, next_held, told}
+pub use Rattle.fb_lib.specs.declared.kind.BlockKind.{BlockKind}
+pub use Rattle.fb_net.specs.Fault.{block_fault, blocks_fault, drives_fault, first_fault, wires_fault}
+pub use Rattle.fb_net.specs.Guarded.{guarded_blocks, guarded_from, is_output_guarded, is_wire_guarded}
+pub use Rattle.fb_net.specs.Mirror.{mirror_images, mirrored}
+pub use Rattle.fb_net.specs.NetView.{NetView, net_block, plan}
+pub use Rattle.fb_net.specs.Outputs.{bits_on, driven_images, images_with, net_outputs, with_on, zero_images}
+pub use Rattle.fb_net.specs.Ready.{AllReady, IsReady}
+pub use Rattle.fb_net.specs.Standing.{BlocksStand, IsNewNet, KeepsPlan, NetFollows, NetGives, NetStands}
+pub use Rattle.fb_net.specs.Steps.{all_restored, count_held, cycle_of, flag, flag_held, given, held_from, holds_of, net_rule, on_held, restored, run_blocks, run_values, stepped}
+pub use Rattle.fb_net.specs.Values.{NetBlock, NetCycle, block_cycles, block_values, values_from, wire_value, with_block}
+pub use Rattle.fb_net.specs.declared.spec.BlockSpec.{BlockSpec}
+pub use Rattle.fb_net.specs.declared.spec.Drive.{Drive}
+pub use Rattle.fsoe_base.specs.Image.{bit_of, with_bit}

@@ -1,0 +1,37 @@
+-- The names that most proofs of this crate cite, passed on from one place. Declares nothing.
+pub use Rattle.black_channel.specs.Told.{Begins, PullsParcel, PushesParcel, Told}
+pub use Rattle.black_channel.specs.declared.channel.Parcel.{Parcel}
+pub use Rattle.end_model.specs.Deed.{Deed, delivered}
+pub use Rattle.end_model.specs.Outputs.{out}
+pub use Rattle.end_model.specs.Readiness.{held, offer, reaches_limit, state_of, told_terms}
+pub use Rattle.end_model.specs.Setup.{OfMaster, OfSlave, Setup}
+pub use Rattle.exchange_model.specs.Ends.{of_end, peer, same_end}
+pub use Rattle.exchange_model.specs.World.{deed_in, deeds, frames_of, next_entry}
+pub use Rattle.fsoe_base.specs.Did.{nothing}
+pub use Rattle.fsoe_base.specs.declared.command.End.{End}
+pub use Rattle.fsoe_base.specs.declared.did.Did.{Did}
+pub use Rattle.fsoe_base.specs.declared.lengths.Lengths.{Lengths}
+pub use Rattle.multi_master.proofs.Keeping.{written_back}
+pub use Rattle.multi_master.proofs.Places.{Placed, all_at, map_set, placed, same_length, some_at}
+pub use Rattle.multi_master.specs.Calls.{AppView, Call, ChangeApp, Deliver, IsSound, Meant, Nonce, Tick, changed_by, changed_from, connection, cycle_in, meant}
+pub use Rattle.multi_master.specs.Connection.{Connection, is_offer, next_deed, offer_at, setup}
+pub use Rattle.multi_master.specs.Standing.{AllSound, AnswersFrame, AnswersTick, IsNumber, IsWhere, MultiValue, MultiView, ShowsApp, ShowsAt, ShowsChanged, StandsFor, changed, links, newest_at, numbers_of, seen}
+pub use Rattle.param_load.specs.declared.entry.Entry.{Entry}
+pub use Rattle.param_load.specs.declared.entry.Move.{Move}
+pub use Rattle.plant_conf.specs.declared.conf.BoundSpec.{BoundSpec}
+pub use Rattle.plant_conf.specs.declared.conf.LinkConf.{LinkConf}
+pub use Rattle.plant_core.specs.Doing.{ActedTo, AllActed, Delivers, DoesLine, GoesOn, HaveParts, MasterActs, MastersNoted, OffersNoted, Pulls, SlaveActs, SlavesTick, frames_pushed, next_uses, one_each, one_each_to, sees, slave_move}
+pub use Rattle.plant_core.specs.Link.{AgesNote, Fixed, LinkStands, LinkView, MasterNoted, NotesOne, NotesSlave, SlaveGoesOn, fixed_of, new_ages, new_link}
+pub use Rattle.plant_core.specs.Making.{is_named, links_made, master_in}
+pub use Rattle.plant_core.specs.Standing.{AllNoted, AreNoted, EachLink, Follows, HasDone, HasLink, IsPlant, LinkIs, LinksAre, PlantStands, PlantValue, PlantView, ShowsOn, ShowsPair, ShowsWorst, Starts, TellsOther, TellsStill, fixed_in, kept_at, lengths_kept}
+pub use Rattle.plant_model.proofs.Growing.{IsOne, each_none, each_one, frames_next, no_entry, not_same, pair_more, pair_one, pair_other, pair_own, pushes_each, sent_in, with_frame}
+pub use Rattle.plant_model.proofs.Masters.{master_with, mastered, offers_by}
+pub use Rattle.plant_model.specs.Acts.{Act, App, Beginning, Event, Happen, PullFrom, Said, Start, all_pushes, call_of, calls, cut_after, delivery_call, event_call, is_cut, journal, line_step, masters, newer, offer_step, offers, push_to, pushes_of, settings, steps_of, uses, uses_after, uses_of}
+pub use Rattle.plant_model.specs.Bound.{Reacts, is_guarded, is_off, slave_offers}
+pub use Rattle.plant_model.specs.Fits.{Fits, lengths_at, lengths_in}
+pub use Rattle.plant_model.specs.Gifts.{each_uses, place_of, sent_uses}
+pub use Rattle.plant_model.specs.Pair.{has_other, is_tick, link_at, lowest_other, next_of, outputs_at, pair, pairs_by}
+pub use Rattle.plant_model.specs.Uses.{Trace, Use}
+pub use Rattle.plant_model.specs.declared.journal.JournalStep.{JournalStep}
+pub use Rattle.reaction_bound.specs.Ages.{AgesView, HasAgeParts, HasWatchdog, watchdog_in}
+pub use Rattle.slave_core.specs.Standing.{Shows, SlaveIsAfter}

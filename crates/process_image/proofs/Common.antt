@@ -1,0 +1,40 @@
+-- The names that most proofs of this crate cite, passed on from one place. Declares nothing.
+pub use Rattle.end_core.proofs.Either.{set_answers, setup_is}
+pub use Rattle.end_core.specs.Core.{IsAtRest, setup_of}
+pub use Rattle.end_core.specs.Standing.{Answers, IsAfter, IsNew, Shows}
+pub use Rattle.end_core.specs.declared.one_end.Core.{Core}
+pub use Rattle.end_model.specs.Deed.{Deed, is_empty}
+pub use Rattle.end_model.specs.Readiness.{held, offer, state_of}
+pub use Rattle.end_model.specs.Runs.{IsProper, IsRun, IsSetting, profile_of}
+pub use Rattle.end_model.specs.Setup.{OfMaster, OfSlave, Setup, piece_len, receives, sends}
+pub use Rattle.end_model.specs.Step.{after_phase, answer, begun, code_sent, did_on, download_frame, goes_on, master_answer, run, sealed, sent_on, slave_answer, step, with_data, with_piece}
+pub use Rattle.file_run.specs.Waiting.{WaitingText, waits}
+pub use Rattle.fsoe_base.specs.Did.{nothing}
+pub use Rattle.fsoe_base.specs.Lengths.{frame_len, is_length}
+pub use Rattle.fsoe_base.specs.declared.did.Did.{Did}
+pub use Rattle.hex.specs.Hex.{encode_lower, lower_digits}
+pub use Rattle.param_load.specs.declared.entry.Move.{Move}
+pub use Rattle.process_image.specs.Calls.{and_move, contents, deeds, delivery, frame_of, if_named, last_frame, move_in, moves, next_deed, output, with_frames}
+pub use Rattle.process_image.specs.Fault.{IsMadeOf, first_fault, first_outside, first_pair, first_with, outside_or, pair_or, places_from, plan_of, slot_spans}
+pub use Rattle.process_image.specs.Header.{ImageHeading, end_of, end_of_kind, fits_images, heading_spans, image_heading_is_whole, is_done, is_open, line_taken, own_taken, size_line, size_taken, slot_begun, slot_line, slot_taken, slots_begun, slots_of, with_last}
+pub use Rattle.process_image.specs.Image.{bytes_at, input, sampled, with_bytes}
+pub use Rattle.process_image.specs.Places.{AreNumbered, Place, Plan, lie_inside, numbered, overlap, share, spans_of}
+pub use Rattle.process_image.specs.Ran.{image_format, image_reporting}
+pub use Rattle.process_image.specs.Report.{IsEndOf, IsImageReport, IsPlanOf, IsSlotOf, end_terms, entry_line, event_in, event_lines, last_lines, lines_of_events, move_line, report_of}
+pub use Rattle.process_image.specs.SlotLines.{AddsLine, AreLinesOf, IsLineOf, Tells, TellsEach, entry_told, told_line}
+pub use Rattle.process_image.specs.Sound.{IsNewSeat, IsSound, IsSoundSeat, MaySend}
+pub use Rattle.process_image.specs.Standing.{AnswersReset, AnswersSample, AnswersTick, Follows, HasSlot, HoldsFrames, ImagesView, IsBeside, IsSeatOf, ShowsAt, ShowsFrames, StandsFor, setups_of, slots_in, told}
+pub use Rattle.process_image.specs.Steps.{Does, DoesEach, IsSampleStep, IsSeatStep, IsTickStep, Makes, SeatStep, after_steps, answer_in, did_in, seat_contents, told_by, with_sent}
+pub use Rattle.process_image.specs.Telling.{DoesEvent, FitsImages, RunStands, RunView, TellsEvent}
+pub use Rattle.process_image.specs.Tested.{Fit, IsApart, IsTested, and_placed, is_placed, tested_by}
+pub use Rattle.process_image.specs.declared.event.ImageEvent.{ImageEvent}
+pub use Rattle.process_image.specs.declared.header.SlotHeader.{SlotHeader}
+pub use Rattle.process_image.specs.declared.header.Stage.{Stage}
+pub use Rattle.process_image.specs.declared.seat.Seat.{Seat}
+pub use Rattle.process_image.specs.declared.slot.Slot.{Slot}
+pub use Rattle.schedule_file.specs.Field.{bytes_said, fields_of}
+pub use Rattle.schedule_file.specs.Fields.{by_word, map_ok, next_field, no_field, number_16, number_32, one_field, one_hex_field, value_or, ◌>>=◌}
+pub use Rattle.schedule_file.specs.Header.{Heading, IsMasterOf, IsSlaveOf, fields_taken, heading_after, heading_is_whole, heading_with, profile_given, profile_taken, title_taken}
+pub use Rattle.schedule_file.specs.Input.{Refused, Stop, heading_profile, input_read, own_length}
+pub use Rattle.schedule_file.specs.NodeHeader.{is_end_line, kind_after, may_end, node_heading_after}
+pub use Rattle.schedule_file.specs.declared.line_cause.LineCause.{LineCause}

@@ -1,0 +1,12 @@
+-- The names that most proofs of this crate cite, passed on from one place. Declares nothing.
+pub use Rattle.fsoe_crc.proofs.Adjacent.{first_byte, rem-adjacent, rem-one, second_byte}
+pub use Rattle.fsoe_crc.proofs.Weight.{byte_turned, pair_turned, weight, zero_first}
+pub use Rattle.fsoe_crc.proofs.Xored.{bytes_xored, rem-xored}
+pub use Rattle.fsoe_crc.specs.Remainder.{bits_of, fed_bits, fed_bytes, rem, sixteen_zeros}
+pub use Rattle.fsoe_frame.specs.Layout.{groups, layout}
+pub use Rattle.fsoe_frame.specs.Parts.{AreBytes, Frame, frame_of, one_byte, pairs}
+pub use Rattle.seq_chain.specs.Cover.{common, cover, covered, crc_0, crcs, crcs_from, first_of, place}
+pub use Rattle.seq_chain.specs.Differences.{DifferAt, DifferInCommand, DifferInConnection, DifferInCrc, DifferInGroup, DifferInGroups, SteppedAlike, steps_again, turned_in_frames, turned_within}
+pub use Rattle.seq_chain.specs.Numbers.{following, next, number_of, repeats_crc, stepped}
+pub use Rattle.seq_chain.specs.Sealing.{fits, noted, sealed}
+pub use Rattle.seq_chain.specs.declared.link.Link.{Link}
