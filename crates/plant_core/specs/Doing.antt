@@ -1,5 +1,5 @@
--- How the parts of a plant do an act, step by step. Contracts of private functions alone rest on these words. Entries
--- and acts are listed newest first, steps oldest first.
+-- What each part of a plant does of an act; `plant_model/Past` and `Acts` have their order. Contracts of private
+-- functions alone rest on these words. Entries and acts are listed newest first, steps oldest first.
 use Rattle.std.specs.Prelude.{◌≡◌, ◌+◌, ◌*◌, nat_lt, ℕ, suc, Bool, true, List, [], ◌∷◌, ◌++◌, map, take, slice_get, Option, Some, None, if◌then◌else◌}
 use Rattle.fsoe_base.specs.declared.command.End.{End}
 use Rattle.fsoe_base.specs.declared.command.End.TheVariants as side
@@ -41,7 +41,7 @@ pub record SlaveActed (k : ℕ) (what : Move) (link : LinkConf) (w : List Entry)
 pub record SlaveActs (k : ℕ) (what : Move) (old new : LinkView) (before after : Told) : Type 0 where
   pub acts : (link : LinkConf) (w : List Entry) → LinkStands link old w → SlaveActed k what link w old.cut new before after
 
--- one entry more with each connection, that of the world after those
+-- one entry more with each connection: the next one after those that were done
 abbrev pub one_each : (ℕ → LinkConf → Entry) → (ℕ → LinkConf → List Entry) → ℕ → LinkConf → List Entry
 one_each next done k link = next k link ∷ done k link
 
@@ -117,7 +117,7 @@ pub record Done (b : Beginning) (done more : List Act) (new : PlantView) (before
 pub record GoesOn (old : PlantView) (more : List Act) (new : PlantView) (before after : Told) : Type 0 where
   pub goes : (b : Beginning) (done : List Act) → HasDone b old done → Done b done more new before after
 
--- so it does where this parcel was pulled just before
+-- so it does with a parcel that was pulled just before
 pub record Delivers (old : PlantView) (parcel : Parcel) (new : PlantView) (before after : Told) : Type 0 where
   pub delivers : (first : Told) → PullsParcel (Some parcel) first before → GoesOn old (PullFrom (Some parcel) ∷ []) new first after
 

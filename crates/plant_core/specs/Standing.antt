@@ -105,7 +105,7 @@ pub record Starts (b : Beginning) (new : PlantView) (before after : Told) : Type
   pub stands : PlantStands b new (Start ∷ [])
   pub channel : Trace (uses b (Start ∷ [])) before after
 
--- a plant goes on by the acts at one line, which says this, and its channel by the uses of these; this is what it gave
+-- a plant goes on by the acts of one line, which says this, and its channel is used by them; the pulls gave `gifts`
 pub record Plays (b : Beginning) (acts : List Act) (said : Said) (new : PlantView) (before after : Told) : Type 0 where
   pub gifts : List (Option Parcel)
   pub stands : PlantStands b new (with_line said gifts acts)

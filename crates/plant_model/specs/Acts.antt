@@ -1,6 +1,6 @@
 -- What a plant did, act by act, and what that means: the calls of its master of many connections, the steps of its
--- journal, and the uses of its channel. Acts and calls are listed newest first, steps and uses oldest first. Within an
--- act, its steps and its uses have no order against each other.
+-- journal, and the uses of its channel. Acts and calls are listed newest first, steps and uses oldest first. The steps
+-- of an act and its uses are two lists: nothing says whether a step or a use comes first.
 use Rattle.std.specs.Prelude.{ℕ, suc, ◌-◌, ◌==◌, Bool, false, List, [], ◌∷◌, ◌++◌, length, map, take, reverse, Option, Some, None, option_to_list, option_and_then, if◌then◌else◌}
 use Rattle.fsoe_base.specs.declared.command.End.{End}
 use Rattle.fsoe_base.specs.declared.command.End.TheVariants as side
@@ -64,8 +64,8 @@ calls b (act ∷ acts) = option_to_list (call_of b act) ++ calls b acts
 abbrev pub settings : Beginning → List MasterSettings
 settings b = map (λ link. link.master) b.links
 
--- what the calls of these acts mean: the connections of the master, and the application that runs. `b.app` is only what
--- the start changes to
+-- what the calls of these acts mean: the connections of the master, and the application that runs. Before the start it
+-- is `b.app`, to which the start changes
 abbrev pub masters : Beginning → List Act → Meant
 masters b acts = meant (settings b) b.app (calls b acts)
 
@@ -110,8 +110,7 @@ is_cut k [] = false
 is_cut k (Happen (Event event) ∷ acts) = cut_after k event (is_cut k acts)
 is_cut k (_ ∷ acts) = is_cut k acts
 
--- of the frames sent by now those that weren't sent before, the first of which comes first; both lists are newest
--- first. In an act an end sends one frame at most
+-- of the frames sent by now those that weren't sent before, the first of which comes first; both lists are newest first
 abbrev pub newer : List (List ℕ) → List (List ℕ) → List (List ℕ)
 newer before now = reverse (take (length now - length before) now)
 

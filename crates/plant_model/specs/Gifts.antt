@@ -59,7 +59,7 @@ GivesHeld (Begin seed ∷ uses) held = GivesHeld uses (begun seed held)
 GivesHeld (Push parcel ∷ uses) held = GivesHeld uses (pushed parcel held)
 GivesHeld (Pull gift ∷ uses) held = (gift ≡ (pulled held).gift) × GivesHeld uses (pulled held).holds
 
--- a list that is told was told before, without these parcels at its end
+-- a list that is told now was told before, and these parcels were added at its end
 abbrev pub GrewBy : List Parcel → Option (List Parcel) → Option (List Parcel) → Type 0
 GrewBy more old new = IfSome new (λ parcels. option_map (λ before. before ++ more) old ≡ Some parcels)
 
@@ -74,8 +74,7 @@ pub record ToldHolds (uses : List Use) (old new : Told) : Type 0 where
   pub gives : IfSome old.holds (GivesHeld uses)
   pub holds : new.holds ≡ option_map (held_after uses) old.holds
 
--- a count rose by at least this much, unless it came to 2^64 - 1, where a count of 64 bits stays; nothing is said of
--- one that goes on from there, since what came while it stayed isn't counted
+-- a count rose by at least this much, unless it is 2^64 - 1 now, where a count of 64 bits stays
 abbrev pub RoseBy : ℕ → ℕ → ℕ → Type 0
 RoseBy more before now = now < 2 ^ 64 - 1 → before + more ≤ now
 

@@ -25,13 +25,13 @@ abbrev pub tells_hearing : List Entry → Bool
 tells_hearing [] = false
 tells_hearing (x ∷ w) = tells_due x.did
 
--- whether the end of a connection to which the last parcel of a journal went took it or reset on it, and is a master
+-- whether the last parcel of a journal went to a master of a connection, which took it or was reset by it
 abbrev pub master_hears : Option LinkConf → End → ℕ → List JournalStep → Bool
 master_hears (Some link) side.Master k journal = tells_hearing (pair link k journal)
 master_hears _ _ k journal = false
 
--- whether an act runs a cycle of the application, after which the journal is this: at the start, in each tick, after
--- each change of the application, and at each parcel that a master takes or resets on
+-- whether an act runs a cycle of the application, where the journal is this with the steps of the act: at the start, in
+-- each tick, after each change of the application, and at each parcel that a master takes or resets on
 abbrev pub runs_cycle : List LinkConf → Act → List JournalStep → Bool
 runs_cycle links Start journal = true
 runs_cycle links (Happen (Event event)) journal = is_tick_event event
@@ -43,8 +43,8 @@ runs_cycle links (PullFrom (Some parcel)) journal = master_hears (link_at links 
 abbrev pub Cycles : Beginning → Act → List Act → Type 0
 Cycles b act acts = is_some (cycle_of b act acts) ≡ runs_cycle b.links act (journal b (act ∷ acts))
 
--- between a tick and the next line of the script at most 64 parcels were pulled, `room` of which may still come before
--- these steps; and none elsewhere
+-- between a tick and the next line of the script at most 64 parcels were pulled, and none elsewhere; `room` says how
+-- many may come before the first line of these steps
 abbrev pub PullsFit : ℕ → List JournalStep → Type 0
 PullsFit room [] = Unit {0}
 PullsFit room (step.Script event ∷ steps) = PullsFit (if is_tick_event event then 64 else 0) steps
@@ -63,8 +63,8 @@ abbrev pub one_if_left : ℕ → ℕ → ℕ
 one_if_left zero n = n
 one_if_left (suc room) n = suc n
 
--- the number of ticks after which fewer than 64 parcels were pulled before the next line of the script, where `room` of
--- them may still come before these steps
+-- the number of ticks after which fewer than 64 parcels were pulled before the next line of the script; `room` says how
+-- many may come before the first line of these steps
 abbrev pub short_ticks : ℕ → List JournalStep → ℕ
 short_ticks room [] = one_if_left room 0
 short_ticks room (step.Script event ∷ steps) = one_if_left room (short_ticks (if is_tick_event event then 64 else 0) steps)

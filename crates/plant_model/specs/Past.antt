@@ -1,5 +1,5 @@
--- What a plant may have done, by the lines of its script and by what its channel gave. Acts and what the channel gave are
--- listed newest first, the lines of a script oldest first.
+-- What a plant may have done, by the lines of its script and by what its channel gave. Acts and what the channel gave
+-- are listed newest first, the lines of a script oldest first.
 use Rattle.std.specs.Prelude.{◌≡◌, ℕ, suc, List, [], ◌∷◌, ◌++◌, All, map, Option, Some, None, if◌then◌else◌}
 use Rattle.std.specs.Str.{bytes_eq}
 use Rattle.black_channel.specs.declared.channel.Parcel.{Parcel}
@@ -16,9 +16,9 @@ abbrev pub SaidFits : List LinkConf → Said → Type 0
 SaidFits links (Event event) = EventFits links event
 SaidFits links (App app) = Unit {0}
 
--- a plant may have done these acts, and may pull so many parcels before the next line of its script. It starts; then
--- come the lines, each where no pull may come anymore. So in a tick 64 parcels are pulled, or all until a pull gives
--- nothing, and none elsewhere
+-- a plant may have done these acts, and may pull so many parcels before the next line of its script. It starts. Then
+-- come the lines, each after the last pull of the line before. So in a tick 64 parcels are pulled, or all until a pull
+-- gives nothing, and none elsewhere
 abbrev pub IsPast : ℕ → List Act → Type 0
 IsPast room (Start ∷ []) = room ≡ 0
 IsPast room (Happen said ∷ acts) = (room ≡ (if is_tick (line_step said) then 64 else 0)) × IsPast 0 acts
@@ -32,13 +32,13 @@ said_in [] = []
 said_in (Happen said ∷ acts) = said_in acts ++ said ∷ []
 said_in (_ ∷ acts) = said_in acts
 
--- a plant of these connections may have done these acts: all that the lines of its script led to
+-- a plant of these connections may have done these acts, up to the end of a line
 pub record MayHaveDone (links : List LinkConf) (acts : List Act) : Type 0 where
   pub past : IsPast 0 acts
   pub fit : All (SaidFits links) (said_in acts)
 
--- the acts at a line after those before, the last in front: what it says, and then the pulls, which gave this. So at a
--- tick come first the ticks of all slaves and of all masters with a cycle of the application (`script_part`,
+-- these acts with those of one line more: what the line says, and then the pulls, which gave this, newest first. So at
+-- a tick come first the ticks of all slaves and of all masters with a cycle of the application (`script_part`,
 -- `event_call`, `cycle_in`), its offers and the frames that were sent (`offers`, `all_pushes`); and then pull after
 -- pull, each with what it leads to
 abbrev pub with_line : Said → List (Option Parcel) → List Act → List Act

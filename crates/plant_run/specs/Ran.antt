@@ -47,9 +47,9 @@ pub record DidNothing (t : Terms) (acts : List Act) (ended : Ended) (o : Outside
   pub none : acts ≡ []
   pub left : LeavesUnbegun (plant_reporting t) ended o
 
--- a plant ran over a script: it reported it, of which `run` alone fixes no states, since a channel may give anything;
--- one and the same acts stand in its journal, in what its channel tells, and in what was written; and its pairs are
--- fair
+-- a plant ran over a script, and reported it. `run` alone doesn't say what its ends did, since a channel may give
+-- anything. `acts` says it: they stand in its journal, in what its channel tells, and in what was written; and its
+-- pairs are fair
 pub record RanPlant (t : Terms) (ended : Ended) (o : Outside) (before after : channel.Told) (steps : List JournalStep) : Type 0 where
   pub run : RanOver (plant_reporting t) ended o
   pub acts : List Act

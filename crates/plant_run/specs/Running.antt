@@ -17,8 +17,8 @@ use Rattle.plant_model.specs.declared.event.PlantLine.TheVariants as line
 use denote.Ref.{Bor}
 use Rattle.fsoe_base.specs.declared.lengths.Lengths.{Lengths}
 
--- a plant that is run with these terms stands for the acts at these lines, of which this text has the lines of
--- all ticks; and what further lines say goes by these applications, which are left
+-- a plant that is run with these terms stands for the acts of these lines. This text is the report of their ticks, and
+-- these applications are left for further lines
 pub record RunStands (t : Terms) (v : PlantView) (left : List Named) (h : ScriptHeading) (log : List PlantLine) (text : List ℕ) : Type 0 where
   pub acts : List Act
   pub stands : PlantStands t.begins v acts
