@@ -39,9 +39,7 @@ phase-made : (ms : MasterSettings) (e : List Deed) (c : Command) → IsMade (aft
 phase-made ms e command.Reset = download-made ms e command.Session 1
 phase-made ms e command.Session = download-made ms e command.Connection 1
 phase-made ms e command.Connection = download-made ms e command.Parameter 1
-phase-made ms e command.Parameter = data-made (OfMaster ms) e
-phase-made ms e command.FailSafeData = data-made (OfMaster ms) e
-phase-made ms e command.ProcessData = data-made (OfMaster ms) e
+phase-made ms e _ = data-made (OfMaster ms) e
 
 -- whether a master sends one more piece of a phase
 abbrev sends-more : MasterSettings → List Deed → Command → Bool
@@ -55,16 +53,14 @@ master-made ms e command.Reset = phase-made ms e command.Reset
 master-made ms e command.Session = goes-made ms e command.Session
 master-made ms e command.Connection = goes-made ms e command.Connection
 master-made ms e command.Parameter = goes-made ms e command.Parameter
-master-made ms e command.FailSafeData = data-made (OfMaster ms) e
-master-made ms e command.ProcessData = data-made (OfMaster ms) e
+master-made ms e _ = data-made (OfMaster ms) e
 
 slave-made : (ss : SlaveSettings) (e : List Deed) (c : Command) (load : List ℕ) → IsMade (slave_answer ss e c load)
 slave-made ss e command.Reset load = reset_made (sends (OfSlave ss))
 slave-made ss e command.Session load = sealed-made (OfSlave ss) e command.Session _
 slave-made ss e command.Connection load = sealed-made (OfSlave ss) e command.Connection _
 slave-made ss e command.Parameter load = sealed-made (OfSlave ss) e command.Parameter _
-slave-made ss e command.FailSafeData load = data-made (OfSlave ss) e
-slave-made ss e command.ProcessData load = data-made (OfSlave ss) e
+slave-made ss e _ load = data-made (OfSlave ss) e
 
 pub answer_made : (s : Setup) (e : List Deed) (t : Took) → IsMade (answer s e t)
 answer_made (OfMaster ms) e t = master-made ms e t.command
@@ -79,12 +75,10 @@ data-if true x y d h k e = h e
 data-if false x y d h k e = k e
 
 phase-data : (ms : MasterSettings) (e : List Deed) (c : Command) → is_data_frame (after_phase ms e c) ≡ true → after_phase ms e c ≡ with_data (OfMaster ms) e
-phase-data ms e command.Reset h = absurd (no h)
-phase-data ms e command.Session h = absurd (no h)
-phase-data ms e command.Connection h = absurd (no h)
 phase-data ms e command.Parameter h = refl
 phase-data ms e command.FailSafeData h = refl
 phase-data ms e command.ProcessData h = refl
+phase-data ms e _ h = absurd (no h)
 
 goes-data : (ms : MasterSettings) (e : List Deed) (c : Command) → (is_data_frame (download_frame ms e c (suc (count_in (phase_of c) (own (since e))))) ≡ true → ⊥) → is_data_frame (goes_on ms e c) ≡ true → goes_on ms e c ≡ with_data (OfMaster ms) e
 goes-data ms e c none h =
@@ -95,16 +89,12 @@ master-data ms e command.Reset h = absurd (no h)
 master-data ms e command.Session h = goes-data ms e command.Session no h
 master-data ms e command.Connection h = goes-data ms e command.Connection no h
 master-data ms e command.Parameter h = goes-data ms e command.Parameter no h
-master-data ms e command.FailSafeData h = refl
-master-data ms e command.ProcessData h = refl
+master-data ms e _ h = refl
 
 slave-data : (ss : SlaveSettings) (e : List Deed) (c : Command) (load : List ℕ) → is_data_frame (slave_answer ss e c load) ≡ true → slave_answer ss e c load ≡ with_data (OfSlave ss) e
-slave-data ss e command.Reset load h = absurd (no h)
-slave-data ss e command.Session load h = absurd (no h)
-slave-data ss e command.Connection load h = absurd (no h)
-slave-data ss e command.Parameter load h = absurd (no h)
 slave-data ss e command.FailSafeData load h = refl
 slave-data ss e command.ProcessData load h = refl
+slave-data ss e _ load h = absurd (no h)
 
 pub answer_data : (s : Setup) (e : List Deed) (t : Took) → is_data_frame (answer s e t) ≡ true → answer s e t ≡ with_data s e
 answer_data (OfMaster ms) e t h = master-data ms e t.command h
@@ -119,12 +109,10 @@ data-session : (s : Setup) (e : List Deed) → has_command command.Session (with
 data-session s e h = none-session (held e) (sealed s e command.FailSafeData (replicate (sends s) 0)) (sealed s e command.ProcessData (offer s e)) refl refl h
 
 pub answer_session : (ss : SlaveSettings) (e : List Deed) (c : Command) (load : List ℕ) → has_command command.Session (slave_answer ss e c load) ≡ true → slave_answer ss e c load ≡ with_piece (OfSlave ss) e command.Session (id_piece ss e)
-answer_session ss e command.Reset load h = absurd (no h)
 answer_session ss e command.Session load h = refl
-answer_session ss e command.Connection load h = absurd (no h)
-answer_session ss e command.Parameter load h = absurd (no h)
 answer_session ss e command.FailSafeData load h = absurd (data-session (OfSlave ss) e h)
 answer_session ss e command.ProcessData load h = absurd (data-session (OfSlave ss) e h)
+answer_session ss e _ load h = absurd (no h)
 
 -- a delivery that is taken without a reset sends the answer to what was taken
 pub record IsAnswer (s : Setup) (e : List Deed) (reset : Option Cause) (took : Option Took) (sent : Bool) : Type 0 where

@@ -21,17 +21,8 @@ set_deeds failsafe load e = quiet (move.Put load) ∷ quiet (move.Hold failsafe)
 
 same-contents : (s : Setup) (e : List Deed) (b : Bool) (load : List ℕ) (c : Command) (f : Frame) → contents s (set_deeds b load e) c f ≡ contents s e c f
 same-contents (OfMaster ms) e b load command.Reset f = refl
-same-contents (OfMaster ms) e b load command.Session f = refl
-same-contents (OfMaster ms) e b load command.Connection f = refl
-same-contents (OfMaster ms) e b load command.Parameter f = refl
-same-contents (OfMaster ms) e b load command.FailSafeData f = refl
-same-contents (OfMaster ms) e b load command.ProcessData f = refl
 same-contents (OfSlave ss) e b load command.Reset f = refl
-same-contents (OfSlave ss) e b load command.Session f = refl
-same-contents (OfSlave ss) e b load command.Connection f = refl
-same-contents (OfSlave ss) e b load command.Parameter f = refl
-same-contents (OfSlave ss) e b load command.FailSafeData f = refl
-same-contents (OfSlave ss) e b load command.ProcessData f = refl
+same-contents _ e b load _ f = refl
 
 same-fault : (s : Setup) (e : List Deed) (b : Bool) (load : List ℕ) (f : SessionFrameView) → fault_after s (set_deeds b load e) f ≡ fault_after s e f
 same-fault (OfMaster ms) e b load f = refl
@@ -42,10 +33,8 @@ same-session s e b load f None = ap (judged_contents f.command f.frame.load) (sa
 same-session s e b load f (Some found) = refl
 
 same-judged : (s : Setup) (e : List Deed) (b : Bool) (load : List ℕ) (o : Opened) → judged s (set_deeds b load e) o ≡ judged s e o
-same-judged s e b load (opened_as.Drop why) = refl
-same-judged s e b load (opened_as.Refuse found) = refl
-same-judged s e b load (opened_as.ResetFrame said f) = refl
 same-judged s e b load (opened_as.OfSession f) = ap (judged_session s (set_deeds b load e) f) (same-fault s e b load f) ∙ same-session s e b load f (fault_after s e f)
+same-judged s e b load _ = refl
 
 -- a hold and a put leave what an end does with the next frame
 same-did : (s : Setup) (e : List Deed) (b : Bool) (load f : List ℕ) → did_on s (set_deeds b load e) (move.Deliver f) ≡ did_on s e (move.Deliver f)
@@ -120,10 +109,6 @@ as-plain ms r w at accepts o =
     record { new = x.entry ∷ x.set; frame = x.entry.sent; is = x.is; whole = x.whole; sent = x.sent }
 
 pub sends_anyway : (ms : MasterSettings) (r : Partner ms) (w : List Entry) (at : End) (c : Option Command) (l : ℕ) (load : List ℕ) → Accepts ms r → IsOn ms r w at → SendsMore ms r (set_for at l c load ++ event.Deliver at 1 ∷ []) w at
-sends_anyway ms r w at None l load accepts o = as-plain ms r w at accepts o
-sends_anyway ms r w at (Some command.Reset) l load accepts o = as-plain ms r w at accepts o
-sends_anyway ms r w at (Some command.Session) l load accepts o = as-plain ms r w at accepts o
-sends_anyway ms r w at (Some command.Connection) l load accepts o = as-plain ms r w at accepts o
-sends_anyway ms r w at (Some command.Parameter) l load accepts o = as-plain ms r w at accepts o
 sends_anyway ms r w at (Some command.FailSafeData) l load accepts o = after-any ms r w at true (replicate l 0) accepts o
 sends_anyway ms r w at (Some command.ProcessData) l load accepts o = after-any ms r w at false load accepts o
+sends_anyway ms r w at _ l load accepts o = as-plain ms r w at accepts o

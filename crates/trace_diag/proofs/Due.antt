@@ -1,5 +1,5 @@
 -- Which phase the master's next frame is of, by the pieces that it sent.
-use Rattle.trace_diag.proofs.Common.{Command, FirstConnection, FirstParameter, FirstValues, FirstZeros, IsBegun, MasterSettings, MoreConnection, MoreParameter, MoreSession, MoreValues, MoreZeros, Profile, Starts, State, Turn, all_come, connection_payload, connection_pieces, front, front_begun, front_long, goes_on, not_yet, number_at, parameter_payload, parameter_pieces, phase_of, pieces_for, session_payload, session_pieces, some_width, width}
+use Rattle.trace_diag.proofs.Common.{Command, FirstConnection, FirstParameter, FirstValues, FirstZeros, IsBegun, MasterSettings, MoreConnection, MoreParameter, MoreSession, Profile, State, Turn, all_come, connection_payload, connection_pieces, front, front_begun, front_long, goes_on, not_yet, number_at, parameter_payload, parameter_pieces, phase_of, pieces_for, session_payload, session_pieces, some_width, width}
 use Rattle.std.proofs.Common.{◌≡◌, ℕ, ◌+◌, ◌*◌, ◌<◌, ◌≤◌, nat_le, List, [], length, Bool, true, false, refl, sym, ap, subst, ◌∙◌, arith, if◌then◌else◌}
 use Rattle.std.proofs.lemmas.Bool.Decides.{nat_tests}
 use Rattle.fsoe_base.specs.declared.command.State.TheVariants as state
@@ -48,7 +48,6 @@ goes : (now next : State) (b : Bool) → b ≡ true → (if b then next else now
 goes now next b h = ap (λ (b : Bool). if b then next else now) h
 
 pub due_next : (ms : MasterSettings) (c : Command) (p : State) (a b d k : ℕ) → IsPlain ms → Turn (session_pieces ms) (connection_pieces ms) (parameter_pieces ms) c p a b d k → goes_on p (front_in ms p a b d) ≡ phase_of c
-due_next ms c p a b d k plain Starts = refl
 due_next ms c p a b d k plain (MoreSession _ h) =
     stays state.Session state.Connection _ (not-done 2 (width ms) a (session_payload ms.nonce ms.profile) (some_width ms) (subst (λ (n : ℕ). a < n) (session-plain ms plain) h))
 due_next ms c p a b d k plain FirstConnection =
@@ -66,5 +65,4 @@ due_next ms c p a b d k plain (FirstZeros _ e) =
 due_next ms c p a b d k plain (FirstValues _ e) =
     goes state.Parameter state.Data _
     (parameter-whole ms a b d plain ∙ done (6 + length ms.app) (width ms) d (parameter_payload ms.watchdog ms.profile ms.app) (some_width ms) (parameter-plain ms plain))
-due_next ms c p a b d k plain (MoreZeros _ e) = refl
-due_next ms c p a b d k plain (MoreValues _ e) = refl
+due_next ms c p a b d k plain _ = refl

@@ -60,8 +60,7 @@ HasLengths h = AreValid h.master h.slave
 
 valid-if : (m s : ℕ) (a b : Bool) → is_length m ≡ a → is_length s ≡ b → HoldsOf (λ (l : LengthsLine). AreValid l.master l.slave) (if a && b then Ok (record { master = m; slave = s }) else Err cause.Length)
 valid-if m s true true h k = (h, k)
-valid-if m s true false h k = tt
-valid-if m s false b h k = tt
+valid-if m s _ _ h k = tt
 
 lengths-valid : (fields : List (List ℕ)) → HoldsOf (λ (l : LengthsLine). AreValid l.master l.slave) (lengths_line fields)
 lengths-valid fields =
@@ -105,10 +104,9 @@ step-headed number rest go_on (Ok h) k later = whole-or (trace_is_whole h) (reco
 step-headed number rest go_on (Err why) k later = tt
 
 headed-in : (number : ℕ) (h : TraceHeading) (lines : List (Result (List ℕ) InputCause)) → HasLengths h → IsHeaded (header_in trace_format number h lines)
-headed-in number h [] k = tt
-headed-in number h (Err why ∷ rest) k = tt
 headed-in number h (Ok text ∷ rest) k =
     step-headed number rest (λ next. header_in trace_format (number + 1) next rest) (trace_heading_after h text) (fields-hold h text (fields_of text) k) (λ next valid. headed-in (number + 1) next rest valid)
+headed-in number h _ k = tt
 
 -- frames of bytes are so in either order
 reverse-bytes : (t : List Noted) → AreOfBytes t → AreOfBytes (reverse t)
@@ -137,8 +135,7 @@ report-of (Some h) frames AtEnd k =
       ended_by told.0,
       λ are. (lengths, record { master = refl; slave = refl }, record { told = told.0; is_verdict = told.1 (reverse-bytes frames are); text_is = refl; ended_is = refl }),
     )
-report-of None frames (Refused number why) k = (refused_line number why, refused_at number, λ are. (refl, refl))
-report-of (Some h) frames (Refused number why) k = (refused_line number why, refused_at number, λ are. (refl, refl))
+report-of _ frames (Refused number why) k = (refused_line number why, refused_at number, λ are. (refl, refl))
 
 -- with lengths a header has a report however its input stops
 whichever-stop : (h : TraceHeading) (stop : Stop) → HasLengths h → IfAtEnd (Some h) stop
@@ -184,8 +181,7 @@ IsFrameLong bytes = (0 < length bytes) × (length bytes ≤ 255)
 
 long-if : (bytes : List ℕ) (a b : Bool) → nat_lt 0 (length bytes) ≡ a → nat_le (length bytes) 255 ≡ b → HoldsOf IsFrameLong (value_or cause.Hex (if a && b then Some bytes else None))
 long-if bytes true true h k = (ltb-true 0 (length bytes) h, leb-true (length bytes) 255 k)
-long-if bytes true false h k = tt
-long-if bytes false b h k = tt
+long-if bytes _ _ h k = tt
 
 decoded-long : (r : Result (List ℕ) FromHexError) → HoldsOf IsFrameLong (value_or cause.Hex (some_bytes MOST_FRAME r))
 decoded-long (Ok bytes) = long-if bytes (nat_lt 0 (length bytes)) (nat_le (length bytes) 255) refl refl
@@ -270,9 +266,8 @@ more-bytes None more h all = All-nil (λ x. AreBytes x.frame)
 more-bytes (Some x) more h all = All-cons (λ x. AreBytes x.frame) x more h all
 
 steps-bytes : (said : List (Result TraceLine LineCause)) → AllSaid said → AreOfBytes (steps frame_said said)
-steps-bytes [] h = All-nil (λ x. AreBytes x.frame)
 steps-bytes (Ok line ∷ said) h = more-bytes (frame_said line) (steps frame_said said) h.0 (steps-bytes said h.1)
-steps-bytes (Err why ∷ said) h = All-nil (λ x. AreBytes x.frame)
+steps-bytes _ h = All-nil (λ x. AreBytes x.frame)
 
 room-if : (full : Bool) (x : Noted) (more : List Noted) → AreBytes x.frame → AreOfBytes more → AreOfBytes (if full then [] else x ∷ more)
 room-if true x more h all = All-nil (λ x. AreBytes x.frame)

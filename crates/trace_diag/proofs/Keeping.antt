@@ -62,8 +62,7 @@ later-on lengths t x end_name.Slave = forward (phase_due lengths t) (payload_fro
 
 none-if : (a b : Bool) (u more : List ℕ) → b ≡ false → u ≡ [] → (if a then (if b then u ++ more else u) else u) ≡ []
 none-if true true u more e h = absurd (cc e)
-none-if true false u more e h = h
-none-if false b u more e h = h
+none-if _ _ u more e h = h
 
 no-later-more : (lengths : Lengths) (t : List Noted) (which : End) (x : Noted) → IsFrom lengths t which x → NoLater lengths t → NoLater lengths (x ∷ t)
 no-later-more lengths t which x h before phase less =
@@ -113,55 +112,31 @@ or-none None = refl
 or-none (Some n) = refl
 
 conn-is : (l : ℕ) (c : Command) (tail : List ℕ) (o : Option ℕ) (n : ℕ) → (frame_of l (command_byte c ∷ tail)).conn ≡ n → option_or o (conn_in l (command_byte c ∷ tail)) ≡ conn_with (phase_of c) o n
-conn-is l command.Reset tail o n e = or-none o
-conn-is l command.Session tail o n e = or-none o
 conn-is l command.Connection tail o n e = ap (λ (n : ℕ). option_or o (Some n)) e
-conn-is l command.Parameter tail o n e = or-none o
-conn-is l command.FailSafeData tail o n e = or-none o
-conn-is l command.ProcessData tail o n e = or-none o
+conn-is l _ tail o n e = or-none o
 
 connection-is : (p : State) (u part : List ℕ) → take 4 (if same_phase state.Connection p then u ++ part else u) ≡ connection_with p (take 4 u) part
-connection-is state.Reset u part = refl
-connection-is state.Session u part = refl
 connection-is state.Connection u part = take-front 4 u part
-connection-is state.Parameter u part = refl
-connection-is state.Data u part = refl
+connection-is _ u part = refl
 
 parameters-are : (p : State) (u part : List ℕ) → take 6 (if same_phase state.Parameter p then u ++ part else u) ≡ parameters_with p (take 6 u) part
-parameters-are state.Reset u part = refl
-parameters-are state.Session u part = refl
-parameters-are state.Connection u part = refl
 parameters-are state.Parameter u part = take-front 6 u part
-parameters-are state.Data u part = refl
+parameters-are _ u part = refl
 
 place-kept : (lengths : Lengths) (x : Noted) (t : List Noted) (p : State) → piece_place lengths (x ∷ t) p end_name.Slave ≡ piece_place lengths t p end_name.Master
 place-kept lengths x t state.Reset = refl
-place-kept lengths x t state.Session = refl
-place-kept lengths x t state.Connection = refl
-place-kept lengths x t state.Parameter = refl
-place-kept lengths x t state.Data = refl
+place-kept lengths x t _ = refl
 
 piece-is : (lengths : Lengths) (t : List Noted) (p : State) (part : List ℕ) → newest_piece lengths t ≡ part → piece_asked lengths t p end_name.Slave ≡ piece_of p part
-piece-is lengths t state.Reset part e = refl
-piece-is lengths t state.Session part e = refl
 piece-is lengths t state.Connection part e = e
 piece-is lengths t state.Parameter part e = e
-piece-is lengths t state.Data part e = refl
+piece-is lengths t _ part e = refl
 
 chain-is : (lengths : Lengths) (chain : Chain) (which : End) (c : Command) (tail : List ℕ) → (if has_command command.Reset (command_byte c ∷ tail) then fresh else chain_with lengths chain which (command_byte c ∷ tail))
     ≡ chain_after (phase_of c) chain which (frame_of (length_of lengths which) (command_byte c ∷ tail))
 chain-is lengths chain end_name.Master command.Reset tail = refl
-chain-is lengths chain end_name.Master command.Session tail = refl
-chain-is lengths chain end_name.Master command.Connection tail = refl
-chain-is lengths chain end_name.Master command.Parameter tail = refl
-chain-is lengths chain end_name.Master command.FailSafeData tail = refl
-chain-is lengths chain end_name.Master command.ProcessData tail = refl
 chain-is lengths chain end_name.Slave command.Reset tail = refl
-chain-is lengths chain end_name.Slave command.Session tail = refl
-chain-is lengths chain end_name.Slave command.Connection tail = refl
-chain-is lengths chain end_name.Slave command.Parameter tail = refl
-chain-is lengths chain end_name.Slave command.FailSafeData tail = refl
-chain-is lengths chain end_name.Slave command.ProcessData tail = refl
+chain-is lengths chain _ _ tail = refl
 
 chain-more : (lengths : Lengths) (t : List Noted) (which : End) (x : Noted) → x.from ≡ which → IsFrom lengths t which x → chain_of lengths (x ∷ t) ≡ chain_after (phase_due lengths t) (chain_of lengths t) which (frame_of (length_of lengths which) x.frame)
 chain-more lengths t which x from h =
@@ -214,10 +189,7 @@ master-kept lengths x t from h =
 
 own-phase : (p : State) → same_phase p p ≡ true
 own-phase state.Reset = refl
-own-phase state.Session = refl
-own-phase state.Connection = refl
-own-phase state.Parameter = refl
-own-phase state.Data = refl
+own-phase _ = refl
 
 -- the bytes of the payload in hand, with the piece that is answered
 came-long : (lengths : Lengths) (y : Noted) (t : List Noted) (p : State) → IsFrom lengths t end_name.Master y → y.from ≡ end_name.Master → phase_of_frame y.frame ≡ p → rank state.Reset < rank p → rank p < rank state.Data
@@ -233,27 +205,22 @@ whole-parameters u n false e h = refl
 
 -- whether the payload in hand is whole
 whole-is : (p : State) (u : List ℕ) (n : ℕ) → length u ≡ n → words.whole profile.One p u ≡ has_come p n (take 6 u)
-whole-is state.Reset u n e = refl
 whole-is state.Session u n e = ap (nat_le 2) e
 whole-is state.Connection u n e = ap (nat_le 4) e
 whole-is state.Parameter u n e =
     ap (λ (m : ℕ). has_all (if nat_le 6 m then Some (6 + number_at 4 u) else None) m) e ∙ whole-parameters u n (nat_le 6 n) e refl
-whole-is state.Data u n e = refl
+whole-is _ u n e = refl
 
 not-parameter : (p : State) (n : ℕ) (u v : List ℕ) → (p ≡ state.Parameter → u ≡ v) → has_come p n u ≡ has_come p n v
-not-parameter state.Reset n u v h = refl
-not-parameter state.Session n u v h = refl
-not-parameter state.Connection n u v h = refl
 not-parameter state.Parameter n u v h = ap (has_come state.Parameter n) (h refl)
-not-parameter state.Data n u v h = refl
+not-parameter _ n u v h = refl
 
 goes-by : (p : State) (u : List ℕ) (n : ℕ) (v : List ℕ) → (rank state.Reset < rank p → rank p < rank state.Data → length u ≡ n) → (p ≡ state.Parameter → take 6 u ≡ v) → goes_on p u ≡ phase_when p n v
-goes-by state.Reset u n v long same = refl
 goes-by state.Session u n v long same = ap (λ (b : Bool). if b then state.Connection else state.Session) (whole-is state.Session u n (long (omega arith) (omega arith)))
 goes-by state.Connection u n v long same = ap (λ (b : Bool). if b then state.Parameter else state.Connection) (whole-is state.Connection u n (long (omega arith) (omega arith)))
 goes-by state.Parameter u n v long same =
     ap (λ (b : Bool). if b then state.Data else state.Parameter) (whole-is state.Parameter u n (long (omega arith) (omega arith)) ∙ ap (has_come state.Parameter n) (same refl))
-goes-by state.Data u n v long same = refl
+goes-by _ u n v long same = refl
 
 -- where the next piece stands, of the same payload or of the next
 next-place : (b : Bool) (next now : State) (place : State → ℕ) (n : ℕ) → place next ≡ 0 → place now ≡ n → place (if b then next else now) ≡ (if b then 0 else n)
@@ -270,31 +237,22 @@ placed-by state.Data place n v here later data-none = data-none
 -- in a handshake the place of the master's next piece is the length of what came
 master-place : (lengths : Lengths) (t : List Noted) (p : State) → rank state.Reset < rank p → rank p < rank state.Data → piece_place lengths t p end_name.Master ≡ length (payload_from lengths end_name.Master p t)
 master-place lengths t state.Reset some few = absurd (omega (arith, some))
-master-place lengths t state.Session some few = refl
-master-place lengths t state.Connection some few = refl
-master-place lengths t state.Parameter some few = refl
 master-place lengths t state.Data some few = absurd (omega (arith, few))
+master-place lengths t _ some few = refl
 
 slave-place : (lengths : Lengths) (t : List Noted) (p : State) → rank state.Reset < rank p → rank p < rank state.Data → piece_place lengths t p end_name.Slave ≡ length (payload_from lengths end_name.Master p (drop 1 t))
 slave-place lengths t state.Reset some few = absurd (omega (arith, some))
-slave-place lengths t state.Session some few = refl
-slave-place lengths t state.Connection some few = refl
-slave-place lengths t state.Parameter some few = refl
 slave-place lengths t state.Data some few = absurd (omega (arith, few))
+slave-place lengths t _ some few = refl
 
 none-placed : (lengths : Lengths) (t : List Noted) (q : State) → payload_from lengths end_name.Master q t ≡ [] → piece_place lengths t q end_name.Master ≡ 0
 none-placed lengths t state.Reset e = refl
-none-placed lengths t state.Session e = ap (length {A = ℕ}) e
-none-placed lengths t state.Connection e = ap (length {A = ℕ}) e
-none-placed lengths t state.Parameter e = ap (length {A = ℕ}) e
 none-placed lengths t state.Data e = refl
+none-placed lengths t _ e = ap (length {A = ℕ}) e
 
 none-asked : (lengths : Lengths) (t : List Noted) (p : State) → piece_asked lengths t p end_name.Master ≡ []
 none-asked lengths t state.Reset = refl
-none-asked lengths t state.Session = refl
-none-asked lengths t state.Connection = refl
-none-asked lengths t state.Parameter = refl
-none-asked lengths t state.Data = refl
+none-asked lengths t _ = refl
 
 -- after an answer of the slave to the newest of these frames
 slave-kept : (lengths : Lengths) (x y : Noted) (t : List Noted) → x.from ≡ end_name.Slave → IsFrom lengths (y ∷ t) end_name.Slave x → y.from ≡ end_name.Master → IsFrom lengths t end_name.Master y → NoLater lengths (y ∷ t)

@@ -46,20 +46,14 @@ zeros_are (b ∷ bytes) h = let both = split (b == 0) (all_zero bytes) h in ap�
 -- the command is one of its phase
 pub of_phase : (c : Command) → is_of (phase_of c) (command_of (command_byte c)) ≡ true
 of_phase command.Reset = refl
-of_phase command.Session = refl
-of_phase command.Connection = refl
-of_phase command.Parameter = refl
-of_phase command.FailSafeData = refl
-of_phase command.ProcessData = refl
+of_phase _ = refl
 
 -- the connection id holds
 conn-right : (ms : MasterSettings) (id : ℕ) (c : Command) (a b d : ℕ) (f : Frame) → Carries ms id c a b d f.conn f.load → conn_holds (phase_of c) (conn_after ms.conn b) f.conn ≡ true
 conn-right ms id command.Reset a b d f k = absurd k
 conn-right ms id command.Session a b d f k = eq-eqb f.conn 0 k.0
-conn-right ms id command.Connection a b d f k = ap (is_slave_conn (conn_after ms.conn b)) k.0 ∙ known ms.conn b ms.some_conn
-conn-right ms id command.Parameter a b d f k = ap (is_slave_conn (conn_after ms.conn b)) k.0 ∙ known ms.conn b ms.some_conn
-conn-right ms id command.FailSafeData a b d f k = ap (is_slave_conn (conn_after ms.conn b)) k.0 ∙ known ms.conn b ms.some_conn
 conn-right ms id command.ProcessData a b d f k = ap (is_slave_conn (conn_after ms.conn b)) k ∙ known ms.conn b ms.some_conn
+conn-right ms id _ a b d f k = ap (is_slave_conn (conn_after ms.conn b)) k.0 ∙ known ms.conn b ms.some_conn
 
 -- a frame that carries the piece of a payload after some, in this phase
 in-piece : (w : ℕ) (k : Before) (phase : State) (f : Frame) (n : ℕ) (load : List ℕ) → k.place ≡ n * w → f.load ≡ load
@@ -99,11 +93,7 @@ bytes-right ms id k command.ProcessData a b d f plain due cmd carries = ap (λ (
 -- the CRCs are those of the chain
 crcs-right : (k : Before) (c : Command) (f : Frame) → is_reset c ≡ false → f.crcs ≡ (sealed_by k.chain f.conn f.cmd f.load).crcs → f.crcs ≡ crcs_due (phase_of c) k.chain end_name.Master f
 crcs-right k command.Reset f session e = absurd cc
-crcs-right k command.Session f session e = e
-crcs-right k command.Connection f session e = e
-crcs-right k command.Parameter f session e = e
-crcs-right k command.FailSafeData f session e = e
-crcs-right k command.ProcessData f session e = e
+crcs-right k _ f session e = e
 
 pub master_right : (ms : MasterSettings) (id : ℕ) (k : Before) (c : Command) (a b d : ℕ) (f : Frame) → is_reset c ≡ false → IsPlain ms → IsDue ms k c a b d → f.cmd ≡ command_byte c
     → Carries ms id c a b d f.conn f.load → f.crcs ≡ (sealed_by k.chain f.conn f.cmd f.load).crcs → IsRight (width ms) k end_name.Master f

@@ -1,5 +1,5 @@
 -- The frame that the end in turn sends after a trace: a Reset frame, or the next one of its session.
-use Rattle.trace_diag.proofs.Common.{Both, Carries, Chain, Chained, Command, End, FirstConnection, FirstParameter, FirstValues, FirstZeros, InConnection, InData, InParameter, InSession, IsDown, IsUp, MasterSettings, MoreConnection, MoreParameter, MoreSession, MoreValues, MoreZeros, Noted, Partner, Replies, Spot, Starts, State, Turn, before, chain_of, command_byte, conn_after, connection_payload, connection_pieces, count_in, frame_len, frame_of, front, front_long, goes_on, is_reset, length_of, more, newest_crc, newest_piece, parameter_payload, parameter_pieces, payload_from, phase_due, phase_from, phase_of, phase_of_frame, phase_sent, piece_asked, piece_fits, piece_place, reset_frame, same_phase, sealed_by, session_payload, session_pieces, slave_of, some_connection, turn, turned, width}
+use Rattle.trace_diag.proofs.Common.{Both, Carries, Chain, Chained, Command, End, FirstConnection, InData, InParameter, IsDown, IsUp, MasterSettings, MoreConnection, MoreSession, Noted, Partner, Replies, Spot, Starts, State, Turn, before, chain_of, command_byte, conn_after, connection_payload, connection_pieces, count_in, frame_len, frame_of, front, front_long, goes_on, is_reset, length_of, more, newest_crc, newest_piece, parameter_payload, parameter_pieces, payload_from, phase_due, phase_from, phase_of, phase_of_frame, phase_sent, piece_asked, piece_fits, piece_place, reset_frame, same_phase, sealed_by, session_payload, session_pieces, slave_of, some_connection, turn, turned, width}
 use Rattle.std.proofs.Common.{◌≡◌, ℕ, suc, ◌-◌, ◌*◌, ◌<◌, List, [], ◌∷◌, length, take, Bool, true, false, refl, sym, ap, ap₂, subst, ◌∙◌, arith, if◌then◌else◌}
 use Rattle.fsoe_base.specs.declared.command.Command.TheVariants as command
 use Rattle.fsoe_base.specs.declared.command.End.TheVariants as end_name
@@ -72,30 +72,22 @@ by-one true n m e = omega (arith, e)
 by-one false n m e = e
 
 placed-at : (ms : MasterSettings) (t : List Noted) (c : Command) (a b d : ℕ) → HasCome ms t c a b d → IsPlaced ms c a b d (piece_place ms.lengths t (phase_of c) end_name.Master)
-placed-at ms t command.Reset a b d h = tt
 placed-at ms t command.Session a b d h = ap (length {A = ℕ}) h ∙ front_long (session_payload ms.nonce ms.profile) (width ms) a
 placed-at ms t command.Connection a b d h = ap (length {A = ℕ}) h ∙ front_long (connection_payload ms.conn ms.address) (width ms) b
 placed-at ms t command.Parameter a b d h = ap (length {A = ℕ}) h ∙ front_long (parameter_payload ms.watchdog ms.profile ms.app) (width ms) d
-placed-at ms t command.FailSafeData a b d h = tt
-placed-at ms t command.ProcessData a b d h = tt
+placed-at ms t _ a b d h = tt
 
 turn-past : (n n' n'' : ℕ) (c : Command) (p : State) (a b d k : ℕ) → 0 < n' → Turn n n' n'' c p a b d k → IsPast (phase_of c) b
 turn-past n n' n'' c p a b d k some Starts = tt
 turn-past n n' n'' c p a b d k some (MoreSession _ h) = tt
 turn-past n n' n'' c p a b d k some FirstConnection = tt
 turn-past n n' n'' c p a b d k some (MoreConnection _ _ h e) = tt
-turn-past n n' n'' c p a b d k some (FirstParameter _ e) = some
-turn-past n n' n'' c p a b d k some (MoreParameter _ _ h e) = some
-turn-past n n' n'' c p a b d k some (FirstZeros _ e) = some
-turn-past n n' n'' c p a b d k some (FirstValues _ e) = some
-turn-past n n' n'' c p a b d k some (MoreZeros _ h) = some
-turn-past n n' n'' c p a b d k some (MoreValues _ h) = some
+turn-past n n' n'' c p a b d k some _ = some
 
 spot-past : (n n' n'' : ℕ) (p : State) (a b d m : ℕ) → 0 < n' → Spot n n' n'' p a b d m → IsPast p b
-spot-past n n' n'' p a b d m some (InSession _ h) = tt
-spot-past n n' n'' p a b d m some (InConnection _ _ h e) = tt
 spot-past n n' n'' p a b d m some (InParameter _ _ h e) = some
 spot-past n n' n'' p a b d m some (InData _ h) = some
+spot-past n n' n'' p a b d m some _ = tt
 
 -- the master's frame that is on its way is the next one
 pub from_down : (ms : MasterSettings) (r : Partner ms) (y : Noted) (t : List Noted) (x x' : Both) (h : IsDown ms r x') → IsPlain ms → h.id ≡ ms.nonce → turn (y ∷ t) ≡ end_name.Master → Tells ms (y ∷ t) end_name.Master x
@@ -144,19 +136,16 @@ from_down ms r y t x x' h plain id turned-to told more-sent same phase = record 
     d-is = by-one (same_phase state.Parameter (phase_of h.command)) (count_in state.Parameter x.master.sent) h.d (counted state.Parameter ∙ h.master.parameters)
 
     come : (c : Command) → HasCome ms (y ∷ t) c h.a h.b h.d
-    come command.Reset = tt
     come command.Session = told.session ∙ ap (front (session_payload ms.nonce ms.profile) (width ms)) a-is
     come command.Connection = told.connection ∙ ap (front (connection_payload ms.conn ms.address) (width ms)) b-is
     come command.Parameter = told.parameters ∙ ap (front (parameter_payload ms.watchdog ms.profile ms.app) (width ms)) d-is
-    come command.FailSafeData = tt
-    come command.ProcessData = tt
+    come _ = tt
 
     goes-from : (p : State) → goes_on p (payload_from ms.lengths end_name.Master p (y ∷ t)) ≡ goes_on p (front_in ms p h.a h.b h.d)
-    goes-from state.Reset = refl
     goes-from state.Session = ap (goes_on state.Session) (come command.Session)
     goes-from state.Connection = ap (goes_on state.Connection) (come command.Connection)
     goes-from state.Parameter = ap (goes_on state.Parameter) (come command.Parameter)
-    goes-from state.Data = refl
+    goes-from _ = refl
 
     now-is : phase_of_frame y.frame ≡ h.p
     now-is = told.phase ∙ (sym phase ∙ h.slave.phase)
@@ -185,12 +174,9 @@ some-connected (f ∷ frames) e =
     omega (arith, one)
 
 in-phase : (ms : MasterSettings) (t : List Noted) (c : Command) (b d : ℕ) → RepeatsIn ms (phase_of c) b d (newest_piece ms.lengths t) → Repeats ms c b d (piece_asked ms.lengths t (phase_of c) end_name.Slave)
-in-phase ms t command.Reset b d h = tt
-in-phase ms t command.Session b d h = tt
 in-phase ms t command.Connection b d h = h
 in-phase ms t command.Parameter b d h = h
-in-phase ms t command.FailSafeData b d h = tt
-in-phase ms t command.ProcessData b d h = tt
+in-phase ms t _ b d h = tt
 
 -- the slave's answer that is on its way is the next one
 pub from_up : (ms : MasterSettings) (r : Partner ms) (y : Noted) (t : List Noted) (x x' : Both) (h : IsUp ms r x') → turn (y ∷ t) ≡ end_name.Slave → Tells ms (y ∷ t) end_name.Slave x

@@ -27,8 +27,7 @@ no-some false which rest e = absurd cc
 
 no-contents : (place group : Option ℕ) → option_or (option_map field.Data place) (option_map field.Crc group) ≡ None → (place ≡ None) × (group ≡ None)
 no-contents None None e = (refl, refl)
-no-contents None (Some i) e = absurd cc
-no-contents (Some p) group e = absurd cc
+no-contents _ _ e = absurd cc
 
 -- as many CRCs are due as the frame has
 pub none_right : (c : ℕ) (k : Before) (which : End) (f : Frame) → length f.crcs ≡ length (crcs_due k.due k.chain which f) → frame_field c k which f ≡ None → IsRight c k which f

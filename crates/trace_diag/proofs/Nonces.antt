@@ -35,8 +35,7 @@ IsIf n (Some id) = id ≡ n
 id-if : (n : ℕ) (reset session : Bool) (before : Option ℕ) (now : ℕ) → IsIf n before → now ≡ n → IsIf n (if reset then None else if session then option_or before (Some now) else before)
 id-if n true session before now h e = tt
 id-if n false true None now h e = e
-id-if n false true (Some id) now h e = h
-id-if n false false before now h e = h
+id-if n false _ _ now h e = h
 
 ids-are : (s : Setup) (e : List Deed) → LeaveNonce e → IsIf (first_nonce s) (id_sent s e)
 ids-are s [] k = tt

@@ -6,13 +6,12 @@ use Rattle.std.proofs.lemmas.Bool.{cases_eq, eq-eqb, ne_eqb}
 -- a list has the same numbers as another of its length exactly where none differs
 pub none_differs : (i : ℕ) (xs ys : List ℕ) → length xs ≡ length ys → first_differing i xs ys ≡ None → xs ≡ ys
 none_differs i [] [] h e = refl
-none_differs i [] (y ∷ ys) h e = absurd (omega (arith, h))
-none_differs i (x ∷ xs) [] h e = absurd (omega (arith, h))
 none_differs i (x ∷ xs) (y ∷ ys) h e =
     elim (cases_eq x y) [
       | inl same ↦ let rest : first_differing (suc i) xs ys ≡ None = ap (λ (b : Bool). if b then first_differing (suc i) xs ys else Some i) (sym (eq-eqb x y same)) ∙ e in ap₂ (λ (a : ℕ) (b : List ℕ). a ∷ b) same (none_differs (suc i) xs ys (omega (arith, h)) rest)
       | inr other ↦ let found : Some i ≡ None = ap (λ (b : Bool). if b then first_differing (suc i) xs ys else Some i) (sym (ne_eqb x y other)) ∙ e in absurd cc
     ]
+none_differs i _ _ h e = absurd (omega (arith, h))
 
 pub same_none : (i : ℕ) (xs : List ℕ) → first_differing i xs xs ≡ None
 same_none i [] = refl

@@ -31,10 +31,9 @@ valid_at lengths end_name.Master = lengths.valid_master
 valid_at lengths end_name.Slave = lengths.valid_slave
 
 same-end-is : (a b : End) → same_end a b ≡ true → b ≡ a
-same-end-is end_name.Master end_name.Master h = refl
-same-end-is end_name.Slave end_name.Slave h = refl
 same-end-is end_name.Master end_name.Slave h = cc
 same-end-is end_name.Slave end_name.Master h = cc
+same-end-is _ _ h = refl
 
 -- a list of bytes after another, and the first of one
 first-and : (x : ℕ) (u : List ℕ) → x < 256 → AreBytes u → AreBytes (x ∷ u)
@@ -83,8 +82,7 @@ bytes-more : (lengths : Lengths) (which : End) (phase : State) (x : Noted) (u : 
     → AreBytes (if mine then (if is then u ++ take (piece_len lengths) (frame_of (length_of lengths which) x.frame).load else u) else u)
 bytes-more lengths which phase x u long are before true true mine =
     bytes_append u (take (piece_len lengths) (frame_of (length_of lengths which) x.frame).load) before (bytes_take (piece_len lengths) _ (load_bytes lengths which x mine long are))
-bytes-more lengths which phase x u long are before true false mine = before
-bytes-more lengths which phase x u long are before false is mine = before
+bytes-more lengths which phase x u long are before _ _ mine = before
 
 pub payload_bytes : (lengths : Lengths) (which : End) (phase : State) (t : List Noted) → AllLong lengths t → AreOfBytes t → AreBytes (payload_from lengths which phase t)
 payload_bytes lengths which phase [] long are = λ i. omega arith
@@ -100,8 +98,7 @@ pub record Extends (u all : List ℕ) : Type 0 where
 
 extends-if : (a b : Bool) (u all more : List ℕ) → Extends u all → Extends u (if a then (if b then all ++ more else all) else all)
 extends-if true true u all more e = record { rest = e.rest ++ more; is = ap (λ (v : List ℕ). v ++ more) e.is ∙ append_assoc u e.rest more }
-extends-if true false u all more e = e
-extends-if false b u all more e = e
+extends-if _ _ u all more e = e
 
 pub payload_extends : (lengths : Lengths) (which : End) (phase : State) (later t : List Noted) → Extends (payload_from lengths which phase t) (payload_from lengths which phase (later ++ t))
 payload_extends lengths which phase [] t = record { rest = []; is = sym (append-nil (payload_from lengths which phase t)) }

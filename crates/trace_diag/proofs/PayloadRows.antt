@@ -77,10 +77,9 @@ pub record IsFrom (lengths : Lengths) (t : List Noted) (which : End) (x : Noted)
   pub right : IsRight (piece_len lengths) (before lengths t) which (frame_of (length_of lengths which) x.frame)
 
 pub same_end_is : (a b : End) → same_end a b ≡ true → b ≡ a
-same_end_is end_name.Master end_name.Master h = refl
-same_end_is end_name.Slave end_name.Slave h = refl
 same_end_is end_name.Master end_name.Slave h = cc
 same_end_is end_name.Slave end_name.Master h = cc
+same_end_is _ _ h = refl
 
 pub is_from : (lengths : Lengths) (t : List Noted) (which : End) (x : Noted) → same_end which x.from ≡ true → IsInTurn lengths (before lengths t) x → IsFrom lengths t which x
 is_from lengths t which x mine h =
@@ -105,26 +104,7 @@ same-phase-is state.Session state.Session h = refl
 same-phase-is state.Connection state.Connection h = refl
 same-phase-is state.Parameter state.Parameter h = refl
 same-phase-is state.Data state.Data h = refl
-same-phase-is state.Reset state.Session h = cc
-same-phase-is state.Reset state.Connection h = cc
-same-phase-is state.Reset state.Parameter h = cc
-same-phase-is state.Reset state.Data h = cc
-same-phase-is state.Session state.Reset h = cc
-same-phase-is state.Session state.Connection h = cc
-same-phase-is state.Session state.Parameter h = cc
-same-phase-is state.Session state.Data h = cc
-same-phase-is state.Connection state.Reset h = cc
-same-phase-is state.Connection state.Session h = cc
-same-phase-is state.Connection state.Parameter h = cc
-same-phase-is state.Connection state.Data h = cc
-same-phase-is state.Parameter state.Reset h = cc
-same-phase-is state.Parameter state.Session h = cc
-same-phase-is state.Parameter state.Connection h = cc
-same-phase-is state.Parameter state.Data h = cc
-same-phase-is state.Data state.Reset h = cc
-same-phase-is state.Data state.Session h = cc
-same-phase-is state.Data state.Connection h = cc
-same-phase-is state.Data state.Parameter h = cc
+same-phase-is _ _ h = cc
 
 -- a command of the phase that is due
 pub record IsOfPhase (phase : State) (o : Option Command) : Type 0 where
@@ -158,16 +138,10 @@ CarriesOwn end_name.Slave state.Session = Unit {0}
 CarriesOwn which phase = ⊥
 
 own-piece : (c : ℕ) (k : Before) (which : End) (phase : State) (f : Frame) → CarriesOwn which phase → wrong_byte c k which phase f ≡ wrong_in_piece c k phase f
-own-piece c k end_name.Master state.Session f own = refl
 own-piece c k end_name.Master state.Connection f own = refl
 own-piece c k end_name.Master state.Parameter f own = refl
-own-piece c k end_name.Slave state.Session f own = refl
-own-piece c k end_name.Master state.Reset f own = absurd own
-own-piece c k end_name.Master state.Data f own = absurd own
-own-piece c k end_name.Slave state.Reset f own = absurd own
-own-piece c k end_name.Slave state.Connection f own = absurd own
-own-piece c k end_name.Slave state.Parameter f own = absurd own
-own-piece c k end_name.Slave state.Data f own = absurd own
+own-piece c k _ state.Session f own = refl
+own-piece c k _ _ f own = absurd own
 
 pub own_bytes : (lengths : Lengths) (t : List Noted) (which : End) (phase : State) (x : Noted) → CarriesOwn which phase → IsFrom lengths t which x → phase_of_frame x.frame ≡ phase → (j : ℕ) → j < piece_len lengths → j < length (frame_of (length_of lengths which) x.frame).load
     → payload_holds phase (frame_of (length_of lengths which) x.frame).conn (take 6 (parameters_from lengths t) ++ take (piece_len lengths) (frame_of (length_of lengths which) x.frame).load) (piece_place lengths t phase which + j) (at (frame_of (length_of lengths which) x.frame).load j) ≡ true

@@ -14,9 +14,8 @@ at bytes i = get_or bytes i 0
 
 -- zeros after bytes: past these each byte is 0, as past the end
 pub at_zeros : (n i : ℕ) → at (replicate n 0) i ≡ 0
-at_zeros zero i = refl
-at_zeros (suc n) zero = refl
 at_zeros (suc n) (suc i) = at_zeros n i
+at_zeros _ _ = refl
 
 pub at_followed : (q : List ℕ) (n i : ℕ) → at (q ++ replicate n 0) i ≡ at q i
 at_followed [] n i = at_zeros n i

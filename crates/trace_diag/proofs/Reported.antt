@@ -49,9 +49,7 @@ ends-as status.Line ended o k = record { number = k.number; read = k.read; wrote
 ends-as status.Read ended o k = record { read = k.read; wrote = wrote o _ _ (λ input. read-lines ended.place input o.source.after) k.wrote; cause = k.cause }
 ends-as status.Write ended o k = record { appended = k.appended; wrote = wrote o _ _ (λ input text w. (w.0, cut input text w.1)) k.wrote; cause = k.cause }
 ends-as status.Memory ended o k = record { place_is = k.place_is; takes = k.takes; wrote = wrote o _ _ begun k.wrote }
-ends-as status.Usage ended o k = k
-ends-as status.Config ended o k = k
-ends-as status.Desk ended o k = k
+ends-as _ ended o k = k
 
 pub ran : (ended : Ended) (o : Outside) → RanOver judge_reporting ended o → RanOver diagnose_reporting ended o
 ran ended o k = record {

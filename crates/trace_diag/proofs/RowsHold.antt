@@ -20,10 +20,7 @@ AllInTurn lengths (x ∷ t) = IsInTurn lengths (before lengths t) x × AllInTurn
 
 pub due_many : (phase : State) (chain : Chain) (which : End) (f : Frame) → length (crcs_due phase chain which f) ≡ length (groups f.load)
 due_many state.Reset chain which f = count_crcs 0 0 1 0x2A 0 (groups f.load)
-due_many state.Session chain which f = count_crcs _ f.conn _ f.cmd 0 (groups f.load)
-due_many state.Connection chain which f = count_crcs _ f.conn _ f.cmd 0 (groups f.load)
-due_many state.Parameter chain which f = count_crcs _ f.conn _ f.cmd 0 (groups f.load)
-due_many state.Data chain which f = count_crcs _ f.conn _ f.cmd 0 (groups f.load)
+due_many _ chain which f = count_crcs _ f.conn _ f.cmd 0 (groups f.load)
 
 pub in_turn : (lengths : Lengths) (t : List Noted) (x : Noted) → field_of lengths t x ≡ None → IsInTurn lengths (before lengths t) x
 in_turn lengths t x e = none_in_turn lengths (before lengths t) x many e
@@ -41,9 +38,8 @@ in_turn lengths t x e = none_in_turn lengths (before lengths t) x many e
         ∙ (sym (count_groups f.load) ∙ sym (due_many (phase_due lengths t) (before lengths t).chain x.from f)))))
 
 pub no_first : (first : Option Difference) (field : Option Field) (n : ℕ) → first_of_both first field n ≡ None → (first ≡ None) × (field ≡ None)
-no_first (Some d) field n e = absurd (cc e)
 no_first None None n e = (refl, refl)
-no_first None (Some which) n e = absurd (cc e)
+no_first _ _ n e = absurd (cc e)
 
 pub all_in_turn : (lengths : Lengths) (t : List Noted) → first_difference lengths t ≡ None → AllInTurn lengths t
 all_in_turn lengths [] e = tt
@@ -93,8 +89,7 @@ grown-hold lengths which phase x t holds before part =
 
     go : (mine is : Bool) → (mine ≡ true → is ≡ true → (j : ℕ) → j < piece_len lengths → j < length load → holds (length u + j) (at load j) ≡ true) → AllAt holds (if mine then (if is then u ++ take (piece_len lengths) load else u) else u)
     go true true part = more_hold holds u load (piece_len lengths) before (part refl refl)
-    go true false part = before
-    go false is part = before
+    go _ _ part = before
 
 pub phase_by : (p q : State) → same_phase p q ≡ true → q ≡ p
 phase_by state.Reset state.Reset h = refl
@@ -102,26 +97,7 @@ phase_by state.Session state.Session h = refl
 phase_by state.Connection state.Connection h = refl
 phase_by state.Parameter state.Parameter h = refl
 phase_by state.Data state.Data h = refl
-phase_by state.Reset state.Session h = cc
-phase_by state.Reset state.Connection h = cc
-phase_by state.Reset state.Parameter h = cc
-phase_by state.Reset state.Data h = cc
-phase_by state.Session state.Reset h = cc
-phase_by state.Session state.Connection h = cc
-phase_by state.Session state.Parameter h = cc
-phase_by state.Session state.Data h = cc
-phase_by state.Connection state.Reset h = cc
-phase_by state.Connection state.Session h = cc
-phase_by state.Connection state.Parameter h = cc
-phase_by state.Connection state.Data h = cc
-phase_by state.Parameter state.Reset h = cc
-phase_by state.Parameter state.Session h = cc
-phase_by state.Parameter state.Connection h = cc
-phase_by state.Parameter state.Data h = cc
-phase_by state.Data state.Reset h = cc
-phase_by state.Data state.Session h = cc
-phase_by state.Data state.Connection h = cc
-phase_by state.Data state.Parameter h = cc
+phase_by _ _ h = cc
 
 session-more : (lengths : Lengths) (x : Noted) (t : List Noted) → IsInTurn lengths (before lengths t) x → RowsHold lengths t → AllAt id_holds (payload_from lengths end_name.Master state.Session (x ∷ t))
 session-more lengths x t h rows =
@@ -150,8 +126,7 @@ parameters-more lengths x t h rows =
         more_hold (parameter_holds (u ++ take c f.load)) u f.load c
         (λ i within. parameter_same (u ++ take c f.load) u i (at u i) (λ k below six. at_front u (take c f.load) k (omega (arith, below, within))) ∙ rows.parameters i within)
         (λ j within there. parameter_same (u ++ take c f.load) (take 6 u ++ take c f.load) (length u + j) (at f.load j) (λ k below six. sym (six_enough u (take c f.load) k six)) ∙ part refl refl j within there)
-    go true false part = rows.parameters
-    go false is part = rows.parameters
+    go _ _ part = rows.parameters
 
 -- the slave's piece stands where its own bytes end
 pub slave_place : (lengths : Lengths) (t : List Noted) (e : End) → turn t ≡ e → e ≡ end_name.Slave → Even lengths t (turn t)
@@ -230,11 +205,7 @@ by-command lengths x t command.Connection tail h is rows = (
       (ap (λ (bytes : List ℕ). option_or (first_conn lengths.master (frames_from end_name.Master t)) (Some (frame_of lengths.master bytes).conn)) is ∙ e))),
   (λ e. absurd (or-some (first_conn lengths.master (frames_from end_name.Master t)) _ e)),
 )
-by-command lengths x t command.Reset tail h is rows = kept lengths t rows
-by-command lengths x t command.Session tail h is rows = kept lengths t rows
-by-command lengths x t command.Parameter tail h is rows = kept lengths t rows
-by-command lengths x t command.FailSafeData tail h is rows = kept lengths t rows
-by-command lengths x t command.ProcessData tail h is rows = kept lengths t rows
+by-command lengths x t _ tail h is rows = kept lengths t rows
 
 connection-more : (lengths : Lengths) (x : Noted) (t : List Noted) → IsInTurn lengths (before lengths t) x → RowsHold lengths t
     → ConnectionHolds (first_conn lengths.master (frames_from end_name.Master (x ∷ t))) (payload_from lengths end_name.Master state.Connection (x ∷ t))

@@ -1,6 +1,6 @@
 -- The world over the schedule of a trace runs in lock step: after each frame's events the next frame is on its way.
 use Rattle.trace_diag.proofs.Common.{Accepts, Asked, AtStage, Both, Command, Deed, Down, End, Enters, Entry, Event, Goes, HasNoReset, IsQuiet, MasterSettings, Move, Noted, Partner, Replied, Setup, Stage, TakesDelivery, Up, asked_delivered, both, both_kept, deed_in, deeds, down_delivered, end_of, end_of_event, frames_from, frames_of, going_on, held, is_empty, nonce_after, offer, own, partner, peer, quiet_enters, quiet_entry, quiet_hold, quiet_put, replied_delivered, same_end, sent_in, set_for, setup_of, up_delivered, world_after}
-use Rattle.std.proofs.Common.{◌≡◌, ℕ, suc, ◌+◌, List, [], ◌∷◌, ◌++◌, length, replicate, Bool, true, false, Option, Some, None, refl, sym, ap, subst, ◌∙◌, arith, if◌then◌else◌}
+use Rattle.std.proofs.Common.{◌≡◌, ℕ, suc, ◌+◌, List, [], ◌∷◌, ◌++◌, length, replicate, Bool, true, false, Option, Some, refl, sym, ap, subst, ◌∙◌, arith, if◌then◌else◌}
 use Rattle.fsoe_base.specs.declared.command.Command.TheVariants as command
 use Rattle.fsoe_base.specs.declared.command.End.TheVariants as end_name
 use Rattle.param_load.specs.declared.entry.Move.TheVariants as move
@@ -157,12 +157,8 @@ now_offered ms r w end_name.Slave failsafe load = refl
 pub answer_on : (ms : MasterSettings) (r : Partner ms) (w : List Entry) (next : End) (c : Option Command) (l : ℕ) (load : List ℕ) → Accepts ms r
     → IsProperEvent ms (partner ms r) (event.Put next (replicate l 0)) → IsProperEvent ms (partner ms r) (event.Put next load) → IsOn ms r w next
     → Answers ms r (set_for next l c load ++ event.Deliver next 1 ∷ []) w next c load
-answer_on ms r w next None l load accepts zeros proper o = record { reaches = plainly ms r w next accepts o; set_for = tt }
-answer_on ms r w next (Some command.Reset) l load accepts zeros proper o = record { reaches = plainly ms r w next accepts o; set_for = tt }
-answer_on ms r w next (Some command.Session) l load accepts zeros proper o = record { reaches = plainly ms r w next accepts o; set_for = tt }
-answer_on ms r w next (Some command.Connection) l load accepts zeros proper o = record { reaches = plainly ms r w next accepts o; set_for = tt }
-answer_on ms r w next (Some command.Parameter) l load accepts zeros proper o = record { reaches = plainly ms r w next accepts o; set_for = tt }
 answer_on ms r w next (Some command.FailSafeData) l load accepts zeros proper o =
     record { reaches = after-put ms r w next true (replicate l 0) accepts zeros o; set_for = now_held ms r w next true (replicate l 0) }
 answer_on ms r w next (Some command.ProcessData) l load accepts zeros proper o =
     record { reaches = after-put ms r w next false load accepts proper o; set_for = (now_held ms r w next false load, now_offered ms r w next false load) }
+answer_on ms r w next _ l load accepts zeros proper o = record { reaches = plainly ms r w next accepts o; set_for = tt }

@@ -47,30 +47,23 @@ zero-loads load load' long h k = zeros_are load h ∙ (ap (λ (n : ℕ). replica
 carried-same : (ms : MasterSettings) (id : ℕ) (c : Command) (a b d conn conn' : ℕ) (load load' : List ℕ) → Carries ms id c a b d conn load → Carries ms id c a b d conn' load' → length load ≡ length load' → (c ≡ command.ProcessData → load ≡ load')
     → (conn ≡ conn') × (load ≡ load')
 carried-same ms id command.Reset a b d conn conn' load load' k k' long data-is = absurd k
-carried-same ms id command.Session a b d conn conn' load load' k k' long data-is = (k.0 ∙ sym k'.0, k.1 ∙ sym k'.1)
-carried-same ms id command.Connection a b d conn conn' load load' k k' long data-is = (k.0 ∙ sym k'.0, k.1 ∙ sym k'.1)
-carried-same ms id command.Parameter a b d conn conn' load load' k k' long data-is = (k.0 ∙ sym k'.0, k.1 ∙ sym k'.1)
 carried-same ms id command.FailSafeData a b d conn conn' load load' k k' long data-is = (k.0 ∙ sym k'.0, zero-loads load load' long k.1 k'.1)
 carried-same ms id command.ProcessData a b d conn conn' load load' k k' long data-is = (k ∙ sym k', data-is refl)
+carried-same ms id _ a b d conn conn' load load' k k' long data-is = (k.0 ∙ sym k'.0, k.1 ∙ sym k'.1)
 
 -- and two that carry what a slave's does
 replied-same : (ms : MasterSettings) (id id' : ℕ) (c : Command) (a b d conn conn' : ℕ) (load load' : List ℕ) → Replies ms id c a b d conn load → Replies ms id' c a b d conn' load' → length load ≡ length load' → (c ≡ command.Session → load ≡ load')
     → (c ≡ command.ProcessData → load ≡ load') → (conn ≡ conn') × (load ≡ load')
 replied-same ms id id' command.Reset a b d conn conn' load load' k k' long id-is data-is = absurd k
 replied-same ms id id' command.Session a b d conn conn' load load' k k' long id-is data-is = (k.0 ∙ sym k'.0, id-is refl)
-replied-same ms id id' command.Connection a b d conn conn' load load' k k' long id-is data-is = (k.0 ∙ sym k'.0, k.1 ∙ sym k'.1)
-replied-same ms id id' command.Parameter a b d conn conn' load load' k k' long id-is data-is = (k.0 ∙ sym k'.0, k.1 ∙ sym k'.1)
 replied-same ms id id' command.FailSafeData a b d conn conn' load load' k k' long id-is data-is = (k.0 ∙ sym k'.0, zero-loads load load' long k.1 k'.1)
 replied-same ms id id' command.ProcessData a b d conn conn' load load' k k' long id-is data-is = (k ∙ sym k', data-is refl)
+replied-same ms id id' _ a b d conn conn' load load' k k' long id-is data-is = (k.0 ∙ sym k'.0, k.1 ∙ sym k'.1)
 
 -- the CRCs of a session's frame
 session-due : (c : Command) (chain : Chain) (which : End) (f : Frame) → is_reset c ≡ false → crcs_due (phase_of c) chain which f ≡ (sealed_by (chain_at which chain) f.conn f.cmd f.load).crcs
 session-due command.Reset chain which f h = absurd (cc h)
-session-due command.Session chain which f h = refl
-session-due command.Connection chain which f h = refl
-session-due command.Parameter chain which f h = refl
-session-due command.FailSafeData chain which f h = refl
-session-due command.ProcessData chain which f h = refl
+session-due _ chain which f h = refl
 
 -- a frame with equal parts is the sealed one
 sealed-parts : (chain : Chain) (f : Frame) (c : Command) (conn : ℕ) (load : List ℕ) → f.cmd ≡ command_byte c → f.conn ≡ conn → f.load ≡ load → f.crcs ≡ (sealed_by chain f.conn f.cmd f.load).crcs → f ≡ sealed_by chain conn (command_byte c) load
@@ -86,10 +79,7 @@ conn-known conn (suc b) n some h = eqb-true n conn h
 guarded-row : (c : Command) (first : Option ℕ) (n : ℕ) → is_guarded c ≡ true → conn_holds (phase_of c) first n ≡ true → is_slave_conn first n ≡ true
 guarded-row command.Reset first n g h = absurd (cc g)
 guarded-row command.Session first n g h = absurd (cc g)
-guarded-row command.Connection first n g h = h
-guarded-row command.Parameter first n g h = h
-guarded-row command.FailSafeData first n g h = h
-guarded-row command.ProcessData first n g h = h
+guarded-row _ first n g h = h
 
 -- the next piece that came is that of the payload
 next-piece : (p : List ℕ) (w n : ℕ) (u load all : List ℕ) → 0 < w → w ≤ length load → u ≡ front p w n → Extends (u ++ take w load) all → ((i : ℕ) → i < length all → at all i ≡ at p i) → front p w n ++ take w load ≡ front p w (suc n)
@@ -108,10 +98,7 @@ payload-with lengths which phase x t mine is =
 
 same-state : (p : State) → same_phase p p ≡ true
 same-state state.Reset = refl
-same-state state.Session = refl
-same-state state.Connection = refl
-same-state state.Parameter = refl
-same-state state.Data = refl
+same-state _ = refl
 
 -- the payload of a trace goes on from there
 extended : (ms : MasterSettings) (which : End) (phase : State) (all later : List Noted) (x : Noted) (t : List Noted) → all ≡ later ++ x ∷ t → same_end which x.from ≡ true → phase_of_frame x.frame ≡ phase
@@ -123,7 +110,6 @@ extended ms which phase all later x t is mine of-phase =
 -- what a frame of the master brings
 brought-by : (ms : MasterSettings) (r : Partner ms) (all : List Noted) (later : List Noted) (x : Noted) (t : List Noted) (c : Command) (a b d : ℕ) → Read ms r all → all ≡ later ++ x ∷ t → HasCome ms t c a b d → same_end end_name.Master x.from ≡ true
     → phase_of_frame x.frame ≡ phase_of c → width ms ≤ length (frame_of ms.lengths.master x.frame).load → Brings ms ms.nonce c a b d (frame_of ms.lengths.master x.frame).load
-brought-by ms r all later x t command.Reset a b d read is come mine of-phase fits = tt
 brought-by ms r all later x t command.Session a b d read is come mine of-phase fits =
     next-piece (session_payload ms.nonce ms.profile) (width ms) a (payload_from ms.lengths end_name.Master state.Session t) (frame_of ms.lengths.master x.frame).load (payload_from ms.lengths end_name.Master state.Session all) (some_width ms) fits come
     (extended ms end_name.Master state.Session all later x t is mine of-phase) read.session
@@ -133,8 +119,7 @@ brought-by ms r all later x t command.Connection a b d read is come mine of-phas
 brought-by ms r all later x t command.Parameter a b d read is come mine of-phase fits =
     next-piece (parameter_payload ms.watchdog ms.profile ms.app) (width ms) d (payload_from ms.lengths end_name.Master state.Parameter t) (frame_of ms.lengths.master x.frame).load (payload_from ms.lengths end_name.Master state.Parameter all) (some_width ms) fits come
     (extended ms end_name.Master state.Parameter all later x t is mine of-phase) read.parameters
-brought-by ms r all later x t command.FailSafeData a b d read is come mine of-phase fits = tt
-brought-by ms r all later x t command.ProcessData a b d read is come mine of-phase fits = tt
+brought-by ms r all later x t _ a b d read is come mine of-phase fits = tt
 
 -- the connection id of a guarded frame
 conn-of : (ms : MasterSettings) (b n : ℕ) (c : Command) (first : Option ℕ) → first ≡ conn_after ms.conn b → IsPast (phase_of c) b → (phase_of c ≡ state.Connection → b ≡ 0 → n ≡ ms.conn) → conn_holds (phase_of c) first n ≡ true → is_guarded c ≡ true → n ≡ ms.conn
@@ -142,18 +127,12 @@ conn-of ms b n command.Reset first e past at-first row g = absurd (cc g)
 conn-of ms b n command.Session first e past at-first row g = absurd (cc g)
 conn-of ms zero n command.Connection first e past at-first row g = at-first refl refl
 conn-of ms (suc b) n command.Connection first e past at-first row g = conn-known ms.conn (suc b) n (omega arith) (ap (λ (o : Option ℕ). is_slave_conn o n) (sym e) ∙ row)
-conn-of ms b n command.Parameter first e past at-first row g = conn-known ms.conn b n past (ap (λ (o : Option ℕ). is_slave_conn o n) (sym e) ∙ row)
-conn-of ms b n command.FailSafeData first e past at-first row g = conn-known ms.conn b n past (ap (λ (o : Option ℕ). is_slave_conn o n) (sym e) ∙ row)
-conn-of ms b n command.ProcessData first e past at-first row g = conn-known ms.conn b n past (ap (λ (o : Option ℕ). is_slave_conn o n) (sym e) ∙ row)
+conn-of ms b n _ first e past at-first row g = conn-known ms.conn b n past (ap (λ (o : Option ℕ). is_slave_conn o n) (sym e) ∙ row)
 
 -- the first Connection frame has the connection id that is read off
 connection-command : (c : Command) → phase_of c ≡ state.Connection → c ≡ command.Connection
-connection-command command.Reset e = cc
-connection-command command.Session e = cc
 connection-command command.Connection e = refl
-connection-command command.Parameter e = cc
-connection-command command.FailSafeData e = cc
-connection-command command.ProcessData e = cc
+connection-command _ e = cc
 
 first-is : (ms : MasterSettings) (r : Partner ms) (all later : List Noted) (x : Noted) (t : List Noted) (tail : List ℕ) → Read ms r all → all ≡ later ++ x ∷ t → same_end end_name.Master x.from ≡ true → x.frame ≡ 0x64 ∷ tail
     → first_conn ms.lengths.master (frames_from end_name.Master t) ≡ None → (frame_of ms.lengths.master x.frame).conn ≡ ms.conn
@@ -276,11 +255,7 @@ slave_same ms r all later x t g taken plain read is mine h even m head agree id-
 
 reset-command : (c : Command) → phase_of c ≡ state.Reset → c ≡ command.Reset
 reset-command command.Reset e = refl
-reset-command command.Session e = cc
-reset-command command.Connection e = cc
-reset-command command.Parameter e = cc
-reset-command command.FailSafeData e = cc
-reset-command command.ProcessData e = cc
+reset-command _ e = cc
 
 -- a Reset frame is that with the code 0
 pub reset_same : (lengths : Lengths) (t : List Noted) (which : End) (x : Noted) → phase_due lengths t ≡ state.Reset → IsFrom lengths t which x → frame_of (length_of lengths which) x.frame ≡ reset_parts_of (length_of lengths which)

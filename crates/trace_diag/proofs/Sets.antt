@@ -31,10 +31,6 @@ no-process : command.FailSafeData ≡ command.ProcessData → ⊥
 no-process e = cc
 
 pub carries_set : (s : Setup) (e : List Deed) (x : Entry) (c : Command) (load : List ℕ) → IsDelivery s e x → SendsAnswer s e x → IsSetFor s (Some c) load e → is_data c ≡ true → is_data_frame x.sent ≡ true → length load ≡ sends s → CarriesSet (sends s) x.sent c load
-carries_set s e x command.Reset load d a set is-data sent long = absurd (no is-data)
-carries_set s e x command.Session load d a set is-data sent long = absurd (no is-data)
-carries_set s e x command.Connection load d a set is-data sent long = absurd (no is-data)
-carries_set s e x command.Parameter load d a set is-data sent long = absurd (no is-data)
 carries_set s e x command.FailSafeData load d a set is-data sent long =
     let is : x.sent ≡ sealed s (begun_with x e) command.FailSafeData (replicate (sends s) 0) =
     a.is
@@ -51,6 +47,7 @@ carries_set s e x command.ProcessData load d a set is-data sent long =
       has = ap (has_command command.ProcessData) is;
       load_is = λ same. ap (λ (g : List ℕ). (frame_of (sends s) g).load) is ∙ (sealed_frame s (begun_with x e) command.ProcessData load long).carries;
     }
+carries_set s e x _ load d a set is-data sent long = absurd (no is-data)
 
 -- a slave's Session frame carries the piece of its session id that is that of its settings
 pub carries_id : (ms : MasterSettings) (r : Partner ms) (e : List Deed) (x : Entry) → SendsAnswer (slave_of ms r) e x → LeaveNonce (deed_in x ∷ e) → has_command command.Session x.sent ≡ true → has_command command.Reset x.sent ≡ false

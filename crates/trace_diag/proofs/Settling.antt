@@ -45,20 +45,13 @@ only-in state.Parameter = Some command.Parameter
 only-in state.Data = Some command.ProcessData
 
 only : (c : Command) → is_data c ≡ false → only-in (phase_of c) ≡ Some c
-only command.Reset h = refl
-only command.Session h = refl
-only command.Connection h = refl
-only command.Parameter h = refl
 only command.FailSafeData h = cc
 only command.ProcessData h = cc
+only _ h = refl
 
 data-phase : (c : Command) → is_data c ≡ same_phase state.Data (phase_of c)
 data-phase command.Reset = refl
-data-phase command.Session = refl
-data-phase command.Connection = refl
-data-phase command.Parameter = refl
-data-phase command.FailSafeData = refl
-data-phase command.ProcessData = refl
+data-phase _ = refl
 
 same-data : (a b : Command) → phase_of a ≡ phase_of b → is_data a ≡ is_data b
 same-data a b e = data-phase a ∙ (ap (same_phase state.Data) e ∙ sym (data-phase b))

@@ -75,10 +75,8 @@ id-rows id w n conn u load h = hold_each (piece_holds w (payload_holds state.Ses
 conn-right : (ms : MasterSettings) (id : ℕ) (c : Command) (a b d : ℕ) (f : Frame) → Replies ms id c a b d f.conn f.load → conn_holds (phase_of c) (conn_after ms.conn b) f.conn ≡ true
 conn-right ms id command.Reset a b d f k = absurd k
 conn-right ms id command.Session a b d f k = eq-eqb f.conn 0 k.0
-conn-right ms id command.Connection a b d f k = ap (is_slave_conn (conn_after ms.conn b)) k.0 ∙ known ms.conn b ms.some_conn
-conn-right ms id command.Parameter a b d f k = ap (is_slave_conn (conn_after ms.conn b)) k.0 ∙ known ms.conn b ms.some_conn
-conn-right ms id command.FailSafeData a b d f k = ap (is_slave_conn (conn_after ms.conn b)) k.0 ∙ known ms.conn b ms.some_conn
 conn-right ms id command.ProcessData a b d f k = ap (is_slave_conn (conn_after ms.conn b)) k ∙ known ms.conn b ms.some_conn
+conn-right ms id _ a b d f k = ap (is_slave_conn (conn_after ms.conn b)) k.0 ∙ known ms.conn b ms.some_conn
 
 -- an answer repeats the piece that is known
 repeated : (w l : ℕ) (k : Before) (f : Frame) (q : List ℕ) → length q ≤ w → w ≤ l → length f.load ≡ l → k.piece ≡ padded q w → f.load ≡ padded q l → wrong_in_echo k f ≡ None
@@ -104,11 +102,7 @@ bytes-right ms id k command.ProcessData a b d f plain due cmd long replies = ap 
 
 crcs-right : (k : Before) (c : Command) (f : Frame) → is_reset c ≡ false → f.crcs ≡ (sealed_by (turned k.chain) f.conn f.cmd f.load).crcs → f.crcs ≡ crcs_due (phase_of c) k.chain end_name.Slave f
 crcs-right k command.Reset f session e = absurd cc
-crcs-right k command.Session f session e = e
-crcs-right k command.Connection f session e = e
-crcs-right k command.Parameter f session e = e
-crcs-right k command.FailSafeData f session e = e
-crcs-right k command.ProcessData f session e = e
+crcs-right k _ f session e = e
 
 pub slave_right : (ms : MasterSettings) (id : ℕ) (k : Before) (c : Command) (a b d : ℕ) (f : Frame) → is_reset c ≡ false → IsPlain ms → IsDueBack ms k c a b d → f.cmd ≡ command_byte c → length f.load ≡ ms.lengths.slave
     → Replies ms id c a b d f.conn f.load → f.crcs ≡ (sealed_by (turned k.chain) f.conn f.cmd f.load).crcs → IsRight (width ms) k end_name.Slave f

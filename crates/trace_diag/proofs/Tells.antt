@@ -66,28 +66,19 @@ pub session_part : (ms : MasterSettings) (id a b d conn n : ℕ) (c : Command) (
 session_part ms id a b d conn n command.Reset load k i e is = absurd k
 session_part ms id a b d conn n command.Session load k i e is =
     part-of ms (session_payload ms.nonce ms.profile) load a n (k.1 ∙ ap (λ (id : ℕ). padded (piece (session_payload id ms.profile) (width ms) (suc a)) ms.lengths.master) i) (sym (same-count n a e))
-session_part ms id a b d conn n command.Connection load k i e is = absurd (cc is)
-session_part ms id a b d conn n command.Parameter load k i e is = absurd (cc is)
-session_part ms id a b d conn n command.FailSafeData load k i e is = absurd (cc is)
-session_part ms id a b d conn n command.ProcessData load k i e is = absurd (cc is)
+session_part ms id a b d conn n _ load k i e is = absurd (cc is)
 
 pub connection_part : (ms : MasterSettings) (id a b d conn n : ℕ) (c : Command) (load : List ℕ) → Carries ms id c a b d conn load → more state.Connection c n ≡ more state.Connection c b
     → same_phase state.Connection (phase_of c) ≡ true → take (width ms) load ≡ padded (piece (connection_payload ms.conn ms.address) (width ms) (suc n)) (width ms)
 connection_part ms id a b d conn n command.Reset load k e is = absurd k
-connection_part ms id a b d conn n command.Session load k e is = absurd (cc is)
 connection_part ms id a b d conn n command.Connection load k e is = part-of ms (connection_payload ms.conn ms.address) load b n k.1 (sym (same-count n b e))
-connection_part ms id a b d conn n command.Parameter load k e is = absurd (cc is)
-connection_part ms id a b d conn n command.FailSafeData load k e is = absurd (cc is)
-connection_part ms id a b d conn n command.ProcessData load k e is = absurd (cc is)
+connection_part ms id a b d conn n _ load k e is = absurd (cc is)
 
 pub parameter_part : (ms : MasterSettings) (id a b d conn n : ℕ) (c : Command) (load : List ℕ) → Carries ms id c a b d conn load → more state.Parameter c n ≡ more state.Parameter c d
     → same_phase state.Parameter (phase_of c) ≡ true → take (width ms) load ≡ padded (piece (parameter_payload ms.watchdog ms.profile ms.app) (width ms) (suc n)) (width ms)
 parameter_part ms id a b d conn n command.Reset load k e is = absurd k
-parameter_part ms id a b d conn n command.Session load k e is = absurd (cc is)
-parameter_part ms id a b d conn n command.Connection load k e is = absurd (cc is)
 parameter_part ms id a b d conn n command.Parameter load k e is = part-of ms (parameter_payload ms.watchdog ms.profile ms.app) load d n k.1 (sym (same-count n d e))
-parameter_part ms id a b d conn n command.FailSafeData load k e is = absurd (cc is)
-parameter_part ms id a b d conn n command.ProcessData load k e is = absurd (cc is)
+parameter_part ms id a b d conn n _ load k e is = absurd (cc is)
 
 -- the pieces of a payload with one more frame, which is of its phase or isn't
 grown : (is : Bool) (p : List ℕ) (w n : ℕ) (u part : List ℕ) → u ≡ front p w n → (is ≡ true → part ≡ padded (piece p w (suc n)) w) → (if is then u ++ part else u) ≡ front p w (if is then suc n else n)
@@ -121,12 +112,9 @@ not_reset c f tail h n = ap (has_command command.Reset) h ∙ head_on c n
 
 repeats-now : (ms : MasterSettings) (id a b d conn n m : ℕ) (c : Command) (load q : List ℕ) → Carries ms id c a b d conn load → more state.Connection c n ≡ more state.Connection c b → more state.Parameter c m ≡ more state.Parameter c d
     → q ≡ take (width ms) load → RepeatsIn ms (phase_of c) (more state.Connection c n) (more state.Parameter c m) q
-repeats-now ms id a b d conn n m command.Reset load q k e g is = tt
-repeats-now ms id a b d conn n m command.Session load q k e g is = tt
 repeats-now ms id a b d conn n m command.Connection load q k e g is = is ∙ connection_part ms id a b d conn n command.Connection load k e refl
 repeats-now ms id a b d conn n m command.Parameter load q k e g is = is ∙ parameter_part ms id a b d conn m command.Parameter load k g refl
-repeats-now ms id a b d conn n m command.FailSafeData load q k e g is = tt
-repeats-now ms id a b d conn n m command.ProcessData load q k e g is = tt
+repeats-now ms id a b d conn n m _ load q k e g is = tt
 
 -- a frame of the master that is on its way, after these
 pub told_down : (ms : MasterSettings) (r : Partner ms) (t : List Noted) (x x' : Both) (h : IsDown ms r x') → h.id ≡ ms.nonce → Tells ms t end_name.Master x → x'.master.sent ≡ h.frame ∷ x.master.sent → x'.slave ≡ x.slave

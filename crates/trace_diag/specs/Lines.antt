@@ -2,7 +2,7 @@
 -- a line says which end sent a frame, and the frame: `m` for the master and `s` for the slave, with 1 to 255 bytes in
 -- hexadecimal; and the last is `end`. The first cause for which a line is refused is found as in other inputs. This
 -- grammar is this profile's own.
-use Rattle.std.specs.Prelude.{ℕ, Bool, true, false, ◌==◌, List, [], length, codes, Option, Some, None, Result, Ok, Err, if◌then◌else◌}
+use Rattle.std.specs.Prelude.{ℕ, Bool, true, false, ◌==◌, List, length, codes, Option, Some, None, Result, Ok, Err, if◌then◌else◌}
 use Rattle.std.specs.Str.{bytes_eq}
 use Rattle.fsoe_base.specs.declared.command.End.{End}
 use Rattle.fsoe_base.specs.declared.command.End.TheVariants as end_name

@@ -1,5 +1,5 @@
 -- How a run over a recorded trace ends, and what it reports.
-use Rattle.std.specs.Prelude.{ℕ, [], true, List}
+use Rattle.std.specs.Prelude.{ℕ, true, List}
 use Rattle.fsoe_io.specs.declared.status.Ended.{Ended}
 use Rattle.schedule_file.specs.Input.{InputOf}
 use Rattle.file_run.specs.Outside.{Outside}
