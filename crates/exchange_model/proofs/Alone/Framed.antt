@@ -6,20 +6,13 @@ use Rattle.fsoe_base.specs.declared.command.Command.TheVariants as command
 use Rattle.exchange_model.proofs.Joint.Joint.{is_guarded_in}
 
 one-head : (b : ℕ) (bytes : List ℕ) (c : Command) → command_of (one_byte b bytes).cmd ≡ Some c → command_of b ≡ Some c
-one-head b [] c h = cc
-one-head b (d ∷ []) c h = cc
-one-head b (d ∷ x ∷ []) c h = cc
-one-head b (d ∷ x ∷ y ∷ []) c h = cc
-one-head b (d ∷ x ∷ y ∷ k ∷ []) c h = cc
 one-head b (d ∷ x ∷ y ∷ k ∷ k' ∷ []) c h = h
-one-head b (d ∷ x ∷ y ∷ k ∷ k' ∷ z ∷ bytes) c h = cc
+one-head b _ c h = cc
 
 pairs-head : (b : ℕ) (bytes : List ℕ) (c : Command) → command_of (pairs b bytes).cmd ≡ Some c → command_of b ≡ Some c
-pairs-head b [] c h = cc
-pairs-head b (d ∷ []) c h = cc
 pairs-head b (d ∷ d' ∷ []) c h = h
-pairs-head b (d ∷ d' ∷ x ∷ []) c h = cc
 pairs-head b (d ∷ d' ∷ x ∷ x' ∷ bytes) c h = pairs-head b bytes c h
+pairs-head b _ c h = cc
 
 frame-head : (one : Bool) (b : ℕ) (bytes : List ℕ) (c : Command) → command_of (if one then one_byte b bytes else pairs b bytes).cmd ≡ Some c → command_of b ≡ Some c
 frame-head true b bytes c h = one-head b bytes c h
@@ -39,11 +32,7 @@ guarded_by bytes c h = ap is_guarded_if h
 
 pub guarded_in : (c : Command) → is_guarded_in (phase_of c) ≡ is_guarded c
 guarded_in command.Reset = refl
-guarded_in command.Session = refl
-guarded_in command.Connection = refl
-guarded_in command.Parameter = refl
-guarded_in command.FailSafeData = refl
-guarded_in command.ProcessData = refl
+guarded_in _ = refl
 
 -- a frame with this command and load
 pub record IsFrame (l : ℕ) (c : Command) (load f : List ℕ) : Type 0 where
@@ -53,11 +42,7 @@ pub record IsFrame (l : ℕ) (c : Command) (load f : List ℕ) : Type 0 where
 
 pub command_back : (c : Command) → command_of (command_byte c) ≡ Some c
 command_back command.Reset = refl
-command_back command.Session = refl
-command_back command.Connection = refl
-command_back command.Parameter = refl
-command_back command.FailSafeData = refl
-command_back command.ProcessData = refl
+command_back _ = refl
 
 pub command_framed : (l : ℕ) (c : Command) (load f : List ℕ) → IsFrame l c load f → command_in f ≡ Some c
 command_framed l c load f h = ap command_in h.is ∙ command_back c
@@ -103,8 +88,7 @@ slave-gives ss e command.Reset load k n = absurd (n refl)
 slave-gives ss e command.Session load k n = Echoes _ refl (piece_frame (OfSlave ss) e command.Session _ (front_fits (OfSlave ss) _))
 slave-gives ss e command.Connection load k n = Echoes _ refl (piece_frame (OfSlave ss) e command.Connection _ (front_fits (OfSlave ss) load))
 slave-gives ss e command.Parameter load k n = Echoes _ refl (piece_frame (OfSlave ss) e command.Parameter _ (front_fits (OfSlave ss) load))
-slave-gives ss e command.FailSafeData load k n = Gives refl (data_framed (OfSlave ss) e k)
-slave-gives ss e command.ProcessData load k n = Gives refl (data_framed (OfSlave ss) e k)
+slave-gives ss e _ load k n = Gives refl (data_framed (OfSlave ss) e k)
 
 pub slave_sends : (ss : SlaveSettings) (e : List Deed) (bytes load : List ℕ) (c : Command) (f : List ℕ) → IsRun (OfSlave ss) e → Taking e bytes load (OfSlave ss) c f → c ≢ command.Reset → SlaveSends ss (received bytes c load e) c f
 slave_sends ss e bytes load c f r taking n = subst (SlaveSends ss (received bytes c load e) c) (sym (answer_is e bytes load (OfSlave ss) c f taking)) (slave-gives ss (received bytes c load e) c load (offer_len (OfSlave ss) e r) n)

@@ -18,11 +18,7 @@ offer_by l (Some bytes) = bytes
 
 put-after : (l : ℕ) (m : Move) (before : List ℕ) (put : Option (List ℕ)) → before ≡ offer_by l put → offer_after m before ≡ offer_by l (put_after m put)
 put-after l (move.Put load) before put h = refl
-put-after l (move.Deliver bytes) before put h = h
-put-after l move.Tick before put h = h
-put-after l (move.Hold failsafe) before put h = h
-put-after l (move.Nonce id) before put h = h
-put-after l move.Local before put h = h
+put-after l _ before put h = h
 
 put-head : (s : Setup) (which : End) (x : Entry) (w : List Entry) (mine : Bool) → offer s (deeds which w) ≡ offer_by (sends s) (last_put (of_end which w))
     → offer s (if mine then deed_in x ∷ deeds which w else deeds which w) ≡ offer_by (sends s) (last_put (if mine then x ∷ of_end which w else of_end which w))

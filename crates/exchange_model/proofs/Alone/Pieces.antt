@@ -18,11 +18,10 @@ front p c (suc k) = front p c k ++ padded (piece p c (suc k)) c
 
 -- the order of the phases: of n and n' pieces of both payloads, k and k' were sent
 abbrev pub InOrder : State → ℕ → ℕ → ℕ → ℕ → Type 0
-InOrder state.Reset k n k' n' = (k ≡ 0) × (k' ≡ 0)
-InOrder state.Session k n k' n' = (k ≡ 0) × (k' ≡ 0)
 InOrder state.Connection k n k' n' = k' ≡ 0
 InOrder state.Parameter k n k' n' = n ≤ k
 InOrder state.Data k n k' n' = (n ≤ k) × (n' ≤ k')
+InOrder _ k n k' n' = (k ≡ 0) × (k' ≡ 0)
 
 -- what a master sent in its session
 pub record Sent (ms : MasterSettings) (frames : List (List ℕ)) : Type 0 where
@@ -57,9 +56,7 @@ none_sent ms = record { connection = refl; parameters = refl; order = (refl, ref
 before-payloads : (now : State) (k n k' n' : ℕ) → is_guarded_in now ≡ false → InOrder now k n k' n' → (k ≡ 0) × (k' ≡ 0)
 before-payloads state.Reset k n k' n' g o = o
 before-payloads state.Session k n k' n' g o = o
-before-payloads state.Connection k n k' n' g o = cc
-before-payloads state.Parameter k n k' n' g o = cc
-before-payloads state.Data k n k' n' g o = cc
+before-payloads _ k n k' n' g o = cc
 
 sent-session : (ms : MasterSettings) (load f : List ℕ) (frames : List (List ℕ)) → IsFrame (sends (OfMaster ms)) command.Session load f → is_guarded_in (phase_sent frames) ≡ false → Sent ms frames → Sent ms (f ∷ frames)
 sent-session ms load f frames h g m =
@@ -163,13 +160,12 @@ session_own (x ∷ e) = session-own-by x e x.sent refl (session_own e)
 
 -- the newest frame is of the session, or a Reset frame
 pub session_phase : (frames : List (List ℕ)) → phase_sent (session frames) ≡ phase_sent frames
-session_phase [] = refl
-session_phase ([] ∷ frames) = refl
 session_phase ((b ∷ f) ∷ frames) =
     elim (eqb_tells b 0x2A) [
       | inl p ↦ simp p.0
       | inr p ↦ simp p.0
     ]
+session_phase _ = refl
 
 -- the same of what it had sent up to each of its frames
 abbrev pub AllSent : MasterSettings → List (List ℕ) → Type 0

@@ -18,11 +18,7 @@ use Rattle.exchange_model.proofs.Alone.Pieces.{deed}
 joined-taken : (phase : State) (n : ℕ) (c : Command) (load before : List ℕ) → c ≢ command.Reset
     → joined_with phase n (of_session (Some (record { command = c; load = load }))) before ≡ (if same_phase phase (phase_of c) then before ++ take n load else before)
 joined-taken phase n command.Reset load before h = absurd (h refl)
-joined-taken phase n command.Session load before h = refl
-joined-taken phase n command.Connection load before h = refl
-joined-taken phase n command.Parameter load before h = refl
-joined-taken phase n command.FailSafeData load before h = refl
-joined-taken phase n command.ProcessData load before h = refl
+joined-taken phase n _ load before h = refl
 
 part-taken : (phase : State) (l n : ℕ) (bytes load before : List ℕ) (c : Command) → phase_of_frame bytes ≡ phase_of c → (frame_of l bytes).load ≡ load
     → (if same_phase phase (phase_of c) then before ++ take n load else before) ≡ with_part phase l n bytes before
@@ -30,11 +26,7 @@ part-taken phase l n bytes load before c h k = simp (h, k)
 
 state-taken : (x : Deed) (e : List Deed) (c : Command) (load : List ℕ) → x.did.took ≡ Some (record { command = c; load = load }) → c ≢ command.Reset → phase_taken (x ∷ e) ≡ phase_of c
 state-taken x e command.Reset load h n = absurd (n refl)
-state-taken x e command.Session load h n = simp h
-state-taken x e command.Connection load h n = simp h
-state-taken x e command.Parameter load h n = simp h
-state-taken x e command.FailSafeData load h n = simp h
-state-taken x e command.ProcessData load h n = simp h
+state-taken x e _ load h n = simp h
 
 pub since_on : (x : Deed) (e : List Deed) → has_command command.Reset x.sent ≡ false → since (x ∷ e) ≡ x ∷ since e
 since_on x e h = simp h
@@ -66,10 +58,8 @@ record Passed (a b : Bool) : Type 0 where
   pub word : b ≡ false
 
 passed : (a watchdog b : Bool) (x y z : Code) (w : Option Code) → (if a then Some x else if watchdog then Some y else if b then Some z else w) ≡ None → Passed a b
-passed true watchdog b x y z w h = absurd (cc h)
-passed false true b x y z w h = absurd (cc h)
-passed false false true x y z w h = absurd (cc h)
 passed false false false x y z w h = record { version = refl; word = refl }
+passed _ _ _ x y z w h = absurd (cc h)
 
 first : (a b : Option Code) → option_or a b ≡ None → a ≡ None
 first None b h = refl

@@ -17,8 +17,7 @@ same_profile _ _ = false
 profiles : (a b : Profile) → same_profile a b ≡ true → a ≡ b
 profiles profile.One profile.One h = refl
 profiles (profile.Two a) (profile.Two b) h = ap profile.Two (eqb-true a b h)
-profiles profile.One (profile.Two b) h = cc
-profiles (profile.Two a) profile.One h = cc
+profiles _ _ h = cc
 
 abbrev terms_with : ℕ → ℕ → ℕ → List ℕ → Profile → Terms
 terms_with conn address watchdog app profile = record { conn = conn; address = address; watchdog = watchdog; app = app; profile = profile }
@@ -49,8 +48,7 @@ told_equal _ _ = false
 
 told : (a b : Option Terms) → told_equal a b ≡ true → IsSome a × (a ≡ b)
 told (Some a) (Some b) h = (refl, ap Some (equal_terms a b h))
-told None b h = cc
-told (Some a) None h = cc
+told _ _ h = cc
 
 -- whether two data commands are the same
 abbrev same_data : Command → Command → Bool
@@ -161,8 +159,7 @@ has_other_load l _ _ = false
 not_from : (l : ℕ) (t : Option Took) (told_after : Option Terms) (i : Option Item) → has_other_load l t i ≡ true → IsTakenFrom l t told_after i → ⊥
 not_from l (Some t) told_after (Some i) h from =
     other_text (load_in (frame_if l i.offered)) t.load (sym (is_not (pointwise nat_eq (load_in (frame_if l i.offered)) t.load) h)) (ap load_in from.same_load)
-not_from l (Some t) told_after None h from = cc
-not_from l None told_after i h from = cc
+not_from l _ told_after _ h from = cc
 
 -- whether the newest entry takes a data frame with another load
 abbrev pub takes_other_load : Lengths → List Entry → Bool

@@ -150,8 +150,7 @@ once-next : (which : End) (x : Entry) (w : List Entry) (ns : List ℕ) (mine tak
     → Once (items_of which (items w)) (items_of (peer which) (items w)) ns
     → Once (items_of which (items (x ∷ w))) (items_of (peer which) (items (x ∷ w))) (if mine && takes_some then with_number (awaited (items w) which) ns else ns)
 once-next which x w ns true true h k sending so_far = once-awaited which x w ns (awaited (items w) which) refl h (sending (took-some x.did.took k)) so_far
-once-next which x w ns true false h k sending so_far = once-theirs _ _ _ ns (grown (peer which) x w) (once-mine _ _ _ ns (grown which x w) so_far)
-once-next which x w ns false takes_some h k sending so_far = once-theirs _ _ _ ns (grown (peer which) x w) (once-mine _ _ _ ns (grown which x w) so_far)
+once-next which x w ns _ _ h k sending so_far = once-theirs _ _ _ ns (grown (peer which) x w) (once-mine _ _ _ ns (grown which x w) so_far)
 
 once : (ms : MasterSettings) (ss : SlaveSettings) (which : End) (w : List Entry) → IsWorld ms ss w → Once (items_of which (items w)) (items_of (peer which) (items w)) (numbers_taken which w)
 unfolding IsDistinct

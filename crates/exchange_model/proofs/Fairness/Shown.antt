@@ -20,11 +20,7 @@ in-data s e m d f _ = tt
 shown-by : (s : Setup) (n : ℕ) (now : State) (t : Terms) (c : Command) (load : List ℕ) → (c ≡ command.ProcessData → now ≡ state.Data)
     → outputs_by (zeros s) n (told_in now t) c load ≡ (if is_process c && nat_lt n t.watchdog then load else zeros s)
 shown-by s n now t command.ProcessData load h = subst (λ (now : State). outputs_by (zeros s) n (told_in now t) command.ProcessData load ≡ (if nat_lt n t.watchdog then load else zeros s)) (sym (h refl)) refl
-shown-by s n now t command.Reset load h = refl
-shown-by s n now t command.Session load h = refl
-shown-by s n now t command.Connection load h = refl
-shown-by s n now t command.Parameter load h = refl
-shown-by s n now t command.FailSafeData load h = refl
+shown-by s n now t _ load h = refl
 
 shown-at : (s : Setup) (e : List Deed) (n : ℕ) (took : Option Took) (told_before by_deeds : List ℕ) → IsInData s e took → told_before ≡ by_deeds
     → outputs_at (zeros s) n (told_in (state_of s e) (terms s e)) took told_before ≡ held_up s e n took by_deeds

@@ -16,19 +16,13 @@ use Rattle.exchange_model.proofs.Honest.Turns.{session_long, parameters_long, Pa
 
 answers-allowed : (c : Command) → is_reset c ≡ false → master_allows (phase_of c) c ≡ true
 answers-allowed command.Reset n = cc
-answers-allowed command.Session n = refl
-answers-allowed command.Connection n = refl
-answers-allowed command.Parameter n = refl
-answers-allowed command.FailSafeData n = refl
-answers-allowed command.ProcessData n = refl
+answers-allowed _ n = refl
 
 conn-right : (ms : MasterSettings) (id : ℕ) (e : List Deed) (c : Command) (a b d conn : ℕ) (load : List ℕ) → Replies ms id c a b d conn load → has_conn (OfMaster ms) e c conn ≡ true
 conn-right ms id e command.Reset a b d conn load k = absurd k
 conn-right ms id e command.Session a b d conn load k = eq-eqb conn 0 k.0
-conn-right ms id e command.Connection a b d conn load k = eq-eqb conn ms.conn k.0
-conn-right ms id e command.Parameter a b d conn load k = eq-eqb conn ms.conn k.0
-conn-right ms id e command.FailSafeData a b d conn load k = eq-eqb conn ms.conn k.0
 conn-right ms id e command.ProcessData a b d conn load k = eq-eqb conn ms.conn k
+conn-right ms id e _ a b d conn load k = eq-eqb conn ms.conn k.0
 
 pub id_of : (ms : MasterSettings) (id : ℕ) (e : List Deed) → id_sent (OfMaster ms) e ≡ Some id → session_id (OfMaster ms) e ≡ id
 id_of ms id e h = ap (λ o. unwrap_or o (nonce (OfMaster ms) e)) h
@@ -183,5 +177,4 @@ master_after ms id e w g c command.Session load made p a b d conn n h =
     record { phase = refl; session = ap suc h.session; connection = h.connection; parameters = h.parameters; id_is = ap (λ o. option_or o (Some (nonce (OfMaster ms) e))) h.id_is }
 master_after ms id e w g c command.Connection load made p a b d conn n h = record { phase = refl; session = h.session; connection = ap suc h.connection; parameters = h.parameters; id_is = h.id_is }
 master_after ms id e w g c command.Parameter load made p a b d conn n h = record { phase = refl; session = h.session; connection = h.connection; parameters = ap suc h.parameters; id_is = h.id_is }
-master_after ms id e w g c command.FailSafeData load made p a b d conn n h = record { phase = refl; session = h.session; connection = h.connection; parameters = h.parameters; id_is = h.id_is }
-master_after ms id e w g c command.ProcessData load made p a b d conn n h = record { phase = refl; session = h.session; connection = h.connection; parameters = h.parameters; id_is = h.id_is }
+master_after ms id e w g c _ load made p a b d conn n h = record { phase = refl; session = h.session; connection = h.connection; parameters = h.parameters; id_is = h.id_is }

@@ -61,11 +61,9 @@ fits_on s r u v conn c load f k o =
 -- the bytes of a frame
 pub groups_long : (load crcs : List ℕ) → length crcs ≡ length (groups load) → length (with_crcs (groups load) crcs) ≡ length load + 2 * length (groups load)
 groups_long [] crcs h = refl
-groups_long (d ∷ []) [] h = absurd (omega arith)
 groups_long (d ∷ []) (k ∷ []) h = refl
-groups_long (d ∷ []) (k ∷ k' ∷ crcs) h = absurd (omega arith)
-groups_long (d ∷ d' ∷ load) [] h = absurd (omega arith)
 groups_long (d ∷ d' ∷ load) (k ∷ crcs) h = let e = groups_long load crcs (omega arith) in omega arith
+groups_long (d ∷ _) _ h = absurd (omega arith)
 
 pub lengths_add : (l n m : ℕ) → IsTrue (is_length l) → n ≡ (l + 1) / 2 → m ≡ l + 2 * n → suc (m + 2) ≡ frame_len l
 lengths_add l n m h i j = elim (cases_eq l 1) [ inl one ↦ grind (arith, nat_tests) | inr other ↦ grind (arith, nat_tests) ]
@@ -105,11 +103,7 @@ link-more r f c load g v n = simp n
 
 pub head_on : (c : Command) → is_reset c ≡ false → has_command command.Reset (command_byte c ∷ []) ≡ false
 head_on command.Reset n = cc
-head_on command.Session n = refl
-head_on command.Connection n = refl
-head_on command.Parameter n = refl
-head_on command.FailSafeData n = refl
-head_on command.ProcessData n = refl
+head_on _ n = refl
 
 -- the next frame isn't the one that was taken last
 newer : (l : ℕ) (o : Option (List ℕ)) (g : List ℕ) (frames : List (List ℕ)) → has_command command.Reset g ≡ false → IsOtherThanNewest l (first_of (frame_of l g).crcs) frames → IsNewestIfAny o frames → o ≢ Some g

@@ -24,8 +24,7 @@ is-new (Some last) bytes n = decided _ refl
 first-passed : (s : Setup) (e : List Deed) (right again : Bool) (w : Opened) → right ≡ true → again ≡ false
     → judged s e (if right then (if again then opened_as.Drop dropped.Repeat else w) else opened_as.Drop dropped.Length) ≡ judged s e w
 first-passed s e true false w h i = refl
-first-passed s e true true w h i = cc
-first-passed s e false again w h i = cc
+first-passed s e _ _ w h i = cc
 
 -- what comes of the length, of the repeat and of the command
 abbrev read_as : Setup → List Deed → List ℕ → Option Command → Verdict
@@ -39,9 +38,7 @@ read s e bytes c is =
 
 session-passed : (a b k : Bool) → a ≡ true → b ≡ true → k ≡ true → session_fault a b k ≡ None
 session-passed true true true h i j = refl
-session-passed true true false h i j = cc
-session-passed true false k h i j = cc
-session-passed false b k h i j = cc
+session-passed _ _ _ h i j = cc
 
 of-session : (s : Setup) (e : List Deed) (bytes load : List ℕ) (c : Command) → IsValid s e bytes c load
     → judged s e (opened_as.OfSession (record { command = c; frame = parts s bytes })) ≡ Valid c (parts s bytes).load

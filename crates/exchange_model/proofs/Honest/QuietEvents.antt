@@ -55,10 +55,7 @@ master-tick ms e h = ap (λ (b : Bool). deed_of (OfMaster ms) e move.Tick (if b 
 slave-rests : (ss : SlaveSettings) (now : State) (b : Bool) → not (is_counted now && b) ≡ true → (if b then on_expiry now (OfSlave ss) else nothing) ≡ nothing
 slave-rests ss now false h = refl
 slave-rests ss state.Reset true h = refl
-slave-rests ss state.Session true h = cc
-slave-rests ss state.Connection true h = cc
-slave-rests ss state.Parameter true h = cc
-slave-rests ss state.Data true h = cc
+slave-rests ss _ true h = cc
 
 if-ticked : (had b : Bool) → had ≡ true → (if had then not b else b) ≡ true → b ≡ false
 if-ticked true b h k = off b k

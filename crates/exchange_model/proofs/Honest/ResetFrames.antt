@@ -1,6 +1,6 @@
 -- The Reset frame with code 0 passes all of its tests.
 use Rattle.exchange_model.proofs.Common.{Code, Deed, Frame, IsResetFrame, Setup, all_zero, bytes_of, code, command_of, count_crcs, count_groups, frame_len, frame_of, halves, is_length, kept, low_high, parts_made, receives, reset_crcs, reset_frame, reset_load, reset_view, since}
-use Rattle.std.proofs.Common.{◌≡◌, ℕ, zero, suc, ◌+◌, ◌-◌, ◌*◌, ◌/◌, ◌<◌, List, ◌∷◌, length, replicate, Bool, true, false, not, Some, None, Ok, Err, IsTrue, if◌then◌else◌, refl, sym, ap, subst, ◌∙◌, arith}
+use Rattle.std.proofs.Common.{◌≡◌, ℕ, zero, suc, ◌+◌, ◌-◌, ◌*◌, ◌/◌, ◌<◌, List, ◌∷◌, length, replicate, Bool, true, not, Some, None, Ok, Err, IsTrue, if◌then◌else◌, refl, sym, ap, subst, ◌∙◌, arith}
 use Rattle.std.proofs.lemmas.Bool.Decides.{nat_tests}
 use Rattle.std.proofs.lemmas.List.{length-replicate, length-append}
 use Rattle.std.specs.Cmp.Lexicographic.{bytes_decides}
@@ -55,9 +55,7 @@ reset-long l h =
 
 tested : (a b k : Bool) (x y z o : Code) → a ≡ true → b ≡ true → k ≡ true → (if not a then Err x else if not b then Err y else if not k then Err z else Ok o) ≡ Ok o
 tested true true true x y z o h i j = refl
-tested true true false x y z o h i j = cc
-tested true false k x y z o h i j = cc
-tested false b k x y z o h i j = cc
+tested _ _ _ x y z o h i j = cc
 
 view-is : (l : ℕ) → reset_view (zero_frame l) ≡ Ok (code 0)
 view-is l = tested _ _ _ (code 0x03) (code 0x04) (code 0x07) (code 0) refl ((bytes_decides (reset_crcs (zero_load l)) (reset_crcs (zero_load l))).1 refl) (zeros_all (l - 1))

@@ -165,9 +165,6 @@ event-goes ms r w (event.Deliver to back) events accepts world proper plain may 
     let t = and_parts (same_end to next) (in_turn (peer next) events) turn in
     let x : Goes ms r w (event.Deliver to back) (peer next) = deliver-goes ms r w next to back accepts world (sym (same to next t.0)) (eqb-true back 1 plain) stage in
     (x.0, x.1, Runs (peer next) (ticked-more x.0 w had) x.2 t.1)
-event-goes ms r w (event.Altered to back pos mask) events accepts world proper plain may ready = absurd (cc plain)
-event-goes ms r w (event.Raw to frame) events accepts world proper plain may ready = absurd (cc plain)
-event-goes ms r w (event.Local at) events accepts world proper plain may ready = absurd (cc plain)
 event-goes ms r w (event.Tick end_name.Master) events accepts world proper plain may (Waits none idle turn first) =
     let x = first_tick ms r w may none idle in
     (x.0, x.1, Runs end_name.Slave x.2 x.3 turn)
@@ -181,6 +178,7 @@ event-goes ms r w (event.Hold at failsafe) events accepts world proper plain may
     (quiet_entry ms r w at (move.Hold failsafe), quiet_enters ms r w (event.Hold at failsafe) (move.Hold failsafe) (quiet_hold ms r w at failsafe), quiet-ready ms r w at (move.Hold failsafe) (event.Hold at failsafe) events refl refl refl (λ n. refl) ready)
 event-goes ms r w (event.Nonce at id) events accepts world proper plain may ready =
     (quiet_entry ms r w at (move.Nonce id), quiet_enters ms r w (event.Nonce at id) (move.Nonce id) (quiet_nonce ms r w at id proper), quiet-ready ms r w at (move.Nonce id) (event.Nonce at id) events refl refl refl (λ n. refl) ready)
+event-goes ms r w _ events accepts world proper plain may ready = absurd (cc plain)
 
 -- along the events
 pub serves_on : (ms : MasterSettings) (r : Partner ms) (events : List Event) (w : List Entry) → Accepts ms r → Served ms r w → Ready ms r w events → All (IsProperEvent ms (partner ms r)) events

@@ -13,7 +13,7 @@ use Rattle.exchange_model.proofs.Alone.Framed.{piece_fits, command_back}
 use Rattle.exchange_model.proofs.Honest.OnItsWay.{OnItsWay, fits_on, answering}
 use Rattle.exchange_model.proofs.Alone.Pieces.{front, piece_short, take_padded, piece_filled}
 use Rattle.exchange_model.proofs.Honest.ResetFrames.{some_bytes, zeros_all}
-use Rattle.exchange_model.proofs.Honest.Turns.{session_long, Partner, master_of, slave_of, width, session_pieces, connection_pieces, parameter_pieces, Turn, Starts, MoreSession, FirstConnection, MoreConnection, FirstParameter, MoreParameter, FirstZeros, FirstValues, MoreZeros, MoreValues, conn_after, SlaveAt, partner, more}
+use Rattle.exchange_model.proofs.Honest.Turns.{session_long, Partner, master_of, slave_of, width, session_pieces, connection_pieces, parameter_pieces, Turn, Starts, MoreSession, FirstConnection, MoreConnection, FirstParameter, MoreParameter, FirstZeros, FirstValues, conn_after, SlaveAt, partner, more}
 use Rattle.exchange_model.proofs.Honest.UploadTests.{session_passes, connection_passes, parameters_pass, parameters_count}
 use Rattle.std.specs.Option.{option_or}
 use Rattle.std.proofs.lemmas.List.{length-replicate, length-take, length-drop}
@@ -57,7 +57,6 @@ allows_at ms c p v = slave_allows p (whole ms.profile p (joined p (width ms) v))
 
 turn-allowed : (ms : MasterSettings) (id : ℕ) (v : List Deed) (c : Command) (p : State) (a b d k : ℕ) → SlaveAt ms id v p a b d
     → Turn (session_pieces ms) (connection_pieces ms) (parameter_pieces ms) c p a b d k → allows_at ms c p v
-turn-allowed ms id v c p a b d k h Starts = refl
 turn-allowed ms id v c p a b d k h (MoreSession _ g) =
     ap not (not-done (id_len ms.profile) (width ms) a (joined state.Session (width ms) v) (some_width ms) g (ap length h.session ∙ front_long _ (width ms) a))
 turn-allowed ms id v c p a b d k h FirstConnection = done (id_len ms.profile) (width ms) (joined state.Session (width ms) v) (some_width ms) (ap length h.session ∙ front_long _ (width ms) a)
@@ -67,8 +66,7 @@ turn-allowed ms id v c p a b d k h (FirstParameter _ e) = done 4 (width ms) (joi
 turn-allowed ms id v c p a b d k h (MoreParameter _ _ g e) = ap not (loaded ms id v p a b d h ∙ not-done (id_len ms.profile + 4 + length ms.app) (width ms) d (joined state.Parameter (width ms) v) (some_width ms) g (ap length h.parameters ∙ front_long _ (width ms) d))
 turn-allowed ms id v c p a b d k h (FirstZeros _ e) = loaded ms id v p a b d h ∙ done (id_len ms.profile + 4 + length ms.app) (width ms) (joined state.Parameter (width ms) v) (some_width ms) (ap length h.parameters ∙ front_long _ (width ms) d)
 turn-allowed ms id v c p a b d k h (FirstValues _ e) = loaded ms id v p a b d h ∙ done (id_len ms.profile + 4 + length ms.app) (width ms) (joined state.Parameter (width ms) v) (some_width ms) (ap length h.parameters ∙ front_long _ (width ms) d)
-turn-allowed ms id v c p a b d k h (MoreZeros _ e) = refl
-turn-allowed ms id v c p a b d k h (MoreValues _ e) = refl
+turn-allowed ms id v c p a b d k h _ = refl
 
 -- what a slave has with the frame begins the payload
 begun-with : (p : List ℕ) (c k l : ℕ) (before load : List ℕ) → 0 < c → c ≤ l → before ≡ front p c k → load ≡ padded (piece p c (suc k)) l → IsBegun (before ++ take c load) p
@@ -117,10 +115,8 @@ has-conn : (ms : MasterSettings) (r : Partner ms) (id : ℕ) (e : List Deed) (c 
     → has_conn (slave_of ms r) e c conn ≡ true
 has-conn ms r id e command.Reset p a b d conn load h k = absurd k
 has-conn ms r id e command.Session p a b d conn load h k = eq-eqb conn 0 k.0
-has-conn ms r id e command.Connection p a b d conn load h k = conn-fits ms id (since e) p a b d conn h k.0
-has-conn ms r id e command.Parameter p a b d conn load h k = conn-fits ms id (since e) p a b d conn h k.0
-has-conn ms r id e command.FailSafeData p a b d conn load h k = conn-fits ms id (since e) p a b d conn h k.0
 has-conn ms r id e command.ProcessData p a b d conn load h k = conn-fits ms id (since e) p a b d conn h k
+has-conn ms r id e _ p a b d conn load h k = conn-fits ms id (since e) p a b d conn h k.0
 
 -- the frame in turn passes all tests of the slave
 pub slave_valid : (ms : MasterSettings) (r : Partner ms) (id : ℕ) (u e : List Deed) (c : Command) (p : State) (a b d k conn : ℕ) (load f : List ℕ) → Accepts ms r → OnItsWay (master_of ms) (slave_of ms r) u (since e) conn c load f
@@ -264,12 +260,7 @@ some_conn n n' n'' c p a b d k h Starts = tt
 some_conn n n' n'' c p a b d k h (MoreSession _ g) = tt
 some_conn n n' n'' c p a b d k h FirstConnection = tt
 some_conn n n' n'' c p a b d k h (MoreConnection _ _ g e) = tt
-some_conn n n' n'' c p a b d k h (FirstParameter _ e) = h
-some_conn n n' n'' c p a b d k h (MoreParameter _ _ g e) = h
-some_conn n n' n'' c p a b d k h (FirstZeros _ e) = h
-some_conn n n' n'' c p a b d k h (FirstValues _ e) = h
-some_conn n n' n'' c p a b d k h (MoreZeros _ e) = h
-some_conn n n' n'' c p a b d k h (MoreValues _ e) = h
+some_conn n n' n'' c p a b d k h _ = h
 
 conn-known : (ms : MasterSettings) (r : Partner ms) (id : ℕ) (e : List Deed) (f load : List ℕ) (c : Command) (p : State) (a b d : ℕ) → is_reset c ≡ false → 0 < b → SlaveAt ms id (answering f c load [] ∷ since e) p a b d
     → conn_id (slave_of ms r) (received f c load e) ≡ ms.conn

@@ -81,11 +81,7 @@ none_other a b mine theirs f h = all-three a b (has_bytes f (answer_among mine (
 -- a frame that is taken is of data exactly where its phase is Data
 pub data_phase_taken : (c : Command) (load : List ℕ) → is_some (data_taken (Some (record { command = c; load = load }))) ≡ same_phase state.Data (phase_of c)
 data_phase_taken command.Reset load = refl
-data_phase_taken command.Session load = refl
-data_phase_taken command.Connection load = refl
-data_phase_taken command.Parameter load = refl
-data_phase_taken command.FailSafeData load = refl
-data_phase_taken command.ProcessData load = refl
+data_phase_taken _ load = refl
 
 -- the entry of a delivery
 pub delivered_entry : (s : Setup) (e : List Deed) (frames older : List (List ℕ)) (f : List ℕ) (d : Deed) → frames ≡ f ∷ older → step s e (move.Deliver f) ≡ d → entry_on s e (delivery (back_th 1 frames)) ≡ Some (entry_of s e d)

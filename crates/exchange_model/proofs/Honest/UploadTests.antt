@@ -15,10 +15,8 @@ number-back : (n : ℕ) → n % 256 + 256 * (n / 256) ≡ n
 number-back n = omega arith
 
 not-failing : (a b holds : Bool) → (b ≡ true → holds ≡ true) → (a && b && not holds) ≡ false
-not-failing true true true h = refl
 not-failing true true false h = let k : false ≡ true = h refl in cc
-not-failing true false holds h = refl
-not-failing false b holds h = refl
+not-failing _ _ _ h = refl
 
 -- a field that holds wherever its last byte has come doesn't fail
 no-fault : (before : ℕ) (u : List ℕ) (last : ℕ) (holds : Bool) → (last < length u → holds ≡ true) → fails before u last holds ≡ false
@@ -26,15 +24,11 @@ no-fault before u last holds h = not-failing (nat_le before last) (nat_lt last (
 
 two-pass : (a b : Bool) (x y : Code) → a ≡ false → b ≡ false → (if a then Some x else if b then Some y else None) ≡ None
 two-pass false false x y h i = refl
-two-pass false true x y h i = cc
-two-pass true b x y h i = cc
+two-pass _ _ x y h i = cc
 
 four-pass : (a b c d : Bool) (x y z w : Code) → a ≡ false → b ≡ false → c ≡ false → d ≡ false → (if a then Some x else if b then Some y else if c then Some z else if d then Some w else None) ≡ None
 four-pass false false false false x y z w h i j k = refl
-four-pass false false false true x y z w h i j k = cc
-four-pass false false true d x y z w h i j k = cc
-four-pass false true c d x y z w h i j k = cc
-four-pass true b c d x y z w h i j k = cc
+four-pass _ _ _ _ x y z w h i j k = cc
 
 one-passes : (a : Bool) (x : Code) → a ≡ false → (if a then Some x else None) ≡ None
 one-passes false x h = refl
@@ -42,8 +36,7 @@ one-passes true x h = cc
 
 both-zero : (a b : Bool) (x : Code) → a ≡ true → b ≡ true → (if a && b then None else Some x) ≡ None
 both-zero true true x h i = refl
-both-zero true false x h i = cc
-both-zero false b x h i = cc
+both-zero _ _ x h i = cc
 
 none-of : (a b : Option Code) → a ≡ None → b ≡ None → option_or a b ≡ None
 none-of a b h i = ap₂ option_or h i

@@ -84,13 +84,12 @@ awaited_found (i ∷ mine) theirs j num others h = subst (λ (n : ℕ). Found n 
 -- equal bytes are the same
 pub same_bytes : (xs ys : List ℕ) → pointwise nat_eq xs ys ≡ true → xs ≡ ys
 same_bytes [] [] h = refl
-same_bytes [] (y ∷ ys) h = cc
-same_bytes (x ∷ xs) [] h = cc
 same_bytes (x ∷ xs) (y ∷ ys) h =
     let p = and_parts (nat_eq x y) (pointwise nat_eq xs ys) h in
     let a : x ≡ y = eqb-true x y p.0 in
     let b : xs ≡ ys = same_bytes xs ys p.1 in
     cc
+same_bytes _ _ h = cc
 
 -- an item that is there, with these bytes
 pub record Is (bytes : List ℕ) (o : Option Item) : Type 0 where

@@ -13,9 +13,7 @@ use Rattle.exchange_model.proofs.Joint.Awaited.{up_to, up_to_all, newest_phase, 
 abbrev pub is_guarded_in : State → Bool
 is_guarded_in state.Reset = false
 is_guarded_in state.Session = false
-is_guarded_in state.Connection = true
-is_guarded_in state.Parameter = true
-is_guarded_in state.Data = true
+is_guarded_in _ = true
 
 -- whether a slave uploads in this phase what the law speaks of
 abbrev pub is_loading : State → Bool

@@ -71,15 +71,13 @@ carried_is ms ss phase found h =
 -- a master in state Session has sent nothing of a connection or of parameters
 none-sent : (ms : MasterSettings) (ss : SlaveSettings) (m : List Item) (phase : State) → SameLengths ms ss → is_loading phase ≡ true → Sent ms (session (bytes_in m)) → phase_sent (session (bytes_in m)) ≡ state.Session
     → carried phase (receives (OfSlave ss)) (piece_len (OfSlave ss)) m ≡ []
-none-sent ms ss m state.Reset same k h now = cc
-none-sent ms ss m state.Session same k h now = cc
 none-sent ms ss m state.Connection same k h now =
     let z = order_at _ state.Session _ _ _ _ now h.order in
     carried_is ms ss state.Connection m same ∙ (h.connection ∙ ap (front (connection_of ms) (piece_len (OfMaster ms))) z.0)
 none-sent ms ss m state.Parameter same k h now =
     let z = order_at _ state.Session _ _ _ _ now h.order in
     carried_is ms ss state.Parameter m same ∙ (h.parameters ∙ ap (front (parameters_of ms) (piece_len (OfMaster ms))) z.1)
-none-sent ms ss m state.Data same k h now = cc
+none-sent ms ss m _ same k h now = cc
 
 -- the frames of a master's session, by its items and by its deeds
 session-frames : (w : List Entry) → session (bytes_in (items_of end_name.Master (items w))) ≡ own (since (deeds end_name.Master w))
@@ -153,9 +151,7 @@ slave-resets ms ss w m d n h =
 session-allowed : (now : State) (done : Bool) → slave_allows now done command.Session ≡ true → is_guarded_in now ≡ false
 session-allowed state.Reset done h = refl
 session-allowed state.Session done h = refl
-session-allowed state.Connection done h = cc
-session-allowed state.Parameter done h = cc
-session-allowed state.Data done h = cc
+session-allowed _ done h = cc
 
 -- the phase of a slave's answer
 answer-phase : (ss : SlaveSettings) (e : List Deed) (c : Command) (f : List ℕ) → SlaveSends ss e c f → phase_of_frame f ≡ phase_of c
@@ -164,19 +160,14 @@ answer-phase ss e c f (Gives d g) = data_phase (OfSlave ss) e f g ∙ sym (phase
 
 -- a frame of the session id brings nothing of a connection or of parameters
 unloaded : (phase : State) (l c : ℕ) (bytes before : List ℕ) → is_loading phase ≡ true → phase_of_frame bytes ≡ state.Session → before ≡ [] → with_part phase l c bytes before ≡ []
-unloaded state.Reset l c bytes before k h e = cc
-unloaded state.Session l c bytes before k h e = cc
 unloaded state.Connection l c bytes before k h e = simp h e
 unloaded state.Parameter l c bytes before k h e = simp h e
-unloaded state.Data l c bytes before k h e = cc
+unloaded _ l c bytes before k h e = cc
 
 unguarded-is : (c : Command) → c ≢ command.Reset → is_guarded c ≡ false → c ≡ command.Session
 unguarded-is command.Reset n g = absurd (n refl)
 unguarded-is command.Session n g = refl
-unguarded-is command.Connection n g = cc
-unguarded-is command.Parameter n g = cc
-unguarded-is command.FailSafeData n g = cc
-unguarded-is command.ProcessData n g = cc
+unguarded-is _ n g = cc
 
 -- all that is known of a slave that takes a frame of a session and answers it
 record SlaveTakes (ms : MasterSettings) (ss : SlaveSettings) (w : List Entry) (bytes load : List ℕ) (c : Command) (f : List ℕ) : Type 0 where

@@ -16,25 +16,17 @@ pub record Taken (x : Entry) (bytes : List ℕ) (c : Command) (load : List ℕ) 
 
 not-other : (p a b : Bool) → (p && a && not b) ≡ false → p ≡ true → a ≡ true → b ≡ true
 not-other true true true h x y = refl
-not-other true true false h x y = cc
-not-other true false b h x y = cc
-not-other false a b h x y = cc
+not-other _ _ _ h x y = cc
 
 guarded-passed : (c : Command) → is_guarded c ≡ true → not (is_reset c) ≡ true
 guarded-passed command.Reset h = cc
 guarded-passed command.Session h = cc
-guarded-passed command.Connection h = refl
-guarded-passed command.Parameter h = refl
-guarded-passed command.FailSafeData h = refl
-guarded-passed command.ProcessData h = refl
+guarded-passed _ h = refl
 
 pub data_guarded : (c : Command) → is_data c ≡ true → is_guarded c ≡ true
-data_guarded command.Reset h = cc
-data_guarded command.Session h = cc
-data_guarded command.Connection h = cc
-data_guarded command.Parameter h = cc
 data_guarded command.FailSafeData h = refl
 data_guarded command.ProcessData h = refl
+data_guarded _ h = cc
 
 -- a guarded frame that was taken is the awaited item
 pub is_awaited : (w : List Entry) (x : Entry) (bytes : List ℕ) (c : Command) (load : List ℕ) → Taken x bytes c load → command_in bytes ≡ Some c → is_guarded c ≡ true → is_other (items w) x ≡ false → Is bytes (awaited (items w) x.end)
@@ -81,8 +73,7 @@ pub record NoneOther (x : Entry) (w : List Entry) : Type 0 where
 
 none-of-both : (x : Entry) (w : List Entry) (first : Option ℕ) (other : Bool) (n : ℕ) → first_other w ≡ first → is_other (items w) x ≡ other → first_of_both first other n ≡ None → NoneOther x w
 none-of-both x w None false n h k e = record { here = k; before = h }
-none-of-both x w None true n h k e = cc
-none-of-both x w (Some first) other n h k e = cc
+none-of-both x w _ _ n h k e = cc
 
 pub none_other : (x : Entry) (w : List Entry) → NoOther (x ∷ w) → NoneOther x w
 none_other x w h = none-of-both x w (first_other w) (is_other (items w) x) (suc (length w)) refl refl h

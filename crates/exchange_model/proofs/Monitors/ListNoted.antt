@@ -17,9 +17,8 @@ last_sent_more (j ∷ found) i = ap (λ o. later o j.sent) (last_sent_more found
 
 chosen-later : (b c : Bool) (o : Option Sent) (s t : Sent) → (if b then later (if c then Some s else o) t else (if c then Some s else o)) ≡ (if c then Some s else (if b then later o t else o))
 chosen-later true true o s t = refl
-chosen-later true false o s t = refl
 chosen-later false true o s t = refl
-chosen-later false false o s t = refl
+chosen-later _ _ o s t = refl
 
 pub last_answer_more : (n : ℕ) (found : List Listed) (i : Listed) → last_answer n (found ++ (i ∷ [])) ≡ (if is_answer_to n i then Some i.sent else last_answer n found)
 last_answer_more n [] i = refl

@@ -115,8 +115,7 @@ own-kept which x w h = own-kept-by which x w (is_empty x.sent) h refl
 -- its peer
 chosen : (b c : Bool) (i : Item) (o : Option Item) → sent_of (if b && c then Some i else o) ≡ (if b && c then sent_of (Some i) else sent_of o)
 chosen true true i o = refl
-chosen true false i o = refl
-chosen false c i o = refl
+chosen _ _ i o = refl
 
 unanswered : (b : Bool) (s o : Option Sent) → o ≡ (if b && false then s else o)
 unanswered true s o = refl

@@ -1,6 +1,6 @@
 -- Where a bit of an end's outputs is 1, its peer offered it as 1 not long ago; and the watchdog that the end tells is
 -- the master's.
-use Rattle.exchange_model.proofs.Common.{Deed, End, Entry, FailSafe, IsFromItem, IsRun, IsTakenFrom, IsWorld, Item, MasterSettings, NoOther, Offered, SameLengths, Setup, SlaveSettings, State, Terms, Took, Unset, Values, WasOffered, awaited, data_taken, deed_in, deeds, frame_if, frame_with, in_time, is_data_frame, items, next_offered, of_end, offered_of, offers_bit, outputs_due, received_len, receives, same_end, setup_of, state_of, terms, terms_of, ticked, ticks, ticks_of, told_in, told_terms}
+use Rattle.exchange_model.proofs.Common.{Deed, End, Entry, IsFromItem, IsRun, IsTakenFrom, IsWorld, Item, MasterSettings, NoOther, Offered, SameLengths, Setup, SlaveSettings, State, Terms, Took, Values, WasOffered, awaited, data_taken, deed_in, deeds, frame_if, frame_with, in_time, is_data_frame, items, next_offered, of_end, offered_of, offers_bit, outputs_due, received_len, receives, same_end, setup_of, state_of, terms, terms_of, ticked, ticks, ticks_of, told_in, told_terms}
 use Rattle.std.proofs.Common.{◌≡◌, ℕ, ◌+◌, ◌-◌, ◌*◌, ◌<◌, ◌≤◌, nat_lt, List, ◌∷◌, ◌++◌, replicate, Bool, true, false, Option, Some, None, IsSomeAnd, if◌then◌else◌, refl, ap, sym, subst, ◌∙◌, append_assoc, arith}
 use Rattle.std.proofs.lemmas.Bool.{ltb-true}
 use Rattle.fsoe_base.specs.declared.command.End.TheVariants as end_name
@@ -30,9 +30,8 @@ tells s e t now h = ap (λ (now : State). told_in now (terms s e)) now ∙ ap So
 
 -- an item with a bit as 1 was sent as data, and its end offered that bit
 offers-of : (l bit : ℕ) (o : Offered) → bit_of (frame_with l o).load bit ≡ true → offers_bit bit o ≡ true
-offers-of l bit FailSafe h = absurd (none_of_zeros l bit h)
 offers-of l bit (Values bytes) h = h
-offers-of l bit Unset h = absurd (none_of_zeros l bit h)
+offers-of l bit _ h = absurd (none_of_zeros l bit h)
 
 record OffersBit (bit : ℕ) (frame : List ℕ) (e : List Entry) : Type 0 where
   pub sent_data : is_data_frame frame ≡ true

@@ -17,27 +17,15 @@ older_clean (x ∷ later) w n = let o : NoneOther x (later ++ w) = none_other x 
 -- a tick more is one more of the whole, and of either part
 pub ticked_left : (m : Move) (a b : ℕ) → ticked m (a + b) ≡ ticked m a + b
 ticked_left move.Tick a b = omega arith
-ticked_left (move.Deliver bytes) a b = refl
-ticked_left (move.Put load) a b = refl
-ticked_left (move.Hold failsafe) a b = refl
-ticked_left (move.Nonce id) a b = refl
-ticked_left move.Local a b = refl
+ticked_left _ a b = refl
 
 pub ticked_across : (m : Move) (a b : ℕ) → ticked m a + b ≡ a + ticked m b
 ticked_across move.Tick a b = omega arith
-ticked_across (move.Deliver bytes) a b = refl
-ticked_across (move.Put load) a b = refl
-ticked_across (move.Hold failsafe) a b = refl
-ticked_across (move.Nonce id) a b = refl
-ticked_across move.Local a b = refl
+ticked_across _ a b = refl
 
 pub ticked_most : (m : Move) (a b : ℕ) → a ≤ b → ticked m a ≤ ticked m b
 ticked_most move.Tick a b h = omega arith
-ticked_most (move.Deliver bytes) a b h = h
-ticked_most (move.Put load) a b h = h
-ticked_most (move.Hold failsafe) a b h = h
-ticked_most (move.Nonce id) a b h = h
-ticked_most move.Local a b h = h
+ticked_most _ a b h = h
 
 ticks-head : (m : Move) (mine : Bool) (both a b : ℕ) → both ≡ a + b → (if mine then ticked m both else both) ≡ (if mine then ticked m a else a) + b
 ticks-head m true both a b h = ap (ticked m) h ∙ ticked_left m a b

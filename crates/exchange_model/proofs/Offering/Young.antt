@@ -1,5 +1,5 @@
 -- An end takes data before its watchdog expires: the watchdog in the terms that it tells then.
-use Rattle.exchange_model.proofs.Common.{Answers, Command, Deed, Did, IsRun, Move, OfMaster, OfSlave, Reaction, Setup, SlaveFirstData, SlaveGoesOn, SlaveMoreData, SlaveNextPhase, SlaveRejoins, SlaveSettings, SlaveStarts, State, Taking, Took, age, data_after, data_taken, handshake-data, is_data, limit, next-data, number_at, phase_of_data, slave_age, slave_limit, state_of, terms, ticked, ticks, upload_is_whole, uploaded, whole, with_answer}
+use Rattle.exchange_model.proofs.Common.{Answers, Command, Deed, Did, IsRun, Move, OfMaster, OfSlave, Reaction, Setup, SlaveFirstData, SlaveGoesOn, SlaveMoreData, SlaveNextPhase, SlaveSettings, State, Taking, Took, age, data_after, data_taken, handshake-data, is_data, limit, next-data, number_at, phase_of_data, slave_age, slave_limit, state_of, terms, ticked, ticks, upload_is_whole, uploaded, whole, with_answer}
 use Rattle.std.proofs.Common.{◌≡◌, ◌≢◌, ℕ, ◌<◌, List, ◌∷◌, Bool, true, false, Some, None, if◌then◌else◌, refl, sym, ap, ◌∙◌, arith}
 use Rattle.fsoe_base.specs.declared.command.State.TheVariants as state
 use Rattle.fsoe_base.specs.declared.command.Command.TheVariants as command
@@ -36,12 +36,11 @@ in-state s e p h n = λ k. n (sym h ∙ k)
 
 slave-takes : (ss : SlaveSettings) (e : List Deed) (bytes load f : List ℕ) (c : Command) → IsRun (OfSlave ss) e → is_data c ≡ true → Taking e bytes load (OfSlave ss) c f
     → ticks (OfSlave ss) e < (terms (OfSlave ss) (with_answer bytes c load f e)).watchdog
-slave-takes ss e bytes load f c r d (SlaveRejoins _ now none frame) = absurd (cc d)
-slave-takes ss e bytes load f c r d (SlaveStarts _ _ now none x) = absurd (cc d)
 slave-takes ss e bytes load f c r d (SlaveGoesOn _ _ _ is now part x) = absurd (handshake-data c is (phase_of_data c d))
 slave-takes ss e bytes load f c r d (SlaveNextPhase _ before _ _ is now whole x) = absurd (next-data before c is (phase_of_data c d))
 slave-takes ss e bytes load f c r d (SlaveFirstData _ _ _ is now whole x) = slave-young ss e bytes load f c r d (in-state (OfSlave ss) e state.Parameter now (λ k. cc)) whole x.in_session
 slave-takes ss e bytes load f c r d (SlaveMoreData _ _ _ is now whole x) = slave-young ss e bytes load f c r d (in-state (OfSlave ss) e state.Data now (λ k. cc)) whole x.in_session
+slave-takes ss e bytes load f c r d _ = absurd (cc d)
 
 takes-young : (s : Setup) (e : List Deed) (bytes load f : List ℕ) (c : Command) → IsRun s e → is_data c ≡ true → Taking e bytes load s c f → ticks s e < (terms s (with_answer bytes c load f e)).watchdog
 takes-young (OfMaster ms) e bytes load f c r d taking = age_below (OfMaster ms) e r

@@ -90,11 +90,10 @@ same-terms conn address watchdog conn' address' watchdog' app app' p p' s t h k 
 agree-in : (ms : MasterSettings) (q p : Profile) (zc zp : List ℕ) → number_at 0 (parameters_in ms p ++ zp) ≡ id_len q → word_is q (parameters_in ms p ++ zp) ≡ true
     → terms_in q (connection_of ms ++ zc) (parameters_in ms p ++ zp) ≡ terms_with ms p
 agree-in ms profile.One profile.One zc zp v w = same-terms _ _ _ _ _ _ _ _ _ _ _ _ refl refl (number-back ms.conn) (number-back ms.address) (number-back ms.watchdog) (app-back ms.app zp) refl
-agree-in ms profile.One (profile.Two word) zc zp v w = absurd (omega arith)
-agree-in ms (profile.Two word) profile.One zc zp v w = absurd (omega arith)
 agree-in ms (profile.Two word) (profile.Two word') zc zp v w =
     let k : word' ≡ word = sym (number-back word') ∙ eqb-true _ word w in
     same-terms _ _ _ _ _ _ _ _ _ _ _ _ refl refl (number-back ms.conn) (number-back ms.address) (number-back ms.watchdog) (app-back ms.app zp) (ap (λ w. profile.Two w) (sym k))
+agree-in ms _ _ zc zp v w = absurd (omega arith)
 
 six : (ms : MasterSettings) (p : Profile) (zp : List ℕ) → 6 ≤ length (parameters_in ms p ++ zp)
 six ms profile.One zp = omega arith

@@ -8,10 +8,9 @@ use Rattle.schedule_file.specs.declared.event.Event.TheVariants as event
 use Rattle.end_model.proofs.Runs.{run_append}
 
 pub same : (a b : End) → same_end a b ≡ true → b ≡ a
-same end_name.Master end_name.Master h = refl
-same end_name.Slave end_name.Slave h = refl
 same end_name.Master end_name.Slave h = cc
 same end_name.Slave end_name.Master h = cc
+same _ _ h = refl
 
 -- the deed of the next entry is the next step
 pub next_deed : (s : Setup) (x : Entry) (e : List Deed) → IsNextEntry s x e → deed_in x ≡ step s e x.what
@@ -100,12 +99,9 @@ move_proper : (ms : MasterSettings) (ss : SlaveSettings) (frames : List (List �
     → IsProperIfAny (setup_of ms ss (end_of_event event)) (move_from frames event)
 move_proper ms ss frames (event.Deliver to back) proper = delivery_proper (setup_of ms ss to) (back_th back frames)
 move_proper ms ss frames (event.Altered to back pos mask) proper = altered_proper (setup_of ms ss to) pos mask (back_th back frames)
-move_proper ms ss frames (event.Raw to frame) proper = tt
-move_proper ms ss frames (event.Tick at) proper = tt
 move_proper ms ss frames (event.Put at load) proper = proper
-move_proper ms ss frames (event.Hold at failsafe) proper = tt
 move_proper ms ss frames (event.Nonce at id) proper = proper
-move_proper ms ss frames (event.Local at) proper = tt
+move_proper ms ss frames _ proper = tt
 
 entry_is_next : (ms : MasterSettings) (ss : SlaveSettings) (at : End) (w : List Entry) (what : Option Move) → IsProperIfAny (setup_of ms ss at) what
     → IsNextIfAny ms ss w (entry_on (setup_of ms ss at) (deeds at w) what)
