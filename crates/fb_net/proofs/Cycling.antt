@@ -1,9 +1,6 @@
 -- A cycle of a net.
-use Rattle.fb_net.proofs.Common.{AllReady, BlockSpec, BlocksStand, Drive, KeepsPlan, NetBlock, NetCycle, NetFollows, NetGives, NetView, bit_at, bits_on, driven_images, holds_of, is_output_guarded, net_rule, plan, run_blocks, run_values}
+use Rattle.fb_net.proofs.Common.{BlockSpec, BlocksStand, Drive, KeepsPlan, NetBlock, NetCycle, NetFollows, NetGives, NetView, bit_at, bits_on, driven_images, holds_of, is_output_guarded, net_rule, plan, run_blocks, run_values}
 use Rattle.std.proofs.Common.{◌≡◌, ℕ, Bool, List, [], ◌∷◌, map, length, sym, ap, ap₂, subst, ◌∙◌}
-use Rattle.std.specs.declared.vec.Vec.{Vec}
-use Rattle.std.specs.Vec.{with_items}
-use Rattle.std.proofs.lemmas.List.{with_items_is}
 use Rattle.failsafe_io.specs.Application.{GuardsBy}
 use Rattle.fb_net.specs.Meaning.{net_holds, rule_of, guards_of}
 use Rattle.fb_net.specs.Ran.{net_answer, Ran}
@@ -62,19 +59,3 @@ guarded old new c lens outputs ran = λ o i g zero_in.
     ap (λ (xs : List (List ℕ)). bit_at xs o) ran.outputs ∙ off_output old.drives old.blocks c lens o i ran.ready g zero_in
 
 -- what the two calls of a cycle come to
-pub ran_is : {Z W : Type 0} (blocks : Vec BlockSpec Z) (drives : Vec Drive W) (old : NetView) (c : NetCycle) (lens : List ℕ) (lent made : List BlockSpec) (ds : List Drive) (values read : List Bool) (outputs : List (List ℕ))
-    → old ≡ record { blocks = blocks.items; drives = drives.items } → AllReady blocks.items → lent ≡ blocks.items → length made ≡ blocks.len
-    → made ≡ run_blocks [] c lent → values ≡ run_values [] c lent → read ≡ values → ds ≡ drives.items → outputs ≡ driven_images ds read c.inputs lens
-    → Ran old c lens (record { blocks = (with_items blocks made).items; drives = drives.items }) outputs
-ran_is blocks drives old c lens lent made ds values read outputs is ready lent_is same made_is values_are read_is ds_is outputs_are =
-    let old_blocks : old.blocks ≡ blocks.items = ap (λ (v : NetView). v.blocks) is in
-    let old_drives : old.drives ≡ drives.items = ap (λ (v : NetView). v.drives) is in
-    let P : List BlockSpec → Type 0 = λ bs. AllReady bs in
-    record {
-      ready = subst P (sym old_blocks) ready;
-      blocks = with_items_is blocks made same ∙ made_is ∙ ap (λ (bs : List BlockSpec). run_blocks [] c bs) (lent_is ∙ sym old_blocks);
-      drives = sym old_drives;
-      outputs = outputs_are
-          ∙ ap₂ (λ (xs : List Drive) (vs : List Bool). driven_images xs vs c.inputs lens) (ds_is ∙ sym old_drives)
-          (read_is ∙ values_are ∙ ap (λ (bs : List BlockSpec). run_values [] c bs) (lent_is ∙ sym old_blocks));
-    }

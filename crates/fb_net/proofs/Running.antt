@@ -34,14 +34,9 @@ rest_after bs first i b new h is same =
     drop-set-lt (i + 1) bs i new (omega arith) ∙ sym (drop-first i first (drop (i + 1) bs) b (rest_more bs first i b h is same))
 
 -- what a step of a block gives, where the values and the block are read before it
-pub value_is : (values read items : List Bool) (c : NetCycle) (b at : BlockSpec) (v : Bool) → read ≡ values → b ≡ at → v ≡ given read c at
-    → items ≡ values ++ v ∷ [] → items ≡ values ++ given values c b ∷ []
-value_is values read items c b at v e f is made =
-    made ∙ ap (λ (x : Bool). values ++ x ∷ []) (is ∙ ap₂ (λ (vs : List Bool) (x : BlockSpec). given vs c x) e (sym f))
-
-pub block_is : (values read : List Bool) (c : NetCycle) (b at new : BlockSpec) → read ≡ values → b ≡ at → new ≡ stepped read c at
-    → new ≡ stepped values c b
-block_is values read c b at new e f is = is ∙ ap₂ (λ (vs : List Bool) (x : BlockSpec). stepped vs c x) e (sym f)
+pub value_is : (values : List Bool) (i : ℕ) (c : NetCycle) (b at : BlockSpec) (v : Bool) → i < length values → b ≡ at → v ≡ given (take i values) c at
+    → take (i + 1) (set values i v) ≡ take i values ++ given (take i values) c b ∷ []
+value_is values i c b at v h same is = take-set_at values i (i + 1) v refl h ∙ ap (λ (x : Bool). take i values ++ x ∷ []) (rw same is)
 
 pub values_more : (bs first : List BlockSpec) (i : ℕ) (b : BlockSpec) (values items : List Bool) (c : NetCycle) (all : List Bool)
     → i < length bs → b ≡ get_or bs i b → drop i bs ≡ drop i first → items ≡ values ++ given values c b ∷ []

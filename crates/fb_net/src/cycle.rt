@@ -1,5 +1,5 @@
 //! One cycle of a net.
-ghost use Rattle.std.specs.Prelude.{◌≡◌, ◌≤◌, false, [], map, length};
+ghost use Rattle.std.specs.Prelude.{◌≡◌, ◌≤◌, false, [], map, length, take};
 ghost use Rattle.failsafe_io.specs.Bits.{at_number};
 ghost use Rattle.fb_lib.specs.declared.kind.TheConstants.{MOST_INPUTS};
 ghost use Rattle.fb_net.specs.Values.{wire_value};
@@ -64,26 +64,23 @@ fn step_block(spec: &mut BlockSpec, ticked: bool, inputs: &[Image], values: &[bo
     spec.block.step(ticked, ins.as_slice())
 }
 
-/// Steps the blocks in their order, and lists their values.
+/// Steps the blocks in their order, and writes their values to the front of `values`.
 pub(crate) fn run_blocks(
     blocks: &mut [BlockSpec],
     ticked: bool,
     inputs: &[Image],
-    values: &mut ArrayVec<bool, 256>,
+    values: &mut [bool],
 )
     requires ready { AllReady blocks.old }
-    requires fits { length blocks.old ≤ 256 }
+    requires fits { length blocks.old ≤ length values.old }
     ensures blocks { blocks.new
         ≡ run_blocks [] (record { ticked = ticked; inputs = inputs.now }) blocks.old }
-    ensures values { values.new.items
+    ensures values { take (length blocks.old) values.new
         ≡ run_values [] (record { ticked = ticked; inputs = inputs.now }) blocks.old }
     ensures ready { AllReady blocks.new }
 {
-    values.clear();
     for i in 0..blocks.len() {
-        let spec = &mut blocks[i];
-        let value = step_block(spec, ticked, inputs, values.as_slice());
-        values.push(value);
+        values[i] = step_block(&mut blocks[i], ticked, inputs, &values[..i]);
     }
 }
 

@@ -10,7 +10,6 @@ use crate::fault::NetFault;
 use crate::guards::is_output_guarded;
 use crate::making::first_fault;
 use crate::spec::{BlockSpec, Drive};
-use arrayvec::ArrayVec;
 use failsafe_io::{Application, Bit};
 use fsoe_base::Image;
 use std::marker::Model;
@@ -20,7 +19,7 @@ use std::marker::Model;
 pub struct Net {
     blocks: Vec<BlockSpec>,
     drives: Vec<Drive>,
-    values: ArrayVec<bool, 256>,
+    values: [bool; 256],
 }
 
 impl Model for Net {
@@ -64,7 +63,7 @@ impl Net {
             None => Ok(Net {
                 blocks,
                 drives,
-                values: ArrayVec::new(),
+                values: [false; 256],
             }),
         }
     }
@@ -75,12 +74,8 @@ impl Net {
             (map length outputs.old) self.new outputs.new }
     {
         run_blocks(self.blocks.as_mut_slice(), ticked, inputs, &mut self.values);
-        drive_outputs(
-            self.drives.as_slice(),
-            self.values.as_slice(),
-            inputs,
-            outputs,
-        );
+        let values = &self.values[..self.blocks.len()];
+        drive_outputs(self.drives.as_slice(), values, inputs, outputs);
     }
 }
 

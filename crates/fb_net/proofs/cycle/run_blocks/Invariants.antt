@@ -1,14 +1,13 @@
 use Rattle.fb_net.proofs.Common.{AllReady, run_blocks, run_values}
-use Rattle.std.proofs.Common.{◌≡◌, ◌++◌, [], length, take, drop}
+use Rattle.std.proofs.Common.{◌≡◌, ◌++◌, [], take, drop}
 use Rattle.fb_net.proofs.cycle.run_blocks.Given as goal
 
 abbrev pub invariant-loop-i : goal.invariant-loop-i
 invariant-loop-i l = record {
-  counted : length l.values.items ≡ l.i;
   ready : AllReady l.blocks;
   rest : drop l.i l.blocks ≡ drop l.i l.fn.blocks;
-  values : run_values l.values.items (record { ticked = l.ticked; inputs = l.inputs }) (drop l.i l.fn.blocks)
+  values : run_values (take l.i l.values) (record { ticked = l.ticked; inputs = l.inputs }) (drop l.i l.fn.blocks)
       ≡ run_values [] (record { ticked = l.ticked; inputs = l.inputs }) l.fn.blocks;
-  blocks : take l.i l.blocks ++ run_blocks l.values.items (record { ticked = l.ticked; inputs = l.inputs }) (drop l.i l.fn.blocks)
+  blocks : take l.i l.blocks ++ run_blocks (take l.i l.values) (record { ticked = l.ticked; inputs = l.inputs }) (drop l.i l.fn.blocks)
       ≡ run_blocks [] (record { ticked = l.ticked; inputs = l.inputs }) l.fn.blocks;
 }
