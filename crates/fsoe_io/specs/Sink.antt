@@ -1,5 +1,5 @@
 -- What a write does to the bytes that a sink tells, and how many may wait in front of one.
-use Rattle.std.specs.Prelude.{◌≡◌, ℕ, List, [], ◌++◌, ⊤, None, Some}
+use Rattle.std.specs.Prelude.{◌≡◌, ℕ, List, ◌++◌, ⊤, None, Some}
 use Rattle.std.specs.declared.option.Option.{Option}
 
 -- what is told now was told before, and grew by these bytes
