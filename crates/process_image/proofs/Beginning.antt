@@ -53,8 +53,6 @@ numbered_so n (slot ∷ slots) = (refl, numbered_so (suc n) slots)
 new-seats : (size_in size_out n : ℕ) (slots : List Slot) (seats : List Seat) → All (λ slot. IsNew slot.core) slots → AllZip IsNewSeat slots seats → AreInside size_in size_out (places_from n slots)
     → AllZip (IsSeatOf size_in []) (places_from n slots) seats
 new-seats size_in size_out n [] [] new z i = tt
-new-seats size_in size_out n [] (seat ∷ seats) new z i = absurd z
-new-seats size_in size_out n (slot ∷ slots) [] new z i = absurd z
 new-seats size_in size_out n (slot ∷ slots) (seat ∷ seats) new z i = (
   record {
     at_in_is = z.0.at_in_is;
@@ -64,13 +62,12 @@ new-seats size_in size_out n (slot ∷ slots) (seat ∷ seats) new z i = (
   },
   new-seats size_in size_out (suc n) slots seats (All-tail (λ slot. IsNew slot.core) slot slots new) z.1 i.2,
 )
+new-seats size_in size_out n _ _ new z i = absurd z
 
 -- and are sound
 new-sound : (size_in size_out n : ℕ) (slots : List Slot) (seats : List Seat) → All (λ slot. IsNew slot.core) slots → AllZip IsNewSeat slots seats → AreInside size_in size_out (places_from n slots)
     → All (IsSoundSeat size_in size_out) seats
 new-sound size_in size_out n [] [] new z i = All-nil (IsSoundSeat size_in size_out)
-new-sound size_in size_out n [] (seat ∷ seats) new z i = absurd z
-new-sound size_in size_out n (slot ∷ slots) [] new z i = absurd z
 new-sound size_in size_out n (slot ∷ slots) (seat ∷ seats) new z i =
     let len : length seat.seen ≡ frame_len (receives (setup_of slot.core)) = ap length z.0.seen_is ∙ length-replicate (frame_len (receives (setup_of slot.core))) 0 in
     All-cons (IsSoundSeat size_in size_out) seat seats
@@ -82,18 +79,17 @@ new-sound size_in size_out n (slot ∷ slots) (seat ∷ seats) new z i =
       inside_out = rw (z.0.at_out_is, z.0.len_out_is) i.1;
     })
     (new-sound size_in size_out (suc n) slots seats (All-tail (λ slot. IsNew slot.core) slot slots new) z.1 i.2)
+new-sound size_in size_out n _ _ new z i = absurd z
 
 new-count : (slots : List Slot) (seats : List Seat) → AllZip IsNewSeat slots seats → length seats ≡ length slots
 new-count [] [] z = refl
-new-count [] (seat ∷ seats) z = absurd z
-new-count (slot ∷ slots) [] z = absurd z
 new-count (slot ∷ slots) (seat ∷ seats) z = ap suc (new-count slots seats z.1)
+new-count _ _ z = absurd z
 
 pub new_setups : (slots : List Slot) (seats : List Seat) → AllZip IsNewSeat slots seats → map (λ s. setup_of s.core) seats ≡ map (λ slot. setup_of slot.core) slots
 new_setups [] [] z = refl
-new_setups [] (seat ∷ seats) z = absurd z
-new_setups (slot ∷ slots) [] z = absurd z
 new_setups (slot ∷ slots) (seat ∷ seats) z = ap₂ (λ (t : Setup) (ts : List Setup). t ∷ ts) (ap setup_of z.0.core_is) (new_setups slots seats z.1)
+new_setups _ _ z = absurd z
 
 -- nothing was sent
 zero-frames : (size_in size_out : ℕ) (places : List Place) → AreInside size_in size_out places → with_frames (frame_of size_in []) places (replicate size_out 0) ≡ replicate size_out 0

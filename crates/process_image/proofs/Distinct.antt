@@ -13,11 +13,7 @@ unwritten-is : (size : ℕ) (calls : List ImageEvent) → Unwritten calls → sa
 unwritten-is size [] h = refl
 unwritten-is size (event.Sample ∷ calls) h = refl
 unwritten-is size (event.Write at bytes ∷ calls) h = absurd h
-unwritten-is size (event.Tick ∷ calls) h = unwritten-is size calls h
-unwritten-is size (event.Put slot load ∷ calls) h = unwritten-is size calls h
-unwritten-is size (event.Hold slot failsafe ∷ calls) h = unwritten-is size calls h
-unwritten-is size (event.Nonce slot id ∷ calls) h = unwritten-is size calls h
-unwritten-is size (event.Reset slot ∷ calls) h = unwritten-is size calls h
+unwritten-is size (_ ∷ calls) h = unwritten-is size calls h
 
 none-new : (now : List ℕ) → delivery now now ≡ None
 none-new now = ap (λ b. if b then None else Some (move.Deliver now)) (nat_list_eq_equiv.refl now)
@@ -32,31 +28,16 @@ quiet_told size p calls h = ap (option_map (λ what. (next_deed size p calls wha
 input-alike : (size : ℕ) (later calls : List ImageEvent) → input size (later ++ event.Sample ∷ calls) ≡ input size (later ++ calls)
 input-alike size [] calls = refl
 input-alike size (event.Write at bytes ∷ later) calls = ap (with_bytes at bytes) (input-alike size later calls)
-input-alike size (event.Sample ∷ later) calls = input-alike size later calls
-input-alike size (event.Tick ∷ later) calls = input-alike size later calls
-input-alike size (event.Put slot load ∷ later) calls = input-alike size later calls
-input-alike size (event.Hold slot failsafe ∷ later) calls = input-alike size later calls
-input-alike size (event.Nonce slot id ∷ later) calls = input-alike size later calls
-input-alike size (event.Reset slot ∷ later) calls = input-alike size later calls
+input-alike size (_ ∷ later) calls = input-alike size later calls
 
 sampled-alike : (size : ℕ) (later calls : List ImageEvent) → Unwritten calls → sampled size (later ++ event.Sample ∷ calls) ≡ sampled size (later ++ calls)
 sampled-alike size [] calls h = sym (unwritten-is size calls h)
 sampled-alike size (event.Sample ∷ later) calls h = input-alike size later calls
-sampled-alike size (event.Write at bytes ∷ later) calls h = sampled-alike size later calls h
-sampled-alike size (event.Tick ∷ later) calls h = sampled-alike size later calls h
-sampled-alike size (event.Put slot load ∷ later) calls h = sampled-alike size later calls h
-sampled-alike size (event.Hold slot failsafe ∷ later) calls h = sampled-alike size later calls h
-sampled-alike size (event.Nonce slot id ∷ later) calls h = sampled-alike size later calls h
-sampled-alike size (event.Reset slot ∷ later) calls h = sampled-alike size later calls h
+sampled-alike size (_ ∷ later) calls h = sampled-alike size later calls h
 
 move-alike : (size : ℕ) (p : Place) (later calls : List ImageEvent) (call : ImageEvent) → Unwritten calls → move_in size p (later ++ event.Sample ∷ calls) call ≡ move_in size p (later ++ calls) call
 move-alike size p later calls event.Sample h = ap₂ (λ (before now : List ℕ). delivery (contents p before) (contents p now)) (sampled-alike size later calls h) (input-alike size later calls)
-move-alike size p later calls (event.Write at bytes) h = refl
-move-alike size p later calls event.Tick h = refl
-move-alike size p later calls (event.Put slot load) h = refl
-move-alike size p later calls (event.Hold slot failsafe) h = refl
-move-alike size p later calls (event.Nonce slot id) h = refl
-move-alike size p later calls (event.Reset slot) h = refl
+move-alike size p later calls _ h = refl
 
 pub quiet_moves : (size : ℕ) (p : Place) (calls later : List ImageEvent) → Unwritten calls → moves size p (later ++ event.Sample ∷ calls) ≡ moves size p (later ++ calls)
 quiet_moves size p calls [] h = ap (λ (o : Option Move). and_move o (moves size p calls)) (quiet-move size p calls h)
@@ -99,22 +80,13 @@ distinct-push before (y ∷ xs) x =
 last-is : (size : ℕ) (p : Place) (calls : List ImageEvent) → last-of (contents p (replicate size 0)) (at_samples size p calls) ≡ contents p (sampled size calls)
 last-is size p [] = refl
 last-is size p (event.Sample ∷ calls) = last-push (contents p (replicate size 0)) (at_samples size p calls) (contents p (input size calls))
-last-is size p (event.Write at bytes ∷ calls) = last-is size p calls
-last-is size p (event.Tick ∷ calls) = last-is size p calls
-last-is size p (event.Put slot load ∷ calls) = last-is size p calls
-last-is size p (event.Hold slot failsafe ∷ calls) = last-is size p calls
-last-is size p (event.Nonce slot id ∷ calls) = last-is size p calls
-last-is size p (event.Reset slot ∷ calls) = last-is size p calls
+last-is size p (_ ∷ calls) = last-is size p calls
 
 -- the frames of moves with one more
 frames-push : (ms : List Move) (what : Move) → frames_in (ms ++ what ∷ []) ≡ frames_in ms ++ frames_in (what ∷ [])
 frames-push [] what = refl
 frames-push (move.Deliver bytes ∷ ms) what = ap (λ (rest : List (List ℕ)). bytes ∷ rest) (frames-push ms what)
-frames-push (move.Tick ∷ ms) what = frames-push ms what
-frames-push (move.Put load ∷ ms) what = frames-push ms what
-frames-push (move.Hold failsafe ∷ ms) what = frames-push ms what
-frames-push (move.Nonce id ∷ ms) what = frames-push ms what
-frames-push (move.Local ∷ ms) what = frames-push ms what
+frames-push (_ ∷ ms) what = frames-push ms what
 
 none-more : (xs : List (List ℕ)) → xs ++ [] ≡ xs
 none-more [] = refl

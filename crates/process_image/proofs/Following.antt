@@ -13,10 +13,9 @@ use Rattle.process_image.proofs.Seats.{some_frame}
 
 -- what an end is after was reached
 pub reached : (s : Setup) (end : Core) (e : List Deed) → IsAfter s end e → IsRun s e
-reached (OfMaster ms) (core.Master m) e h = h.reached
 reached (OfMaster ms) (core.Slave v) e h = absurd h
 reached (OfSlave ss) (core.Master m) e h = absurd h
-reached (OfSlave ss) (core.Slave v) e h = h.reached
+reached _ _ e h = h.reached
 
 -- the deeds of a slot with one call more
 pub deeds_more : (size : ℕ) (p : Place) (calls : List ImageEvent) (call : ImageEvent) (what : Move) → move_in size p calls call ≡ Some what
@@ -108,16 +107,14 @@ part-gives size calls call p x part =
 seats-more : (size : ℕ) (calls : List ImageEvent) (call : ImageEvent) (places : List Place) (xs : List SeatStep) → AllZip (IsPart size calls call) places xs
     → AllZip (IsSeatOf size (call ∷ calls)) places (map (λ x. x.new) xs)
 seats-more size calls call [] [] h = tt
-seats-more size calls call [] (x ∷ xs) h = absurd h
-seats-more size calls call (p ∷ places) [] h = absurd h
 seats-more size calls call (p ∷ places) (x ∷ xs) h = (part-seat size calls call p x h.0, seats-more size calls call places xs h.1)
+seats-more size calls call _ _ h = absurd h
 
 gives-more : (size : ℕ) (calls : List ImageEvent) (call : ImageEvent) (places : List Place) (xs : List SeatStep) → AllZip (IsPart size calls call) places xs
     → AllZip (Gives (frame_of size calls) (frame_of size (call ∷ calls))) places xs
 gives-more size calls call [] [] h = tt
-gives-more size calls call [] (x ∷ xs) h = absurd h
-gives-more size calls call (p ∷ places) [] h = absurd h
 gives-more size calls call (p ∷ places) (x ∷ xs) h = (part-gives size calls call p x h.0, gives-more size calls call places xs h.1)
+gives-more size calls call _ _ h = absurd h
 
 -- images after the steps of all slots
 pub stands_more : (plan : Plan) (old new : ImagesView) (calls : List ImageEvent) (call : ImageEvent) (xs : List SeatStep) → StandsFor plan old calls → AllZip (IsPart plan.size_in calls call) plan.places xs

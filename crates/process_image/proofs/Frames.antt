@@ -34,16 +34,14 @@ none-taken (suc len) xs ys h = absurd (omega arith)
 
 front-stays : (len b : ℕ) (f image : List ℕ) → len ≤ b → b + length f ≤ length image → take len (with_bytes b f image) ≡ take len image
 front-stays zero b f image h inside = refl
-front-stays (suc len) zero f image h inside = absurd (omega arith)
-front-stays (suc len) (suc b) f [] h inside = absurd (omega arith)
 front-stays (suc len) (suc b) f (x ∷ image) h inside =
     ap (take (suc len)) (later b f x image) ∙ ap (λ (bytes : List ℕ). x ∷ bytes) (front-stays len b f image (omega arith) (omega arith))
+front-stays (suc len) _ f _ h inside = absurd (omega arith)
 
 pub stay_before : (at len b : ℕ) (f image : List ℕ) → at + len ≤ b → b + length f ≤ length image → take len (drop at (with_bytes b f image)) ≡ take len (drop at image)
 stay_before zero len b f image h inside = front-stays len b f image (omega arith) inside
-stay_before (suc at) len zero f image h inside = absurd (omega arith)
-stay_before (suc at) len (suc b) f [] h inside = absurd (omega arith)
 stay_before (suc at) len (suc b) f (x ∷ image) h inside = ap (λ (bytes : List ℕ). take len (drop (suc at) bytes)) (later b f x image) ∙ stay_before at len b f image (omega arith) (omega arith)
+stay_before (suc at) len _ f _ h inside = absurd (omega arith)
 
 -- and those behind them
 drop-past : (at : ℕ) (f image : List ℕ) → length f ≤ at → drop at (f ++ drop (length f) image) ≡ drop at image
@@ -54,9 +52,8 @@ drop-past (suc at) (b ∷ f) (x ∷ image) h = drop-past at f image (omega arith
 
 pub stay_behind : (at b : ℕ) (f image : List ℕ) → b + length f ≤ at → b + length f ≤ length image → drop at (with_bytes b f image) ≡ drop at image
 stay_behind at zero f image h inside = ap (drop at) (front-is f image) ∙ drop-past at f image (omega arith)
-stay_behind zero (suc b) f image h inside = absurd (omega arith)
-stay_behind (suc at) (suc b) f [] h inside = absurd (omega arith)
 stay_behind (suc at) (suc b) f (x ∷ image) h inside = ap (drop (suc at)) (later b f x image) ∙ stay_behind at b f image (omega arith) (omega arith)
+stay_behind _ (suc b) f _ h inside = absurd (omega arith)
 
 -- bytes beside those that were written stay
 pub stays : (at len b : ℕ) (f image : List ℕ) → ((at + len ≤ b) ⊎ (b + length f ≤ at)) → b + length f ≤ length image → bytes_at at len (with_bytes b f image) ≡ bytes_at at len image
@@ -121,10 +118,9 @@ beside_all frame size (p ∷ places) image at len apart long n beside =
 -- so of images that stand for calls
 seats-long : (size : ℕ) (calls : List ImageEvent) (places : List Place) (seats : List Seat) → AllZip (IsSeatOf size calls) places seats → AreLong (frame_of size calls) places
 seats-long size calls [] [] z = All-nil (λ p. length (frame_of size calls p) ≡ len_at p)
-seats-long size calls [] (seat ∷ seats) z = absurd z
-seats-long size calls (p ∷ places) [] z = absurd z
 seats-long size calls (p ∷ places) (seat ∷ seats) z =
     All-cons (λ p. length (frame_of size calls p) ≡ len_at p) p places (last_long p (deeds size p calls) (reached p.setup seat.core (deeds size p calls) z.0.end_is)) (seats-long size calls places seats z.1)
+seats-long size calls _ _ z = absurd z
 
 pub holds_frames : (plan : Plan) (v : ImagesView) (calls : List ImageEvent) → StandsFor plan v calls → HoldsFrames plan calls (output plan calls)
 holds_frames plan v calls h =
@@ -145,12 +141,7 @@ input-size size [] fit = length-replicate size 0
 input-size size (event.Write at bytes ∷ calls) fit =
     let n : length (input size calls) ≡ size = input-size size calls fit.1 in
     same_size at bytes (input size calls) (rw n fit.0) ∙ n
-input-size size (event.Sample ∷ calls) fit = input-size size calls fit
-input-size size (event.Tick ∷ calls) fit = input-size size calls fit
-input-size size (event.Put slot load ∷ calls) fit = input-size size calls fit
-input-size size (event.Hold slot failsafe ∷ calls) fit = input-size size calls fit
-input-size size (event.Nonce slot id ∷ calls) fit = input-size size calls fit
-input-size size (event.Reset slot ∷ calls) fit = input-size size calls fit
+input-size size (_ ∷ calls) fit = input-size size calls fit
 
 pub write_beside : (size at : ℕ) (bytes : List ℕ) (p : Place) (calls : List ImageEvent) → WritesFit size (event.Write at bytes ∷ calls) → share p.at_in (spans_of p).len_in at (length bytes) ≡ false
     → contents p (input size (event.Write at bytes ∷ calls)) ≡ contents p (input size calls)

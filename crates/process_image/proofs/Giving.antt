@@ -48,8 +48,6 @@ size-by at len sent image false h inside = refl
 steps-away : (frame frame' : Place → List ℕ) (p : Place) (f : List ℕ) (size : ℕ) (places : List Place) (xs : List SeatStep) (image : List ℕ) → AllZip (Gives frame frame') places xs → AwayFrom p places
     → AreApart size places → length f ≡ len_at p → p.at_out + len_at p ≤ size → length image ≡ size → after_steps xs (with_bytes p.at_out f image) ≡ with_bytes p.at_out f (after_steps xs image)
 steps-away frame frame' p f size [] [] image g away apart e inside n = refl
-steps-away frame frame' p f size [] (x ∷ xs) image g away apart e inside n = absurd g
-steps-away frame frame' p f size (q ∷ places) [] image g away apart e inside n = absurd g
 steps-away frame frame' p f size (q ∷ places) (x ∷ xs) image g away apart e inside n =
     let away' : (x.old.at_out + x.old.len_out ≤ p.at_out) ⊎ (p.at_out + length f ≤ x.old.at_out) =
     rw (g.0.at_is, g.0.len_is, e) (elim away.0 [ inl front ↦ inr front | inr back ↦ inl back ])
@@ -60,6 +58,7 @@ steps-away frame frame' p f size (q ∷ places) (x ∷ xs) image g away apart e 
     in
     let n' : length (with_sent x.old x.sent image) ≡ size = size-by x.old.at_out x.old.len_out x.sent image (length x.sent == x.old.len_out) refl inside' ∙ n in
     ap (after_steps xs) one ∙ steps-away frame frame' p f size places xs (with_sent x.old x.sent image) g.1 away.1 apart.2 e inside n'
+steps-away frame frame' p f size _ _ image g away apart e inside n = absurd g
 
 -- the number of bytes of an output image stays
 pub frames_size : (frame : Place → List ℕ) (size : ℕ) (places : List Place) (image : List ℕ) → AreApart size places → ((p : Place) → length (frame p) ≡ len_at p) → length image ≡ size
@@ -81,8 +80,6 @@ zip-size frame frame' size (p ∷ places) (x ∷ xs) image g apart n =
 pub steps_give : (frame frame' : Place → List ℕ) (size : ℕ) (places : List Place) (xs : List SeatStep) (image : List ℕ) → AllZip (Gives frame frame') places xs → AreApart size places → length image ≡ size
     → after_steps xs (with_frames frame places image) ≡ with_frames frame' places image
 steps_give frame frame' size [] [] image g apart n = refl
-steps_give frame frame' size [] (x ∷ xs) image g apart n = absurd g
-steps_give frame frame' size (p ∷ places) [] image g apart n = absurd g
 steps_give frame frame' size (p ∷ places) (x ∷ xs) image g apart n =
     let rest : List ℕ = with_frames frame places image in
     let m : length rest ≡ size = zip-size frame frame' size places xs image g.1 apart.2 n in
@@ -99,3 +96,4 @@ steps_give frame frame' size (p ∷ places) (x ∷ xs) image g apart n =
     ap (after_steps xs) here
     ∙ steps-away frame frame' p (frame' p) size places xs rest g.1 apart.1 apart.2 g.0.new_long apart.0 m
     ∙ ap (with_bytes p.at_out (frame' p)) (steps_give frame frame' size places xs image g.1 apart.2 n)
+steps_give frame frame' size _ _ image g apart n = absurd g

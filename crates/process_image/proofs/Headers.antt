@@ -18,9 +18,6 @@ so_fewer h h' slot e is room = rw (e, is) (slot-fewer h slot.at_in slot.at_out r
 
 -- where there are slots they are those before the last one, and the last one
 pub some_slots : (s : Stage) (before : List SlotHeader) (last : SlotHeader) → (length (slots_begun s before last) ≡ 0 → ⊥) → slots_begun s before last ≡ before ++ last ∷ []
-some_slots stage.Start before last h = absurd (h refl)
-some_slots stage.Title before last h = absurd (h refl)
-some_slots stage.Size before last h = absurd (h refl)
 some_slots stage.Slots before last h = refl
 some_slots stage.Done before last h = refl
-some_slots stage.Refused before last h = absurd (h refl)
+some_slots _ before last h = absurd (h refl)

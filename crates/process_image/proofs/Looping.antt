@@ -175,8 +175,7 @@ some_at (a ∷ xs) (suc k) h = some_at xs k (omega arith)
 
 -- a later place is as before
 pub set_before : {A : Type 0} (xs : List A) (i k : ℕ) (y : A) → i < k → slice_get (slice_set xs i y) k ≡ slice_get xs k
-set_before [] i k y h = refl
 set_before (a ∷ xs) zero zero y h = absurd (omega arith)
-set_before (a ∷ xs) zero (suc k) y h = refl
 set_before (a ∷ xs) (suc i) zero y h = absurd (omega arith)
 set_before (a ∷ xs) (suc i) (suc k) y h = set_before xs i k y (omega arith)
+set_before _ _ _ y h = refl

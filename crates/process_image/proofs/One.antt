@@ -29,10 +29,9 @@ still-part size si so calls call p seat h s none same = record {
 still-parts : (size si so : ℕ) (calls : List ImageEvent) (call : ImageEvent) (places : List Place) (seats : List Seat) → AllZip (IsSeatOf size calls) places seats → All (IsSoundSeat si so) seats
     → ((p : Place) → move_in size p calls call ≡ None) → Unsampled size calls call → AllZip (IsPart size calls call) places (map still seats)
 still-parts size si so calls call [] [] h s none same = tt
-still-parts size si so calls call [] (seat ∷ seats) h s none same = absurd h
-still-parts size si so calls call (p ∷ places) [] h s none same = absurd h
 still-parts size si so calls call (p ∷ places) (seat ∷ seats) h s none same =
     (still-part size si so calls call p seat h.0 (All-head (IsSoundSeat si so) seat seats s) (none p) same, still-parts size si so calls call places seats h.1 (All-tail (IsSoundSeat si so) seat seats s) none same)
+still-parts size si so calls call _ _ h s none same = absurd h
 
 still-new : (seats : List Seat) → map (λ x. x.new) (map still seats) ≡ seats
 still-new [] = refl
@@ -75,12 +74,11 @@ it slot p what e = let q : (slot == p.number) ≡ true = grind (arith, nat_tests
 later-parts : (size si so n slot : ℕ) (what : Move) (calls : List ImageEvent) (call : ImageEvent) (places : List Place) (seats : List Seat) → AllZip (IsSeatOf size calls) places seats
     → All (IsSoundSeat si so) seats → AreNumbered n places → slot < n → Names call slot what → Unsampled size calls call → AllZip (IsPart size calls call) places (map still seats)
 later-parts size si so n slot what calls call [] [] h s numbers late names same = tt
-later-parts size si so n slot what calls call [] (seat ∷ seats) h s numbers late names same = absurd h
-later-parts size si so n slot what calls call (p ∷ places) [] h s numbers late names same = absurd h
 later-parts size si so n slot what calls call (p ∷ places) (seat ∷ seats) h s numbers late names same = (
   still-part size si so calls call p seat h.0 (All-head (IsSoundSeat si so) seat seats s) (names size p calls ∙ other slot p what n numbers.0 late) same,
   later-parts size si so (suc n) slot what calls call places seats h.1 (All-tail (IsSoundSeat si so) seat seats s) numbers.1 (omega arith) names same,
 )
+later-parts size si so n slot what calls call _ _ h s numbers late names same = absurd h
 
 -- the step of the slot that is named
 pub record IsNamedStep (what : Move) (x : SeatStep) : Type 0 where
@@ -102,8 +100,6 @@ one-parts : (size si so n k slot : ℕ) (what : Move) (calls : List ImageEvent) 
     → All (IsSoundSeat si so) seats → AreNumbered n places → slot ≡ n + k → slice_get seats k ≡ Some x.old → IsNamedStep what x → Names call slot what → Unsampled size calls call
     → AllZip (IsPart size calls call) places (one_moves k seats x)
 one-parts size si so n k slot what calls call [] [] x h s numbers e at x-is names same = absurd (cc at)
-one-parts size si so n k slot what calls call [] (seat ∷ seats) x h s numbers e at x-is names same = absurd h
-one-parts size si so n k slot what calls call (p ∷ places) [] x h s numbers e at x-is names same = absurd h
 one-parts size si so n zero slot what calls call (p ∷ places) (seat ∷ seats) x h s numbers e at x-is names same =
     let i : seat ≡ x.old = cc in (
       named-part size si so slot what calls call p x (subst (IsSeatOf size calls p) i h.0) (subst (IsSoundSeat si so) i (All-head (IsSoundSeat si so) seat seats s)) (grind arith) x-is names same,
@@ -113,6 +109,7 @@ one-parts size si so n (suc k) slot what calls call (p ∷ places) (seat ∷ sea
   still-part size si so calls call p seat h.0 (All-head (IsSoundSeat si so) seat seats s) (names size p calls ∙ before-it slot p what n numbers.0 (omega arith)) same,
   one-parts size si so (suc n) k slot what calls call places seats x h.1 (All-tail (IsSoundSeat si so) seat seats s) numbers.1 (omega arith) at x-is names same,
 )
+one-parts size si so n k slot what calls call _ _ x h s numbers e at x-is names same = absurd h
 
 one-new : (k : ℕ) (seats : List Seat) (x : SeatStep) → map (λ y. y.new) (one_moves k seats x) ≡ slice_set seats k x.new
 one-new k [] x = refl

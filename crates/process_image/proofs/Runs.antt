@@ -196,15 +196,13 @@ last_lines_are first image end =
 -- at the beginning
 pub all_new : (ss : List SlotHeader) (slots : List Slot) → AllZip IsMadeOf ss slots → All (λ slot. IsNew slot.core) slots
 all_new [] [] z = All-nil (λ slot. IsNew slot.core)
-all_new [] (slot ∷ slots) z = absurd z
-all_new (s ∷ ss) [] z = absurd z
 all_new (s ∷ ss) (slot ∷ slots) z = All-cons (λ slot. IsNew slot.core) slot slots z.0.new (all_new ss slots z.1)
+all_new _ _ z = absurd z
 
 planned : (n : ℕ) (ss : List SlotHeader) (slots : List Slot) → AllZip IsMadeOf ss slots → AllZip IsSlotOf ss (places_from n slots)
 planned n [] [] z = tt
-planned n [] (slot ∷ slots) z = absurd z
-planned n (s ∷ ss) [] z = absurd z
 planned n (s ∷ ss) (slot ∷ slots) z = (record { at_in_is = z.0.at_in_is; at_out_is = z.0.at_out_is; end_is = z.0.end_is }, planned (suc n) ss slots z.1)
+planned n _ _ z = absurd z
 
 pub begins_so : (v : RunView) (h : ImageHeading) (slots : List Slot) (size_in size_out : ℕ) → size_in ≡ h.size_in → size_out ≡ h.size_out → AllZip IsMadeOf (slots_of h) slots → StandsFor (plan_of size_in size_out slots) v.images []
     → length v.images.input ≡ size_in → RunStands v h [] []

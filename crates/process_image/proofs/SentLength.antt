@@ -26,11 +26,9 @@ use Rattle.end_model.proofs.ReadBack.{valid_length, count_crcs, count_groups}
 -- the bytes of a frame
 groups-long : (load crcs : List ℕ) → length crcs ≡ length (groups load) → length (with_crcs (groups load) crcs) ≡ length load + 2 * length (groups load)
 groups-long [] crcs h = refl
-groups-long (d ∷ []) [] h = absurd (omega arith)
 groups-long (d ∷ []) (k ∷ []) h = refl
-groups-long (d ∷ []) (k ∷ k' ∷ crcs) h = absurd (omega arith)
-groups-long (d ∷ d' ∷ load) [] h = absurd (omega arith)
 groups-long (d ∷ d' ∷ load) (k ∷ crcs) h = let e = groups-long load crcs (omega arith) in omega arith
+groups-long (d ∷ _) _ h = absurd (omega arith)
 
 lengths-add : (l n m : ℕ) → IsTrue (is_length l) → n ≡ (l + 1) / 2 → m ≡ l + 2 * n → suc (m + 2) ≡ frame_len l
 lengths-add l n m h i j = elim (cases_eq l 1) [ inl one ↦ grind (arith, nat_tests) | inr other ↦ grind (arith, nat_tests) ]
@@ -81,11 +79,7 @@ proper-run s (x ∷ e) r = (r.0.proper, proper-run s e r.1)
 
 offer-more : (s : Setup) (what : Move) (did : Did) (sent : List ℕ) (e : List Deed) → IsProper s what → length (offer s e) ≡ sends s → length (offer s (record { what = what; did = did; sent = sent } ∷ e)) ≡ sends s
 offer-more s (move.Put load) did sent e p h = p
-offer-more s (move.Deliver bytes) did sent e p h = h
-offer-more s move.Tick did sent e p h = h
-offer-more s (move.Hold failsafe) did sent e p h = h
-offer-more s (move.Nonce id) did sent e p h = h
-offer-more s move.Local did sent e p h = h
+offer-more s _ did sent e p h = h
 
 offer-long : (s : Setup) (e : List Deed) → AreProper s e → length (offer s e) ≡ sends s
 offer-long s [] p = length-replicate (sends s) 0
@@ -105,8 +99,7 @@ slave-long ss e command.Reset load p = reset-long (OfSlave ss) 0
 slave-long ss e command.Session load p = piece-long (OfSlave ss) e command.Session _
 slave-long ss e command.Connection load p = piece-long (OfSlave ss) e command.Connection load
 slave-long ss e command.Parameter load p = piece-long (OfSlave ss) e command.Parameter load
-slave-long ss e command.ProcessData load p = data-long (OfSlave ss) e p
-slave-long ss e command.FailSafeData load p = data-long (OfSlave ss) e p
+slave-long ss e _ load p = data-long (OfSlave ss) e p
 
 -- a master's
 download-long : (ms : MasterSettings) (e : List Deed) (c : Command) (k : ℕ) → length (download_frame ms e c k) ≡ frame_len (sends (OfMaster ms))
@@ -116,9 +109,7 @@ after-long : (ms : MasterSettings) (e : List Deed) (c : Command) → AreProper (
 after-long ms e command.Reset p = download-long ms e command.Session 1
 after-long ms e command.Session p = download-long ms e command.Connection 1
 after-long ms e command.Connection p = download-long ms e command.Parameter 1
-after-long ms e command.Parameter p = data-long (OfMaster ms) e p
-after-long ms e command.ProcessData p = data-long (OfMaster ms) e p
-after-long ms e command.FailSafeData p = data-long (OfMaster ms) e p
+after-long ms e _ p = data-long (OfMaster ms) e p
 
 pieces-by : (ms : MasterSettings) (e : List Deed) (c : Command) (k : ℕ) (b : Bool) → AreProper (OfMaster ms) e → length (if b then download_frame ms e c (suc k) else after_phase ms e c) ≡ frame_len (sends (OfMaster ms))
 pieces-by ms e c k true p = download-long ms e c (suc k)
@@ -134,8 +125,7 @@ master-long ms e command.Reset p = after-long ms e command.Reset p
 master-long ms e command.Session p = goes-long ms e command.Session p
 master-long ms e command.Connection p = goes-long ms e command.Connection p
 master-long ms e command.Parameter p = goes-long ms e command.Parameter p
-master-long ms e command.ProcessData p = data-long (OfMaster ms) e p
-master-long ms e command.FailSafeData p = data-long (OfMaster ms) e p
+master-long ms e _ p = data-long (OfMaster ms) e p
 
 answer-long : (s : Setup) (e : List Deed) (t : Took) → AreProper s e → length (answer s e t) ≡ frame_len (sends s)
 answer-long (OfMaster ms) e t p = master-long ms e t.command p

@@ -28,12 +28,9 @@ begun-sound : (at_in at_out : ℕ) → IsSound (slot_begun at_in at_out)
 begun-sound at_in at_out = new_sound (kind.Node side.Slave)
 
 begun-all : (s : Stage) (before : List SlotHeader) (last : SlotHeader) → All IsSound before → IsSound last → All IsSound (slots_begun s before last)
-begun-all stage.Start before last h p = All-nil IsSound
-begun-all stage.Title before last h p = All-nil IsSound
-begun-all stage.Size before last h p = All-nil IsSound
-begun-all stage.Refused before last h p = All-nil IsSound
 begun-all stage.Slots before last h p = All-push IsSound before last h p
 begun-all stage.Done before last h p = All-push IsSound before last h p
+begun-all _ before last h p = All-nil IsSound
 
 -- a header after one more line
 slot-sound : (n : ℕ) (fields : List (List ℕ)) → IfOk (slot_line n fields) IsSound
@@ -63,8 +60,7 @@ line-taken stage.Start h text first fields s = either (bytes_eq text (codes "fso
 line-taken stage.Title h text first fields s = either (bytes_eq first (codes "size")) (size_taken h fields) (Err cause.Header) AreSound (size-taken h fields s) tt
 line-taken stage.Size h text first fields s = either (bytes_eq first (codes "slot")) (slot_taken h fields) (Err cause.Header) AreSound (slot-taken h fields s) tt
 line-taken stage.Slots h text first fields s = either (bytes_eq first (codes "slot") && may_end h.last.own) (slot_taken h fields) (own_taken h text) AreSound (slot-taken h fields s) (own-taken h text s)
-line-taken stage.Done h text first fields s = tt
-line-taken stage.Refused h text first fields s = tt
+line-taken _ h text first fields s = tt
 
 fields-taken : (h : ImageHeading) (text : List ℕ) (fields : List (List ℕ)) → AreSound h → IfOk (by_word cause.Header (line_taken h.stage h text) fields) AreSound
 fields-taken h text [] s = tt

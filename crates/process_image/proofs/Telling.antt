@@ -34,22 +34,20 @@ tick-part size si so calls p x h s q = record { before = h; is = q.is; what_is =
 sample-parts : (size so : ℕ) (calls : List ImageEvent) (now : List ℕ) (places : List Place) (xs : List SeatStep) → now ≡ input size calls → AllZip (IsSeatOf size calls) places (map (λ x. x.old) xs)
     → All (IsSoundSeat (length now) so) (map (λ x. x.old) xs) → All (IsSampleStep now) xs → AllZip (IsPart size calls event.Sample) places xs
 sample-parts size so calls now [] [] e h s q = tt
-sample-parts size so calls now [] (x ∷ xs) e h s q = absurd h
-sample-parts size so calls now (p ∷ places) [] e h s q = absurd h
 sample-parts size so calls now (p ∷ places) (x ∷ xs) e h s q = (
   sample-part size so calls now p x e h.0 (All-head (IsSoundSeat (length now) so) x.old (map (λ x. x.old) xs) s) (All-head (IsSampleStep now) x xs q),
   sample-parts size so calls now places xs e h.1 (All-tail (IsSoundSeat (length now) so) x.old (map (λ x. x.old) xs) s) (All-tail (IsSampleStep now) x xs q),
 )
+sample-parts size so calls now _ _ e h s q = absurd h
 
 tick-parts : (size si so : ℕ) (calls : List ImageEvent) (places : List Place) (xs : List SeatStep) → AllZip (IsSeatOf size calls) places (map (λ x. x.old) xs)
     → All (IsSoundSeat si so) (map (λ x. x.old) xs) → All IsTickStep xs → AllZip (IsPart size calls event.Tick) places xs
 tick-parts size si so calls [] [] h s q = tt
-tick-parts size si so calls [] (x ∷ xs) h s q = absurd h
-tick-parts size si so calls (p ∷ places) [] h s q = absurd h
 tick-parts size si so calls (p ∷ places) (x ∷ xs) h s q = (
   tick-part size si so calls p x h.0 (All-head (IsSoundSeat si so) x.old (map (λ x. x.old) xs) s) (All-head IsTickStep x xs q),
   tick-parts size si so calls places xs h.1 (All-tail (IsSoundSeat si so) x.old (map (λ x. x.old) xs) s) (All-tail IsTickStep x xs q),
 )
+tick-parts size si so calls _ _ h s q = absurd h
 
 -- what a step tells is what is told of its slot
 told-by : (size : ℕ) (calls : List ImageEvent) (p : Place) (x : SeatStep) (o : Option Move) → x.what ≡ o → Makes o x → end_core.IsAfter p.setup x.old.core (deeds size p calls)
@@ -63,9 +61,8 @@ told-one size calls call p x part =
 
 told-all : (size : ℕ) (calls : List ImageEvent) (call : ImageEvent) (places : List Place) (xs : List SeatStep) → AllZip (IsPart size calls call) places xs → map told_by xs ≡ map (told size calls call) places
 told-all size calls call [] [] h = refl
-told-all size calls call [] (x ∷ xs) h = absurd h
-told-all size calls call (p ∷ places) [] h = absurd h
 told-all size calls call (p ∷ places) (x ∷ xs) h = ap₂ (λ (d : Option Did) (ds : List (Option Did)). d ∷ ds) (told-one size calls call p x h.0) (told-all size calls call places xs h.1)
+told-all size calls call _ _ h = absurd h
 
 ticked-by : (size : ℕ) (calls : List ImageEvent) (p : Place) (x : SeatStep) → Makes (Some move.Tick) x → end_core.IsAfter p.setup x.old.core (deeds size p calls) → x.did ≡ (next_deed size p calls move.Tick).did
 ticked-by size calls p x m a = m.1.did p.setup (deeds size p calls) a
@@ -73,10 +70,9 @@ ticked-by size calls p x m a = m.1.did p.setup (deeds size p calls) a
 ticked-all : (size : ℕ) (calls : List ImageEvent) (places : List Place) (xs : List SeatStep) → AllZip (IsPart size calls event.Tick) places xs
     → map did_in xs ≡ map (λ p. (next_deed size p calls move.Tick).did) places
 ticked-all size calls [] [] h = refl
-ticked-all size calls [] (x ∷ xs) h = absurd h
-ticked-all size calls (p ∷ places) [] h = absurd h
 ticked-all size calls (p ∷ places) (x ∷ xs) h =
     ap₂ (λ (d : Did) (ds : List Did). d ∷ ds) (ticked-by size calls p x (subst (λ (o : Option Move). Makes o x) h.0.what_is h.0.is.makes) h.0.before.end_is) (ticked-all size calls places xs h.1)
+ticked-all size calls _ _ h = absurd h
 
 -- images after a sample
 sampled-parts : (plan : Plan) (calls : List ImageEvent) (old : ImagesView) (so : ℕ) (new : List Seat) (after : List ℕ) (dids : List (Option Did)) → StandsFor plan old calls → All (IsSoundSeat (length old.input) so) old.seats

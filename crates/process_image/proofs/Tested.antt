@@ -33,9 +33,8 @@ or-parts true b h = absurd (cc h)
 or-parts false b h = (refl, h)
 
 and-parts : (a b : Bool) → (a && not b) ≡ true → (a ≡ true) × (b ≡ false)
-and-parts true true h = absurd (cc h)
 and-parts true false h = (refl, refl)
-and-parts false b h = absurd (cc h)
+and-parts _ _ h = absurd (cc h)
 
 -- one slot more that was tested
 apart-push : (s : Spans) (ss : List SlotHeader) (t : SlotHeader) → IsApart s (map heading_spans ss) → overlap s (heading_spans t) ≡ false → IsApart s (map heading_spans (ss ++ t ∷ []))
@@ -98,8 +97,7 @@ placed-by kind p w l h = refl
 each-taken : {A : Type 0} (r : Result A LineCause) (f : A → HeaderLine) (given : Result (Unit {0}) LineCause) (h : Heading) (P : Heading → Type 0) → ((x : A) → IfOk (heading_with h (f x)) P)
     → IfOk (map_ok f r >>= (λ line. given >>= (λ it. heading_with h line))) P
 each-taken (Ok x) f (Ok it) h P all = all x
-each-taken (Ok x) f (Err e) h P all = tt
-each-taken (Err e) f given h P all = tt
+each-taken _ f _ h P all = tt
 
 mapped : {A B : Type 0} (r : Result A LineCause) (f : A → B) (P : B → Type 0) → ((x : A) → P (f x)) → IfOk (map_ok f r) P
 mapped (Ok x) f P all = all x
@@ -229,29 +227,26 @@ made-spans s slot m = let e = made-by s (setup_of slot.core) m.end_is in rw (m.a
 -- so no test finds a fault
 none-outside : (si so n : ℕ) (ss : List SlotHeader) (slots : List Slot) → Fit si so (map heading_spans ss) → AllZip IsMadeOf ss slots → first_outside si so (places_from n slots) ≡ None
 none-outside si so n [] [] f z = refl
-none-outside si so n [] (slot ∷ slots) f z = absurd z
-none-outside si so n (s ∷ ss) [] f z = absurd z
 none-outside si so n (s ∷ ss) (slot ∷ slots) f z =
     let inside : lie_inside si so (slot_spans slot) ≡ true = ap (lie_inside si so) (made-spans s slot z.0) ∙ f.0 in
     ap (λ b. if b then first_outside si so (places_from (suc n) slots) else Some n) inside ∙ none-outside si so (suc n) ss slots f.2 z.1
+none-outside si so n _ _ f z = absurd z
 
 none-with : (s : Spans) (n : ℕ) (ss : List SlotHeader) (slots : List Slot) → IsApart s (map heading_spans ss) → AllZip IsMadeOf ss slots → first_with s (places_from n slots) ≡ None
 none-with s n [] [] a z = refl
-none-with s n [] (slot ∷ slots) a z = absurd z
-none-with s n (t ∷ ss) [] a z = absurd z
 none-with s n (t ∷ ss) (slot ∷ slots) a z =
     let apart : overlap s (slot_spans slot) ≡ false = ap (overlap s) (made-spans t slot z.0) ∙ a.0 in
     ap (λ b. if b then Some n else first_with s (places_from (suc n) slots)) apart ∙ none-with s (suc n) ss slots a.1 z.1
+none-with s n _ _ a z = absurd z
 
 none-pair : (si so n : ℕ) (ss : List SlotHeader) (slots : List Slot) → Fit si so (map heading_spans ss) → AllZip IsMadeOf ss slots → first_pair (places_from n slots) ≡ None
 none-pair si so n [] [] f z = refl
-none-pair si so n [] (slot ∷ slots) f z = absurd z
-none-pair si so n (s ∷ ss) [] f z = absurd z
 none-pair si so n (s ∷ ss) (slot ∷ slots) f z =
     let alone : first_with (slot_spans slot) (places_from (suc n) slots) ≡ None =
     ap (λ (t : Spans). first_with t (places_from (suc n) slots)) (made-spans s slot z.0) ∙ none-with (heading_spans s) (suc n) ss slots f.1 z.1
     in
     ap (λ (o : Option ℕ). pair_or n o (first_pair (places_from (suc n) slots))) alone ∙ none-pair si so (suc n) ss slots f.2 z.1
+none-pair si so n _ _ f z = absurd z
 
 none-at : (si so : ℕ) (ss : List SlotHeader) (slots : List Slot) → Fit si so (map heading_spans ss) → AllZip IsMadeOf ss slots → length slots ≤ 64 → first_fault (plan_of si so slots) ≡ None
 none-at si so ss slots f z few =
@@ -259,11 +254,7 @@ none-at si so ss slots f z few =
 
 whole-tested : (s : Stage) (ss : List SlotHeader) (last : SlotHeader) → is_done s ≡ true → tested_by s ss last ≡ slots_begun s ss last
 whole-tested stage.Done ss last h = refl
-whole-tested stage.Start ss last h = absurd (false≢true h)
-whole-tested stage.Title ss last h = absurd (false≢true h)
-whole-tested stage.Size ss last h = absurd (false≢true h)
-whole-tested stage.Slots ss last h = absurd (false≢true h)
-whole-tested stage.Refused ss last h = absurd (false≢true h)
+whole-tested _ ss last h = absurd (false≢true h)
 
 -- the slots of a whole header have no fault
 pub whole_fit : (h : ImageHeading) (slots : List Slot) → IsTested h → AllZip IsMadeOf (slots_of h) slots → length slots ≤ 64 → IsTrue (image_heading_is_whole h) → first_fault (plan_of h.size_in h.size_out slots) ≡ None

@@ -74,11 +74,10 @@ line-by size number slot calls p x (Some what) line n k a m is =
 pub lines_are : (size number n : ℕ) (calls : List ImageEvent) (event : ImageEvent) (places : List Place) (xs : List SeatStep) (text : List ℕ) → number ≡ length calls + 1 → AllZip (IsPart size calls event) places xs
     → AreNumbered n places → AreLinesOf number n xs text → text ≡ event_lines size calls event places
 lines_are size number n calls event [] [] text e z numbers h = h
-lines_are size number n calls event [] (x ∷ xs) text e z numbers h = absurd z
-lines_are size number n calls event (p ∷ places) [] text e z numbers h = absurd z
 lines_are size number n calls event (p ∷ places) (x ∷ xs) text e z numbers h =
     let o : Option Move = move_in size p calls event in
     h.4
     ∙ ap₂ (λ (a b : List ℕ). a ++ b)
     (line-by size number n calls p x o h.0 e (sym numbers.0) z.0.before.end_is (subst (λ (o : Option Move). Makes o x) z.0.what_is z.0.is.makes) (subst (λ (o : Option Move). IsLineOf o number n x h.0) z.0.what_is h.2))
     (lines_are size number (suc n) calls event places xs h.1 e z.1 numbers.1 h.3)
+lines_are size number n calls event _ _ text e z numbers h = absurd z

@@ -31,10 +31,9 @@ drop_none (suc n) = refl
 
 again-front : (g f : List ℕ) (image : List ℕ) → length g ≡ length f → drop (length g) (f ++ drop (length f) image) ≡ drop (length g) image
 again-front [] [] image h = refl
-again-front [] (b ∷ f) image h = absurd (omega arith)
-again-front (a ∷ g) [] image h = absurd (omega arith)
 again-front (a ∷ g) (b ∷ f) [] h = ap (λ (rest : List ℕ). drop (length g) (f ++ rest)) (sym (drop_none (length f))) ∙ again-front g f [] (omega arith) ∙ drop_none (length g)
 again-front (a ∷ g) (b ∷ f) (x ∷ image) h = again-front g f image (omega arith)
+again-front _ _ image h = absurd (omega arith)
 
 pub again : (at : ℕ) (g f image : List ℕ) → length g ≡ length f → at + length f ≤ length image → with_bytes at g (with_bytes at f image) ≡ with_bytes at g image
 again zero g f image h inside =
@@ -46,25 +45,23 @@ again (suc at) g f (x ∷ image) h inside =
 -- bytes of places apart may be written in either order
 apart-front : (g : List ℕ) (b : ℕ) (f image : List ℕ) → length g ≤ b → b + length f ≤ length image → with_bytes 0 g (with_bytes b f image) ≡ with_bytes b f (with_bytes 0 g image)
 apart-front [] b f image h inside = refl
-apart-front (y ∷ g) zero f image h inside = absurd (omega arith)
-apart-front (y ∷ g) (suc b) f [] h inside = absurd (omega arith)
 apart-front (y ∷ g) (suc b) f (x ∷ image) h inside =
     ap (with_bytes 0 (y ∷ g)) (later b f x image)
     ∙ front-first y g x (with_bytes b f image)
     ∙ ap (λ (rest : List ℕ). y ∷ rest) (apart-front g b f image (omega arith) (omega arith))
     ∙ sym (later b f y (with_bytes 0 g image))
     ∙ ap (with_bytes (suc b) f) (sym (front-first y g x image))
+apart-front (y ∷ g) _ f _ h inside = absurd (omega arith)
 
 pub in_front : (a : ℕ) (g : List ℕ) (b : ℕ) (f image : List ℕ) → a + length g ≤ b → b + length f ≤ length image → with_bytes a g (with_bytes b f image) ≡ with_bytes b f (with_bytes a g image)
 in_front zero g b f image h inside = apart-front g b f image (omega arith) inside
-in_front (suc a) g zero f image h inside = absurd (omega arith)
-in_front (suc a) g (suc b) f [] h inside = absurd (omega arith)
 in_front (suc a) g (suc b) f (x ∷ image) h inside =
     ap (with_bytes (suc a) g) (later b f x image)
     ∙ later a g x (with_bytes b f image)
     ∙ ap (λ (rest : List ℕ). x ∷ rest) (in_front a g b f image (omega arith) (omega arith))
     ∙ sym (later b f x (with_bytes a g image))
     ∙ ap (with_bytes (suc b) f) (sym (later a g x image))
+in_front (suc a) g _ f _ h inside = absurd (omega arith)
 
 pub behind : (a : ℕ) (g : List ℕ) (b : ℕ) (f image : List ℕ) → b + length f ≤ a → a + length g ≤ length image → with_bytes a g (with_bytes b f image) ≡ with_bytes b f (with_bytes a g image)
 behind a g b f image h inside = sym (in_front b f a g image h inside)

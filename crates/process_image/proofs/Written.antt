@@ -21,9 +21,8 @@ said-at size (Ok at) digits bytes e = ap (λ (r : Result (List ℕ) LineCause). 
 said-at size (Err why) digits bytes e = refl
 
 said-behind : (size : ℕ) (place : List ℕ) (fields : List (List ℕ)) (bytes : List ℕ) → one_hex_field 256 fields ≡ Ok bytes → write_behind size place fields ≡ (number_16 place >>= written_at size bytes)
-said-behind size place [] bytes e = absurd (cc e)
 said-behind size place (digits ∷ []) bytes e = said-at size (number_16 place) digits bytes e
-said-behind size place (digits ∷ next ∷ more) bytes e = absurd (cc e)
+said-behind size place _ bytes e = absurd (cc e)
 
 said : (size : ℕ) (place digits bytes : List ℕ) → value_or cause.Hex (bytes_said 256 digits) ≡ Ok bytes → write_behind size place (fields_of digits) ≡ (number_16 place >>= written_at size bytes)
 said size place digits bytes h = said-behind size place (fields_of digits) bytes (said_alone 256 digits bytes h)
@@ -53,9 +52,8 @@ unsaid-at size (Ok at) digits e = ap (λ (r : Result (List ℕ) LineCause). r >>
 unsaid-at size (Err why) digits e = refl
 
 unsaid-behind : (size : ℕ) (place : List ℕ) (fields : List (List ℕ)) → one_hex_field 256 fields ≡ Err (not_hex fields) → write_behind size place fields ≡ Err (not_written place fields)
-unsaid-behind size place [] e = refl
 unsaid-behind size place (digits ∷ []) e = unsaid-at size (number_16 place) digits e
-unsaid-behind size place (digits ∷ next ∷ more) e = refl
+unsaid-behind size place _ e = refl
 
 pub unsaid : (size : ℕ) (place digits : List ℕ) (why : LineCause) → value_or cause.Hex (bytes_said 256 digits) ≡ Err why → write_behind size place (fields_of digits) ≡ Err (not_written place (fields_of digits))
 unsaid size place digits why h = unsaid-behind size place (fields_of digits) (unsaid_alone 256 digits why h)

@@ -12,10 +12,9 @@ pub record At {A B : Type 0} (R : A → B → Type 0) (xs : List A) (k : ℕ) (y
 
 pub at_place : {A B : Type 0} (R : A → B → Type 0) (xs : List A) (ys : List B) (k : ℕ) (y : B) → AllZip R xs ys → slice_get ys k ≡ Some y → At R xs k y
 at_place R [] [] k y h e = cc
-at_place R [] (b ∷ ys) k y h e = absurd h
-at_place R (a ∷ xs) [] k y h e = absurd h
 at_place R (a ∷ xs) (b ∷ ys) zero y h e = let i : b ≡ y = cc in record { there = a; is = refl; holds = subst (λ z. R a z) i h.0 }
 at_place R (a ∷ xs) (b ∷ ys) (suc k) y h e = let p = at_place R xs ys k y h.1 e in record { there = p.there; is = p.is; holds = p.holds }
+at_place R _ _ k y h e = absurd h
 
 -- all have a property still, where another stands at a place that has it
 pub all_set : {A : Type 0} (P : A → Type 0) (xs : List A) (k : ℕ) (y : A) → All P xs → P y → All P (slice_set xs k y)
@@ -38,9 +37,8 @@ map_set {B = B} f (a ∷ xs) (suc k) x y e h = ap (λ (zs : List B). f a ∷ zs)
 -- one more at the end of both
 zip-snoc : {A B : Type 0} (R : A → B → Type 0) (xs : List A) (ys : List B) (x : A) (y : B) → AllZip R xs ys → R x y → AllZip R (xs ++ x ∷ []) (ys ++ y ∷ [])
 zip-snoc R [] [] x y z r = (r, tt)
-zip-snoc R [] (b ∷ ys) x y z r = absurd z
-zip-snoc R (a ∷ xs) [] x y z r = absurd z
 zip-snoc R (a ∷ xs) (b ∷ ys) x y z r = (z.0, zip-snoc R xs ys x y z.1 r)
+zip-snoc R _ _ x y z r = absurd z
 
 pub zip_more : {A B : Type 0} (R : A → B → Type 0) (xs : List A) (ys ys' : List B) (i : ℕ) (x : A) (y : B) → i < length xs → x ≡ get_or xs i x → AllZip R (take i xs) ys → R x y → ys' ≡ ys ++ y ∷ [] → AllZip R (take (i + 1) xs) ys'
 zip_more R xs ys ys' i x y h e z r is =
