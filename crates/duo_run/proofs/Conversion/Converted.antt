@@ -102,8 +102,7 @@ events_by h log rest says = with_room is_full log (steps event_of (says ∷ map 
 none_when_full : (h : Heading) (log : List Event) (rest : Lines) (says : Result ScheduleLine LineCause) → is_full log ≡ true → events_by h log rest says ≡ []
 none_when_full h log rest (Ok (said.Step event)) full =
     ap (λ (b : Bool). if b then [] else event ∷ with_room is_full (log ++ event ∷ []) (steps event_of (map (said_after kind.Pair h) (texts rest)))) full
-none_when_full h log rest (Ok said.End) full = refl
-none_when_full h log rest (Err cause) full = refl
+none_when_full h log rest _ full = refl
 
 line_told : (h : Heading) (number : ℕ) (log : List Event) (text : List ℕ) (rest : Lines)
     → ((event : Event) → told (number + 1) (reading h (log ++ event ∷ [])) rest ≡ result_of h (number + 1) (log ++ event ∷ []) rest (events_in h (log ++ event ∷ []) rest))
@@ -117,10 +116,7 @@ line_told h number log text rest later false (Ok (said.Step event)) e d =
     ap (λ (n : ℕ). after_part (event_text text) (told (number + 1) (record { heading = h; events = n }) rest)) (sym (length_push log event))
     ∙ ap (after_part (event_text text)) (later event) ∙ one_event h number log text rest event (events_in h (log ++ event ∷ []) rest)
     ∙ ap (λ (b : Bool). result_of h number log (Ok text ∷ rest) (if b then [] else event ∷ events_in h (log ++ event ∷ []) rest)) (sym e)
-line_told h number log text rest later false (Ok said.End) e d =
-    ap (λ (s : Result ScheduleLine LineCause). last_whole number (stop_line number text false s)) (sym d)
-    ∙ ap (λ (b : Bool). last_whole number (stop_line number text b (said_after kind.Pair h text))) (sym e) ∙ sym (no_events h number log text rest)
-line_told h number log text rest later false (Err cause) e d =
+line_told h number log text rest later false _ e d =
     ap (λ (s : Result ScheduleLine LineCause). last_whole number (stop_line number text false s)) (sym d)
     ∙ ap (λ (b : Bool). last_whole number (stop_line number text b (said_after kind.Pair h text))) (sym e) ∙ sym (no_events h number log text rest)
 
@@ -254,9 +250,8 @@ by_header lines whole (Err stop) halts =
 
 -- by `end` that line is the one after the events
 pub last_is : (r : Result WholeHeader Stop) → (input_by (schedule_format kind.Pair) r).stop ≡ AtEnd → last_number r ≡ line_of_end (input_by (schedule_format kind.Pair) r)
-last_is (Ok headed) e = refl
-last_is (Err AtEnd) e = refl
 last_is (Err (Refused number why)) e = cc
+last_is _ e = refl
 
 pub told_whole : (bytes : List ℕ) → told 1 read_none (lines_of bytes) ≡ converted_whole bytes
 told_whole bytes = by_header (lines_of bytes) (told 1 read_none (lines_of bytes)) (header_of kind.Pair bytes) (told_header 0 (heading_new kind.Pair) (lines_of bytes) refl)

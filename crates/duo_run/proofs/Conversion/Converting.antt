@@ -290,11 +290,7 @@ stops_so status.Ok ended o ends read write = IfSome_then o.source.before ends.wr
 stops_so status.Line ended o ends read write = IfSome_then o.source.before ends.wrote (λ input wrote. wrote.2.1)
 stops_so status.Read ended o ends read write = absurd (read ends.cause)
 stops_so status.Write ended o ends read write = absurd (write ends.cause)
-stops_so status.Other ended o ends read write = absurd ends
-stops_so status.Usage ended o ends read write = absurd ends
-stops_so status.Config ended o ends read write = absurd ends
-stops_so status.Desk ended o ends read write = absurd ends
-stops_so status.Memory ended o ends read write = absurd ends
+stops_so _ ended o ends read write = absurd ends
 
 pub ran_by : (ended : Ended) (o : Outside) → ConvertedAs ended.status ended o → CountsFaults ended.status o → RanConvert ended o
 ran_by ended o ends faults = record { ends = ends; stops = stops_so ended.status ended o ends; faults = faults }

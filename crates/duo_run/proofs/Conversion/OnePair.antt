@@ -90,8 +90,7 @@ numbered_line_is h line event is says =
 abbrev SayEvents : Heading → List (List ℕ) → List Event → Type 0
 SayEvents h [] [] = Unit {0}
 SayEvents h (line ∷ lines) (event ∷ events) = IsLine line × (said_after kind.Pair h line ≡ Ok (said.Step event)) × SayEvents h lines events
-SayEvents h [] (event ∷ events) = ⊥
-SayEvents h (line ∷ lines) [] = ⊥
+SayEvents h _ _ = ⊥
 
 -- the events of an input are said by the lines after its header
 abbrev events_in : Heading → List Event → Lines → List Event
@@ -107,13 +106,11 @@ say_line : (h : Heading) (log : List Event) (line : List ℕ) (rest : Lines) (r 
     → ((event : Event) → SayEvents h (take (length (events_in h (log ++ event ∷ []) rest)) (texts rest)) (events_in h (log ++ event ∷ []) rest))
     → SayEvents h (take (length (with_room is_full log (steps event_of (r ∷ map (said_after kind.Pair h) (texts rest))))) (line ∷ texts rest)) (with_room is_full log (steps event_of (r ∷ map (said_after kind.Pair h) (texts rest))))
 say_line h log line rest (Ok (said.Step event)) is says later = say_room h log line rest event (is_full log) is says (later event)
-say_line h log line rest (Ok said.End) is says later = tt
-say_line h log line rest (Err cause) is says later = tt
+say_line h log line rest _ is says later = tt
 
 say_events : (h : Heading) (lines : Lines) (log : List Event) → AreLines lines → SayEvents h (take (length (events_in h log lines)) (texts lines)) (events_in h log lines)
-say_events h [] log are = tt
-say_events h (Err why ∷ rest) log are = tt
 say_events h (Ok line ∷ rest) log are = say_line h log line rest (said_after kind.Pair h line) are.0 refl (λ event. say_events h rest (log ++ event ∷ []) are.1)
+say_events h _ log are = tt
 
 -- the lines of the converted events, and `end`
 abbrev event_lines : List (List ℕ) → Lines
@@ -126,15 +123,13 @@ events_read h (line ∷ lines) (event ∷ events) say =
     ap lines_of (ap (λ (t : List ℕ). (t ++ flat_map event_text lines) ++ codes "end\n") (sym (append_assoc (codes "1 ") line (10 ∷ []))) ∙ append_assoc (line_text (codes "1 " ++ line)) (flat_map event_text lines) (codes "end\n"))
     ∙ line_read (codes "1 " ++ line) (flat_map event_text lines ++ codes "end\n") (numbered_line_is h line event say.0 say.1)
     ∙ ap (λ (ls : Lines). Ok (codes "1 " ++ line) ∷ ls) (events_read h lines events say.2)
-events_read h [] (event ∷ events) say = absurd say
-events_read h (line ∷ lines) [] say = absurd say
+events_read h _ _ say = absurd say
 
 -- after these `end` comes
 end_comes : (h : Heading) (lines : List (List ℕ)) (events : List Event) → SayEvents h lines events → slice_get (event_lines lines) (length events) ≡ Some (Ok (codes "end"))
 end_comes h [] [] say = refl
 end_comes h (line ∷ lines) (event ∷ events) say = end_comes h lines events say.2
-end_comes h [] (event ∷ events) say = absurd say
-end_comes h (line ∷ lines) [] say = absurd say
+end_comes h _ _ say = absurd say
 
 -- an event of the only pair
 abbrev of_one : Event → PairsEvent
@@ -163,8 +158,7 @@ room_said h (line ∷ lines) (event ∷ events) log say few =
     ∙ ap (λ (b : Bool). if b then [] else of_one event ∷ with_room full2 (map of_one log ++ of_one event ∷ []) later) (has_room h log (omega (arith, few)))
     ∙ ap (λ (l : List PairsEvent). of_one event ∷ with_room full2 l later) (sym (map-append of_one log (event ∷ [])))
     ∙ ap (λ (es : List PairsEvent). of_one event ∷ es) (room_said h lines events (log ++ event ∷ []) say.2 (omega (arith, few, longer)))
-room_said h [] (event ∷ events) log say few = absurd say
-room_said h (line ∷ lines) [] log say few = absurd say
+room_said h _ _ log say few = absurd say
 
 -- after a line of a header it isn't at its start
 profile_started : (p : Place) (h : Heading) (word : ℕ) → is_start (profile_taken p h word).place ≡ false
@@ -173,22 +167,18 @@ profile_started other h word = refl
 
 rule_started : (line : RuleLine) → is_start (rule_place line) ≡ false
 rule_started (rule.Any n) = refl
-rule_started rule.Exact = refl
-rule_started rule.Ranges = refl
+rule_started _ = refl
 
 abbrev IsStarted : Heading → Type 0
 IsStarted h = is_start h.place ≡ false
 
 with_started : (h : Heading) (line : HeaderLine) → IfOk (heading_with h line) IsStarted
-with_started h (says.Lengths line) = refl
-with_started h (says.Master line) = refl
 with_started h (says.Profile word) = profile_started h.place h word
 with_started h (says.App bytes) = IfOk-map (master_with_app h.master bytes) _ _ (IfOk-every (master_with_app h.master bytes) _ (λ _. refl))
-with_started h (says.Slave line) = refl
 with_started h (says.Rule line) = rule_started line
 with_started h (says.Bytes bytes) = IfOk-map (slave_with_bytes h.slave bytes) _ _ (IfOk-every (slave_with_bytes h.slave bytes) _ (λ _. refl))
 with_started h (says.Range pairs) = IfOk-map (slave_with_pairs h.slave pairs) _ _ (IfOk-every (slave_with_pairs h.slave pairs) _ (λ _. refl))
-with_started h says.Go = refl
+with_started h _ = refl
 
 fields_started : (h : Heading) (fields : List (List ℕ)) → IfOk (fields_taken h fields) IsStarted
 fields_started h [] = tt
@@ -275,10 +265,9 @@ follow_line h m line rest headed (Ok next) started more taken is are later e =
 follow_line h m line rest headed (Err cause) started more taken is are later e = cc
 
 follow : (h : Heading) (m : ℕ) (lines : Lines) (headed : WholeHeader) → IsStarted h → heading_is_whole h ≡ false → AreLines lines → pair_header m h lines ≡ Ok headed → Follows h m lines headed
-follow h m [] headed started more are e = cc
-follow h m (Err why ∷ rest) headed started more are e = cc
 follow h m (Ok line ∷ rest) headed started more are e =
     follow_line h m line rest headed (heading_after h line) started more refl are.0 are.1 (λ next s w f. follow next (m + 1) rest headed s w are.1 f) e
+follow h m _ headed started more are e = cc
 
 -- the lines after the header
 length-of_one : (events : List Event) → length (map of_one events) ≡ length events
@@ -342,9 +331,8 @@ by_title title rest headed false are e stops few = cc
 
 by_lines : (lines : Lines) (headed : WholeHeader) → AreLines lines → pair_header 1 (heading_new kind.Pair) lines ≡ Ok headed → (input_after (schedule_format kind.Pair) headed).stop ≡ AtEnd → length (input_after (schedule_format kind.Pair) headed).events ≤ MAX_EVENTS
     → IsOnePair headed.heading (input_after (schedule_format kind.Pair) headed).events (input_read pairs_format (converted_by (Ok headed) (texts lines)))
-by_lines [] headed are e stops few = cc
-by_lines (Err why ∷ rest) headed are e stops few = cc
 by_lines (Ok title ∷ rest) headed are e stops few = by_title title rest headed (bytes_eq title (codes "fsoe 1 pair")) are.1 e stops few
+by_lines _ headed are e stops few = cc
 
 -- a header that isn't done doesn't end an input
 whole_on : (number : ℕ) (rest : Lines) (h : Heading) (whole : Bool) → (pair_header (number + 1) h rest ≡ Err AtEnd → ⊥) → (if whole then Ok (record { heading = h; lines = number; rest = rest }) else pair_header (number + 1) h rest) ≡ Err AtEnd → ⊥
@@ -357,9 +345,8 @@ step_on number rest (Ok h) later e = whole_on number rest h (heading_is_whole h)
 step_on number rest (Err cause) later e = cc
 
 not_at_end : (number : ℕ) (h : Heading) (lines : Lines) → pair_header number h lines ≡ Err AtEnd → ⊥
-not_at_end number h [] e = cc
-not_at_end number h (Err why ∷ rest) e = cc
 not_at_end number h (Ok text ∷ rest) e = step_on number rest (heading_after h text) (λ next. not_at_end (number + 1) next rest) e
+not_at_end number h _ e = cc
 
 by_header : (lines : Lines) (r : Result WholeHeader Stop) → AreLines lines → pair_header 1 (heading_new kind.Pair) lines ≡ r → (input_by (schedule_format kind.Pair) r).stop ≡ AtEnd → length (input_by (schedule_format kind.Pair) r).events ≤ MAX_EVENTS
     → IsSomeAnd (input_by (schedule_format kind.Pair) r).heading (λ h. IsOnePair h (input_by (schedule_format kind.Pair) r).events (input_read pairs_format (converted_by r (texts lines))))

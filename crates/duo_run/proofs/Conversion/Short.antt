@@ -103,8 +103,7 @@ alone None cause Q known = tt
 -- one field, and no field
 one_short : {B : Type 0} (fields : List (List ℕ)) (f : List ℕ → Result B LineCause) → ((field : List ℕ) → IfOk (f field) (λ _. length field ≤ 511)) → IfOk (one_field fields >>= f) (λ _. total fields ≤ 512)
 one_short (field ∷ []) f short = IfOk-weaker (f field) _ _ (λ x le. omega (arith, le)) (short field)
-one_short [] f short = tt
-one_short (field ∷ next ∷ more) f short = tt
+one_short _ f short = tt
 
 none_short : (fields : List (List ℕ)) (says : ScheduleLine) → IfOk (bare_line says fields) (λ _. total fields ≤ 512)
 none_short [] says = omega arith
@@ -114,16 +113,13 @@ hex_field_short : (most : ℕ) (fields : List (List ℕ)) → most ≤ 255 → I
 hex_field_short most fields low = one_short fields (λ field. value_or cause.Hex (bytes_said most field)) (λ field. alone (bytes_said most field) cause.Hex _ (λ bytes e. let le = hex_short most field bytes e in omega (arith, le, low)))
 
 three_short : (to : End) (sends : End → ℕ) (fields : List (List ℕ)) → IfOk (altered_line to sends fields) (λ _. total fields ≤ 512)
-three_short to sends [] = tt
-three_short to sends (reference ∷ []) = tt
-three_short to sends (reference ∷ place ∷ []) = tt
 three_short to sends (reference ∷ place ∷ digits ∷ []) =
     by_value (number_said 65535 place) cause.Number _ _ (λ pos e. by_value (reference_of reference) cause.Reference _ _ (λ back d. by_value (bytes_said 1 digits) cause.Hex _ _ (λ mask b.
     let p = number_short 65535 place pos (omega arith) e in
     let r = reference_short reference back d in
     let m = hex_short 1 digits mask b in
     IfOk-every (if nat_lt pos (delivered_len sends to) then Ok (line.Step (event.Altered to back pos (slice_index mask 0))) else Err cause.Position) _ (λ _. omega (arith, p, r, m)))))
-three_short to sends (reference ∷ place ∷ digits ∷ next ∷ more) = tt
+three_short to sends _ = tt
 
 -- what a word says with its fields
 said_short : (sends : End → ℕ) (profiles : End → Profile) (word : PairWord) (fields : List (List ℕ)) → IfOk (pair_said sends profiles (Some word) fields) (λ _. total fields ≤ 512)

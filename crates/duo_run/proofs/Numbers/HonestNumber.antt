@@ -33,9 +33,8 @@ two_later n =
     rw (later, sooner, parity) refl
 
 in_turn_at : (n : ℕ) → event_in_turn (suc (suc n)) ≡ event.Deliver (turned end_name.Slave n) 1
-in_turn_at zero = refl
-in_turn_at (suc zero) = refl
 in_turn_at (suc (suc n)) = two_later n ∙ in_turn_at n
+in_turn_at _ = refl
 
 -- the events of number 0: a tick of the master, and then the last frames in turn, to the slave first
 events_of_zero : (n : ℕ) → made 0 (suc n) ≡ event.Tick end_name.Master ∷ alternating end_name.Slave n

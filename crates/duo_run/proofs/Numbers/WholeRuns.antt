@@ -31,9 +31,8 @@ still_two x w two = record {
 
 -- the last two frames are there
 last_two : (frames : List (List ℕ)) → 2 ≤ length frames → ((f : List ℕ) × (back_th 1 frames ≡ Some f)) × ((f : List ℕ) × (back_th 2 frames ≡ Some f))
-last_two [] two = absurd (omega (arith, two))
-last_two (f ∷ []) two = absurd (omega (arith, two))
 last_two (f ∷ g ∷ frames) two = ((f, refl), (g, refl))
+last_two _ two = absurd (omega (arith, two))
 
 -- the last frame is there
 last_one : (frames : List (List ℕ)) → 1 ≤ length frames → (f : List ℕ) × (back_th 1 frames ≡ Some f)
@@ -128,11 +127,9 @@ next_goes number (suc (suc (suc (suc count)))) two = later_goes number (suc (suc
 
 two_more : (number count : ℕ) (x : Entry) → (4 ≤ count → SentTwo (entries_of number count)) → entries_of number (suc count) ≡ x ∷ entries_of number count
     → 4 ≤ suc count → SentTwo (entries_of number (suc count))
-two_more number zero x two next late = absurd (omega (arith, late))
-two_more number (suc zero) x two next late = absurd (omega (arith, late))
-two_more number (suc (suc zero)) x two next late = absurd (omega (arith, late))
 two_more number (suc (suc (suc zero))) x two next late = two_after_four number
 two_more number (suc (suc (suc (suc count)))) x two next late = subst SentTwo (sym next) (still_two x _ (two (omega arith)))
+two_more number _ x two next late = absurd (omega (arith, late))
 
 -- so many events are made
 length-made : (number count : ℕ) → length (made number count) ≡ count

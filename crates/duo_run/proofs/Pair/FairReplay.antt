@@ -20,12 +20,7 @@ proper h ms ss set (event.Put end_name.Master load) fits = fits.1 ∙ sym set.0.
 proper h ms ss set (event.Put end_name.Slave load) fits = fits.1 ∙ sym set.1.1
 proper h ms ss set (event.Nonce end_name.Master id) fits = subst (λ (p : Profile). IsTrue (allows_id p id)) (sym set.0.2.profile_is) fits.1
 proper h ms ss set (event.Nonce end_name.Slave id) fits = subst (λ (p : Profile). IsTrue (allows_id p id)) (sym set.1.2.profile_is) fits.1
-proper h ms ss set (event.Deliver to back) fits = tt
-proper h ms ss set (event.Altered to back pos mask) fits = tt
-proper h ms ss set (event.Raw to frame) fits = tt
-proper h ms ss set (event.Tick at) fits = tt
-proper h ms ss set (event.Hold at failsafe) fits = tt
-proper h ms ss set (event.Local at) fits = tt
+proper h ms ss set _ fits = tt
 
 all_proper : (h : Heading) (ms : MasterSettings) (ss : SlaveSettings) (events : List Event) → AreSetTo h ms ss → All (Fits (own_length h) (heading_profile h)) events → All (IsProperEvent ms ss) events
 all_proper h ms ss events set fits = All-weaker (Fits (own_length h) (heading_profile h)) (IsProperEvent ms ss) (proper h ms ss set) events fits

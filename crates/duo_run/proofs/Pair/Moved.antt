@@ -11,30 +11,15 @@ use Rattle.schedule_file.specs.declared.event.Event.TheVariants as event
 pub moved_within : (v : WindowView) (frames : List (List ℕ)) (event : Event) → IsWritable event → v ≡ window_of frames → move_from v.frames event ≡ move_from frames event
 moved_within v frames (event.Deliver to back) writable h = ap delivery (ap (λ (v : WindowView). back_th back v.frames) h ∙ back_within 64 back frames writable.1)
 moved_within v frames (event.Altered to back pos mask) writable h = ap (altered_delivery pos mask) (ap (λ (v : WindowView). back_th back v.frames) h ∙ back_within 64 back frames writable.1)
-moved_within v frames (event.Raw to frame) writable h = refl
-moved_within v frames (event.Tick at) writable h = refl
-moved_within v frames (event.Put at load) writable h = refl
-moved_within v frames (event.Hold at failsafe) writable h = refl
-moved_within v frames (event.Nonce at id) writable h = refl
-moved_within v frames (event.Local at) writable h = refl
+moved_within v frames _ writable h = refl
 
 -- what an event is to its end is proper there, where the event fits
 pub master_proper : (v : DuoView) (event : Event) (came : List ℕ) → end_of_event event ≡ end_name.Master → Fits (length_of (lengths_of v)) (profile_of (profiles_of v)) event → IsProper (OfMaster v.master.kit.settings) (move_at event came)
-master_proper v (event.Deliver to back) came here fits = tt
-master_proper v (event.Altered to back pos mask) came here fits = tt
-master_proper v (event.Raw to frame) came here fits = tt
-master_proper v (event.Tick at) came here fits = tt
 master_proper v (event.Put at load) came here fits = fits.1 ∙ ap (length_of (lengths_of v)) here
-master_proper v (event.Hold at failsafe) came here fits = tt
 master_proper v (event.Nonce at id) came here fits = subst (λ (at : End). IsTrue (allows_id (profile_of (profiles_of v) at) id)) here fits.1
-master_proper v (event.Local at) came here fits = tt
+master_proper v _ came here fits = tt
 
 pub slave_proper : (v : DuoView) (event : Event) (came : List ℕ) → IsDuo v → end_of_event event ≡ end_name.Slave → Fits (length_of (lengths_of v)) (profile_of (profiles_of v)) event → IsProper (OfSlave v.slave.kit.settings) (move_at event came)
-slave_proper v (event.Deliver to back) came duo here fits = tt
-slave_proper v (event.Altered to back pos mask) came duo here fits = tt
-slave_proper v (event.Raw to frame) came duo here fits = tt
-slave_proper v (event.Tick at) came duo here fits = tt
 slave_proper v (event.Put at load) came duo here fits = fits.1 ∙ ap (length_of (lengths_of v)) here ∙ duo.same.slave
-slave_proper v (event.Hold at failsafe) came duo here fits = tt
 slave_proper v (event.Nonce at id) came duo here fits = subst (λ (at : End). IsTrue (allows_id (profile_of (profiles_of v) at) id)) here fits.1
-slave_proper v (event.Local at) came duo here fits = tt
+slave_proper v _ came duo here fits = tt

@@ -20,11 +20,9 @@ pub for_named : {X : Type 0} (P : X → Type 0) (k : ℕ) (xs : List X) (x : X) 
 for_named {X} P k xs x at holds = subst (λ (o : Option X). IfSome o P) (sym at) holds
 
 pub set_beside : {X : Type 0} (xs : List X) (i k : ℕ) (y : X) → (k ≡ i → ⊥) → slice_get (slice_set xs i y) k ≡ slice_get xs k
-set_beside [] i k y h = refl
 set_beside (a ∷ xs) zero zero y h = absurd (h refl)
-set_beside (a ∷ xs) zero (suc k) y h = refl
-set_beside (a ∷ xs) (suc i) zero y h = refl
 set_beside (a ∷ xs) (suc i) (suc k) y h = set_beside xs i k y (λ e. h (ap suc e))
+set_beside _ _ _ y h = refl
 
 pub set_at : {X : Type 0} (xs : List X) (i : ℕ) (x y : X) → slice_get xs i ≡ Some x → slice_get (slice_set xs i y) i ≡ Some y
 set_at [] i x y at = cc

@@ -31,10 +31,9 @@ settings_more hs settings place h own at are is =
 -- the ends of each pair have the same lengths
 pub all_same_lengths : (hs : List Heading) (settings : List (MasterSettings × SlaveSettings)) → AreSettings hs settings → All (λ own. SameLengths own.0 own.1) settings
 all_same_lengths [] [] are = All-nil (λ own. SameLengths own.0 own.1)
-all_same_lengths [] (own ∷ settings) are = absurd are
-all_same_lengths (h ∷ hs) [] are = absurd are
 all_same_lengths (h ∷ hs) (own ∷ settings) are =
     All-cons (λ own. SameLengths own.0 own.1) own settings (same_lengths h own.0 own.1 are.0) (all_same_lengths hs settings are.1)
+all_same_lengths _ _ are = absurd are
 
 -- what both lists of pairs have at a place
 zip_both : {A B : Type 0} (R : A → B → Type 0) (xs : List A) (ys : List B) (j : ℕ) (x : A) (y : B) → AllZip R xs ys → slice_get xs j ≡ Some x → slice_get ys j ≡ Some y → R x y
@@ -52,15 +51,13 @@ pair_of own = record { master = own.0; slave = own.1 }
 
 set_to : (hs : List Heading) (settings : List (MasterSettings × SlaveSettings)) → AreSettings hs settings → AllZip IsPairOf hs (map pair_of settings)
 set_to [] [] are = tt
-set_to [] (own ∷ settings) are = absurd are
-set_to (h ∷ hs) [] are = absurd are
 set_to (h ∷ hs) (own ∷ settings) are = (are.0, set_to hs settings are.1)
+set_to _ _ are = absurd are
 
 new_stand : (settings : List (MasterSettings × SlaveSettings)) (duos : List DuoView) → AllZip (λ own v. DuoStands own.0 own.1 v []) settings duos → AllZip (λ p v. StandsOver p [] v) (map pair_of settings) duos
 new_stand [] [] new = tt
-new_stand [] (v ∷ duos) new = absurd new
-new_stand (own ∷ settings) [] new = absurd new
 new_stand (own ∷ settings) (v ∷ duos) new = (record { stands = new.0; whole = refl }, new_stand settings duos new.1)
+new_stand _ _ new = absurd new
 
 stand_each : (pairs : List Pair) (duos : List DuoView) → AllZip (λ p v. StandsOver p [] v) pairs duos → (k : ℕ) (p : Pair) (v : DuoView) → numbered k pairs ≡ Some p → numbered k duos ≡ Some v → StandsOver p [] v
 stand_each pairs duos new zero p v p-at v-at = cc
@@ -73,10 +70,7 @@ none_other k (p ∷ pairs) = ap (λ (others : List (Option ℕ)). None ∷ other
 -- a header that is done has a pair
 has_pair : (s : PairsStage) (before : List Heading) (last : Heading) → IsTrue (is_done s) → 0 < length (pairs_begun s before last)
 has_pair stage.Done before last done = let e = length_push before last in omega (arith, e)
-has_pair stage.Start before last done = cc
-has_pair stage.Title before last done = cc
-has_pair stage.Pairs before last done = cc
-has_pair stage.Refused before last done = cc
+has_pair _ before last done = cc
 
 pub some_settings : (h : PairsHeading) (settings : List (MasterSettings × SlaveSettings)) → IsTrue (pairs_heading_is_whole h) → AreSettings (pairs_of h) settings → 1 ≤ length settings
 some_settings h settings done are =

@@ -16,10 +16,8 @@ less-none None = refl
 less-none (Some n) = refl
 
 less-three : (a b c : Option ℕ) → less_of a (less_of b c) ≡ less_of (less_of a b) c
-less-three None b c = refl
-less-three (Some n) None c = refl
-less-three (Some n) (Some m) None = refl
 less-three (Some n) (Some m) (Some l) = ap (λ (n : ℕ). Some n) (min_three n m l)
+less-three _ _ _ = refl
 
 least-push : (numbers : List (Option ℕ)) (n : Option ℕ) → least (numbers ++ n ∷ []) ≡ less_of (least numbers) n
 least-push [] n = less-none n

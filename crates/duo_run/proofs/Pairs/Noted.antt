@@ -54,14 +54,13 @@ others_at k (suc j) (q ∷ pairs) past p at =
 others_are : (k : ℕ) (pairs : List Pair) (past : List PairsEvent) (others : List (Option ℕ)) → length others ≡ length pairs → ((j : ℕ) (p : Pair) → slice_get pairs j ≡ Some p → slice_get others j ≡ Some (other_event (k + j) p past))
     → others ≡ other_events k pairs past
 others_are k [] past [] e each = refl
-others_are k [] past (o ∷ others) e each = absurd (omega (arith, e))
-others_are k (p ∷ pairs) past [] e each = absurd (omega (arith, e))
 others_are k (p ∷ pairs) past (o ∷ others) e each =
     let n : k + 0 ≡ k = omega arith in
     let first : o ≡ other_event k p past = some_same (each 0 p refl) ∙ ap (λ (n : ℕ). other_event n p past) n in
     ap (λ (o : Option ℕ). o ∷ others) first
     ∙ ap (λ (rest : List (Option ℕ)). other_event k p past ∷ rest)
     (others_are (suc k) pairs past others (omega (arith, e)) (λ j q at. each (suc j) q at ∙ (let m : k + suc j ≡ suc k + j = omega arith in ap (λ (n : ℕ). Some (other_event n q past)) m)))
+others_are k _ past _ e each = absurd (omega (arith, e))
 
 pub others-length : (k : ℕ) (pairs : List Pair) (past : List PairsEvent) → length (other_events k pairs past) ≡ length pairs
 others-length k [] past = refl

@@ -13,11 +13,10 @@ one_pair h p q x y =
 
 same_pairs : (hs : List Heading) (a b : List Pair) → AllZip IsPairOf hs a → AllZip IsPairOf hs b → a ≡ b
 same_pairs [] [] [] x y = refl
-same_pairs [] [] (q ∷ b) x y = absurd y
 same_pairs [] (p ∷ a) b x y = absurd x
 same_pairs (h ∷ hs) [] b x y = absurd x
-same_pairs (h ∷ hs) (p ∷ a) [] x y = absurd y
 same_pairs (h ∷ hs) (p ∷ a) (q ∷ b) x y = ap (λ (p : Pair). p ∷ a) (one_pair h p q x.0 y.0) ∙ ap (λ (rest : List Pair). q ∷ rest) (same_pairs hs a b x.1 y.1)
+same_pairs _ _ _ x y = absurd y
 
 one_list : (heading : Option PairsHeading) (a b : List Pair) → ArePairs heading a → ArePairs heading b → a ≡ b
 one_list None a b x y = x ∙ sym y

@@ -19,11 +19,9 @@ begun-sound : Sound pair_begun
 begun-sound = new_sound kind.Pair
 
 pairs-sound : (s : PairsStage) (before : List Heading) (last : Heading) → All Sound before → Sound last → All Sound (pairs_begun s before last)
-pairs-sound stage.Start before last h p = All-nil Sound
-pairs-sound stage.Title before last h p = All-nil Sound
-pairs-sound stage.Refused before last h p = All-nil Sound
 pairs-sound stage.Pairs before last h p = All-push Sound before last h p
 pairs-sound stage.Done before last h p = All-push Sound before last h p
+pairs-sound _ before last h p = All-nil Sound
 
 -- a header after one more line
 pair-sound : (h : PairsHeading) (fields : List (List ℕ)) → AreSound h → IfOk (pair_taken h fields) AreSound
@@ -36,8 +34,7 @@ line-sound : (st : PairsStage) (h : PairsHeading) (text first : List ℕ) (field
 line-sound stage.Start h text first fields s = either (bytes_eq text (codes "fsoe 2 pairs")) (Ok (record h { stage = stage.Title })) (Err cause.Header) AreSound s tt
 line-sound stage.Title h text first fields s = either (bytes_eq first (codes "pair")) (pair_taken h fields) (Err cause.Header) AreSound (pair-sound h fields s) tt
 line-sound stage.Pairs h text first fields s = either (bytes_eq first (codes "pair") && may_end h.last) (pair_taken h fields) (last_taken h text) AreSound (pair-sound h fields s) (last-sound h text s)
-line-sound stage.Done h text first fields s = tt
-line-sound stage.Refused h text first fields s = tt
+line-sound _ h text first fields s = tt
 
 fields-sound : (h : PairsHeading) (text : List ℕ) (fields : List (List ℕ)) → AreSound h → IfOk (by_word cause.Header (pairs_line_taken h.stage h text) fields) AreSound
 fields-sound h text [] s = tt

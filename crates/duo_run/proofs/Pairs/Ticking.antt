@@ -52,9 +52,8 @@ taken_length (x ∷ xs) (suc i) h = let e = taken_length xs i (omega arith) in o
 
 pub taken_all : {X : Type 0} (xs : List X) (i : ℕ) → i ≡ length xs → take i xs ≡ xs
 taken_all [] zero e = refl
-taken_all [] (suc i) e = absurd (omega arith)
-taken_all (x ∷ xs) zero e = absurd (omega arith)
 taken_all (x ∷ xs) (suc i) e = ap (λ (rest : List _). x ∷ rest) (taken_all xs i (omega arith))
+taken_all _ _ e = absurd (omega arith)
 
 -- the line of one pair more
 lines-push : (n : ℕ) (own : ℕ → List Event) (at : End) (k m : ℕ) (pairs : List Pair) (p : Pair) → m ≡ k + length pairs
