@@ -30,7 +30,7 @@ pub use Rattle.plant_model.specs.Acts.{Act, App, Beginning, Event, Happen, PullF
 pub use Rattle.plant_model.specs.Bound.{Reacts, is_guarded, is_off, slave_offers}
 pub use Rattle.plant_model.specs.Fits.{Fits, lengths_at, lengths_in}
 pub use Rattle.plant_model.specs.Gifts.{each_uses, place_of, sent_uses}
-pub use Rattle.plant_model.specs.Pair.{has_other, is_tick, link_at, lowest_other, next_of, outputs_at, pair, pairs_by}
+pub use Rattle.plant_model.specs.Pair.{has_other, is_tick, link_at, lowest_other, next_of, outputs_at, pair, pairs_by, pulls_after}
 pub use Rattle.plant_model.specs.Uses.{Trace, Use}
 pub use Rattle.plant_model.specs.declared.journal.JournalStep.{JournalStep}
 pub use Rattle.reaction_bound.specs.Ages.{AgesView, HasAgeParts, HasWatchdog, watchdog_in}

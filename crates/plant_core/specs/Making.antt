@@ -1,16 +1,9 @@
 -- What a plant is made of.
 use Rattle.std.specs.Prelude.{ℕ, suc, ◌==◌, ◌||◌, Bool, false, List, [], ◌∷◌}
 use Rattle.param_load.specs.declared.master_settings.MasterSettings.{MasterSettings}
-use Rattle.plant_conf.specs.ConfView.{ConfView}
 use Rattle.plant_conf.specs.declared.conf.LinkConf.{LinkConf}
 use Rattle.plant_conf.specs.declared.conf.BoundSpec.{BoundSpec}
-use Rattle.multi_master.specs.Calls.{AppView}
-use Rattle.plant_model.specs.Acts.{Beginning}
 use Rattle.plant_core.specs.Link.{LinkView, new_link}
-
--- what a plant of this configuration begins with, in which this application runs first
-abbrev pub begins_with : ConfView → AppView → Beginning
-begins_with conf app = record { links = conf.links; app = app; seed = conf.seed }
 
 -- what the master of a connection is set to
 abbrev pub master_in : LinkConf → MasterSettings

@@ -47,8 +47,8 @@ impl<A> Model for Plant<A> {
 impl<A: Application> Plant<A> {
     ghost use Rattle.std.specs.Prelude.{[], map, IfOk, OnOk, OnErr, option_copied};
     ghost use Rattle.multi_master.specs.Standing.{app_view};
-    ghost use Rattle.plant_model.specs.Acts.{Event, App};
-    ghost use Rattle.plant_core.specs.Making.{begins_with, links_made};
+    ghost use Rattle.plant_model.specs.Acts.{Event, App, begins_with};
+    ghost use Rattle.plant_core.specs.Making.{links_made};
     ghost use Rattle.plant_core.specs.Standing.{Starts, TellsStill, seen, fixed_in, kept_at, lengths_kept, HasLink, Follows, ShowsPair, TellsOther, IsAged, ShowsOn, ShowsWorst};
     ghost use Rattle.plant_model.specs.Fits.{Fits, lengths_in};
 

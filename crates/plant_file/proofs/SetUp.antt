@@ -21,7 +21,8 @@ use Rattle.plant_model.specs.Past.{Named}
 use Rattle.plant_model.proofs.ByNet.{answers_by_net}
 use Rattle.plant_model.specs.declared.journal.JournalStep.{JournalStep}
 use Rattle.plant_file.specs.Handed.{Handed, entry_seen, handed}
-use Rattle.plant_file.specs.Plant.{PlantRun, RanSaid, RanUnless, WroteLine, begins_with}
+use Rattle.plant_model.specs.Acts.{begins_with}
+use Rattle.plant_file.specs.Plant.{PlantRun, RanSaid, RanUnless, WroteLine}
 use Rattle.plant_file.proofs.Picked.{chosen_seen, map_twice, within}
 
 -- the net was taken out of the configuration, at which a plant doesn't look

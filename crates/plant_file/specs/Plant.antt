@@ -21,7 +21,7 @@ use Rattle.plant_setup.specs.declared.fault.SetupFault.TheVariants as setup
 use Rattle.multi_master.specs.Calls.{AppView}
 use Rattle.black_channel.specs.Told.{Told}
 use Rattle.plant_model.specs.declared.journal.JournalStep.{JournalStep}
-use Rattle.plant_model.specs.Acts.{Act, Beginning}
+use Rattle.plant_model.specs.Acts.{Act, begins_with}
 use Rattle.plant_model.specs.NetCycles.{AnswersByNet, net_app}
 use Rattle.plant_model.specs.Past.{Named}
 use Rattle.plant_run.specs.Reporting.{Terms}
@@ -51,10 +51,6 @@ pub record HadNoMemory {C : Type 0} (ended : Ended) (o : Outside) (h : Handed C)
   pub ended_is : ended ≡ record { status = status.Memory; place = 0 }
   pub written : o.sink.after ≡ o.sink.before
   pub faults : o.sink.faults_after ≡ o.sink.faults_before
-
--- what a plant with this configuration begins with, where this application runs first
-abbrev pub begins_with : ConfView → AppView → Beginning
-begins_with conf app = record { links = conf.links; app = app; seed = conf.seed }
 
 -- a plant with this configuration ran over its script: first with the net, or the first application of the name that
 -- the configuration has, and over the first channel of the name that it has. The other applications were left to the

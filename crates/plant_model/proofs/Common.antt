@@ -25,7 +25,7 @@ pub use Rattle.plant_model.specs.Acts.{Act, App, Beginning, Event, Happen, PullF
 pub use Rattle.plant_model.specs.Bound.{HasLinks, Reacts, StaysOff, inputs_after, is_guarded, is_off, is_on, is_still, limit, offers_after, slave_offers}
 pub use Rattle.plant_model.specs.Gifts.{EmptiesRose, GivesHeld, GrewBy, RoseBy, ToldHolds, ToldLists, counted, each_uses, empty_pulls, gifts, held_after, place_of, pushes, sent_uses}
 pub use Rattle.plant_model.specs.JournalLaws.{Cycles, MastersAgree, PullsFit, line_steps, master_hears, one_if_left, pulled_in, short_ticks, tells_hearing}
-pub use Rattle.plant_model.specs.Pair.{if_same, is_tick, is_tick_event, link_at, next_of, own_events, own_part, pair, pairs_by, script_part, ticks}
+pub use Rattle.plant_model.specs.Pair.{if_same, is_tick, is_tick_event, link_at, next_of, own_events, own_part, pair, pairs_by, pulls_after, script_part, ticks}
 pub use Rattle.plant_model.specs.Past.{AppsAreSpare, IsPast, Named, Taken, passed, said, said_in, said_with, take_app, with_line}
 pub use Rattle.plant_model.specs.Promises.{AllSound}
 pub use Rattle.plant_model.specs.Uses.{Begin, Pull, Push, Trace, Use}

@@ -1,5 +1,5 @@
 -- What the channel gave, and how often it gave nothing, by the journal.
-use Rattle.plant_model.proofs.Common.{Act, App, Beginning, End, Event, Happen, IsPast, JournalStep, LinkConf, Parcel, Pull, PullFrom, Said, Start, Use, all_pushes, changed_by, counted, cycle_of, empty_pulls, frames_of, gifts, is_cut, is_tick, is_tick_event, journal, line_step, masters, newer, offer_step, offers, one_if_left, pair, peer, pulled_in, push_to, pushes_of, short_ticks, steps_of, uses, uses_after, uses_of}
+use Rattle.plant_model.proofs.Common.{Act, App, Beginning, End, Event, Happen, IsPast, JournalStep, LinkConf, Parcel, Pull, PullFrom, Said, Start, Use, all_pushes, changed_by, counted, cycle_of, empty_pulls, frames_of, gifts, is_cut, is_tick, is_tick_event, journal, line_step, masters, newer, offer_step, offers, one_if_left, pair, peer, pulled_in, pulls_after, push_to, pushes_of, short_ticks, steps_of, uses, uses_after, uses_of}
 use Rattle.std.proofs.Common.{◌≡◌, ℕ, zero, suc, ◌+◌, ◌-◌, Bool, true, false, List, [], ◌∷◌, ◌++◌, map, Option, Some, None, if◌then◌else◌, refl, sym, ap, ap₂, ◌∙◌, append_assoc, arith}
 use Rattle.std.specs.Prelude.{option_to_list}
 use Rattle.std.proofs.lemmas.List.{append-nil}
@@ -108,7 +108,7 @@ none_adds (suc room) n = omega arith
 short_joined : (room : ℕ) (xs ys : List JournalStep) → short_ticks room (xs ++ ys) + one_if_left (room_after room xs) 0 ≡ short_ticks room xs + short_ticks (room_after room xs) ys
 short_joined room [] ys = omega arith
 short_joined room (step.Script e ∷ xs) ys =
-    let next : ℕ = if is_tick_event e then 64 else 0 in
+    let next : ℕ = pulls_after (is_tick_event e) in
     omega (arith, short_joined next xs ys, none_adds room (short_ticks next (xs ++ ys)), none_adds room (short_ticks next xs))
 short_joined room (step.App ∷ xs) ys = omega (arith, short_joined 0 xs ys, none_adds room (short_ticks 0 (xs ++ ys)), none_adds room (short_ticks 0 xs))
 short_joined room (step.Offer link load ∷ xs) ys = short_joined room xs ys
@@ -125,8 +125,8 @@ offers_alone : (b : Beginning) (act : Act) (done : List Act) (room : ℕ) → sh
 offers_alone b act done room = ap (short_ticks room) (sym (append-nil (offers b act done))) ∙ offers_then b act done room []
 
 line_short : (b : Beginning) (said : Said) (done : List Act) (room : ℕ)
-    → short_ticks room (line_step said ∷ offers b (Happen said) done) ≡ one_if_left room (one_if_left (if is_tick (line_step said) then 64 else 0) 0)
-line_short b (Event e) done room = ap (one_if_left room) (offers_alone b (Happen (Event e)) done (if is_tick_event e then 64 else 0))
+    → short_ticks room (line_step said ∷ offers b (Happen said) done) ≡ one_if_left room (one_if_left (pulls_after (is_tick (line_step said))) 0)
+line_short b (Event e) done room = ap (one_if_left room) (offers_alone b (Happen (Event e)) done (pulls_after (is_tick_event e)))
 line_short b (App a) done room = ap (one_if_left room) (offers_alone b (Happen (App a)) done 0)
 
 -- a tick is short while parcels may come, and stays so after a pull that gave nothing
@@ -135,7 +135,7 @@ past_short b room (Start ∷ []) h = rw h (offers_alone b Start [] 0)
 past_short b room (Happen said ∷ done) h =
     let js : List JournalStep = journal b done in
     let left : ℕ = room_after 0 js in
-    let next : ℕ = one_if_left (if is_tick (line_step said) then 64 else 0) 0 in
+    let next : ℕ = one_if_left (pulls_after (is_tick (line_step said))) 0 in
     let here : one_if_left room 0 ≡ next = ap (λ (n : ℕ). one_if_left n 0) h.0 in
     omega (arith, short_joined 0 js (line_step said ∷ offers b (Happen said) done), line_short b said done left, none_adds left next, past_short b 0 done h.1, here)
 past_short b room (PullFrom None ∷ done) h =

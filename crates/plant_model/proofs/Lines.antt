@@ -1,13 +1,13 @@
 -- Where the lines of the script and the pulls stand in a journal.
-use Rattle.plant_model.proofs.Common.{Act, App, Beginning, Event, Happen, IsPast, JournalStep, Parcel, PullFrom, PullsFit, Said, Start, changed_by, cycle_of, is_tick, is_tick_event, journal, line_step, line_steps, masters, offer_step, offers, said_in, steps_of, with_line}
-use Rattle.std.proofs.Common.{◌≡◌, ◌<◌, ℕ, suc, ◌-◌, List, [], ◌∷◌, ◌++◌, map, Option, Some, None, if◌then◌else◌, refl, sym, ap, ap₂, subst, ◌∙◌, arith}
+use Rattle.plant_model.proofs.Common.{Act, App, Beginning, Event, Happen, IsPast, JournalStep, Parcel, PullFrom, PullsFit, Said, Start, changed_by, cycle_of, is_tick, is_tick_event, journal, line_step, line_steps, masters, offer_step, offers, pulls_after, said_in, steps_of, with_line}
+use Rattle.std.proofs.Common.{◌≡◌, ◌<◌, ℕ, suc, ◌-◌, List, [], ◌∷◌, ◌++◌, map, Option, Some, None, refl, sym, ap, ap₂, subst, ◌∙◌, arith}
 use Rattle.std.proofs.lemmas.List.{append-nil, map-append}
 use Rattle.plant_model.specs.declared.journal.JournalStep.TheVariants as step
 
 -- how many parcels may still come after these steps
 abbrev pub room_after : ℕ → List JournalStep → ℕ
 room_after room [] = room
-room_after room (step.Script e ∷ steps) = room_after (if is_tick_event e then 64 else 0) steps
+room_after room (step.Script e ∷ steps) = room_after (pulls_after (is_tick_event e)) steps
 room_after room (step.App ∷ steps) = room_after 0 steps
 room_after room (step.Offer link load ∷ steps) = room_after room steps
 room_after room (step.Pulled parcel ∷ steps) = room_after (room - 1) steps
@@ -20,7 +20,7 @@ pub record Leaves (room : ℕ) (steps : List JournalStep) (left : ℕ) : Type 0 
 then_leaves : (room mid left : ℕ) (xs ys : List JournalStep) → Leaves room xs mid → Leaves mid ys left → Leaves room (xs ++ ys) left
 then_leaves room mid left [] ys h i = subst (λ (r : ℕ). Leaves r ys left) (sym h.left_is) i
 then_leaves room mid left (step.Script e ∷ xs) ys h i =
-    let rest = then_leaves (if is_tick_event e then 64 else 0) mid left xs ys (record { fit = h.fit; left_is = h.left_is }) i in record { fit = rest.fit; left_is = rest.left_is }
+    let rest = then_leaves (pulls_after (is_tick_event e)) mid left xs ys (record { fit = h.fit; left_is = h.left_is }) i in record { fit = rest.fit; left_is = rest.left_is }
 then_leaves room mid left (step.App ∷ xs) ys h i = let rest = then_leaves 0 mid left xs ys (record { fit = h.fit; left_is = h.left_is }) i in record { fit = rest.fit; left_is = rest.left_is }
 then_leaves room mid left (step.Offer link load ∷ xs) ys h i = let rest = then_leaves room mid left xs ys (record { fit = h.fit; left_is = h.left_is }) i in record { fit = rest.fit; left_is = rest.left_is }
 then_leaves room mid left (step.Pulled parcel ∷ xs) ys h i =
@@ -37,10 +37,10 @@ offers_leave b act done room = map_leaves (changed_by (cycle_of b act done) (mas
 abbrev pub Leave : Beginning → List Act → ℕ → Type 0
 Leave b done left = Leaves 0 (journal b done) left
 
-line_leaves : (b : Beginning) (said : Said) (done : List Act) (room : ℕ) → Leave b done room → Leave b (Happen said ∷ done) (if is_tick (line_step said) then 64 else 0)
+line_leaves : (b : Beginning) (said : Said) (done : List Act) (room : ℕ) → Leave b done room → Leave b (Happen said ∷ done) (pulls_after (is_tick (line_step said)))
 line_leaves b (Event e) done room h =
-    let changed = offers_leave b (Happen (Event e)) done (if is_tick_event e then 64 else 0) in
-    then_leaves 0 room (if is_tick_event e then 64 else 0) (journal b done) (step.Script e ∷ offers b (Happen (Event e)) done) h (record { fit = changed.fit; left_is = changed.left_is })
+    let changed = offers_leave b (Happen (Event e)) done (pulls_after (is_tick_event e)) in
+    then_leaves 0 room (pulls_after (is_tick_event e)) (journal b done) (step.Script e ∷ offers b (Happen (Event e)) done) h (record { fit = changed.fit; left_is = changed.left_is })
 line_leaves b (App a) done room h =
     let changed = offers_leave b (Happen (App a)) done 0 in
     then_leaves 0 room 0 (journal b done) (step.App ∷ offers b (Happen (App a)) done) h (record { fit = changed.fit; left_is = changed.left_is })
@@ -65,7 +65,7 @@ pub past_fits : (b : Beginning) (room : ℕ) (done : List Act) → IsPast room d
 past_fits b room (Start ∷ []) h = record { left = 0; fits = offers_leave b Start [] 0; same = λ some. sym h }
 past_fits b room (Happen said ∷ done) h =
     let before = past_fits b 0 done h.1 in
-    record { left = if is_tick (line_step said) then 64 else 0; fits = line_leaves b said done before.left before.fits; same = λ some. sym h.0 }
+    record { left = pulls_after (is_tick (line_step said)); fits = line_leaves b said done before.left before.fits; same = λ some. sym h.0 }
 past_fits b room (PullFrom None ∷ done) h =
     let before = past_fits b (suc h.1.0) done h.1.1 in
     record { left = before.left; fits = none_leaves b done before.left before.fits; same = λ some. absurd (omega (arith, some, h.0)) }

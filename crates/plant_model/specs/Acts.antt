@@ -7,6 +7,7 @@ use Rattle.fsoe_base.specs.declared.command.End.TheVariants as side
 use Rattle.failsafe_io.specs.Application.{Answer}
 use Rattle.black_channel.specs.declared.channel.Parcel.{Parcel}
 use Rattle.param_load.specs.declared.master_settings.MasterSettings.{MasterSettings}
+use Rattle.plant_conf.specs.ConfView.{ConfView}
 use Rattle.plant_conf.specs.declared.conf.LinkConf.{LinkConf}
 use Rattle.exchange_model.specs.Ends.{peer}
 use Rattle.exchange_model.specs.World.{frames_of}
@@ -23,6 +24,10 @@ pub record Beginning : Type 0 where
   pub links : List LinkConf
   pub app : AppView
   pub seed : ℕ
+
+-- so with this configuration and this application
+abbrev pub begins_with : ConfView → AppView → Beginning
+begins_with conf app = record { links = conf.links; app = app; seed = conf.seed }
 
 -- what a line of the script has happen: an event, or another application runs from now on
 pub data Said : Type 0 where

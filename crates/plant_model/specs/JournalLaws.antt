@@ -4,10 +4,10 @@ use Rattle.param_load.specs.declared.entry.Entry.{Entry}
 use Rattle.exchange_model.specs.World.{deeds}
 use Rattle.multi_master.specs.Calls.{connection}
 use Rattle.plant_model.specs.Acts.{Beginning, cycle_of, App, Happen, masters, Start, journal, Act, PullFrom, Event}
-use Rattle.plant_model.specs.Pair.{pair, link_at, is_tick_event}
+use Rattle.plant_model.specs.Pair.{pair, link_at, is_tick_event, pulls_after}
 use Rattle.plant_model.specs.declared.journal.JournalStep.TheVariants as step
 use Rattle.plant_model.specs.declared.journal.JournalStep.{JournalStep}
-use Rattle.std.specs.Prelude.{suc, [], IsSomeAnd, true, Some, false, List, IfSome, Option, ◌-◌, ◌≡◌, Bool, ◌∷◌, if◌then◌else◌, is_some, ◌<◌, ℕ, None, zero}
+use Rattle.std.specs.Prelude.{suc, [], IsSomeAnd, true, Some, false, List, IfSome, Option, ◌-◌, ◌≡◌, Bool, ◌∷◌, is_some, ◌<◌, ℕ, None, zero}
 use Rattle.black_channel.specs.declared.channel.Parcel.{Parcel}
 use Rattle.plant_conf.specs.declared.conf.LinkConf.{LinkConf}
 use Rattle.fsoe_base.specs.declared.command.End.{End}
@@ -47,7 +47,7 @@ Cycles b act acts = is_some (cycle_of b act acts) ≡ runs_cycle b.links act (jo
 -- many may come before the first line of these steps
 abbrev pub PullsFit : ℕ → List JournalStep → Type 0
 PullsFit room [] = Unit {0}
-PullsFit room (step.Script event ∷ steps) = PullsFit (if is_tick_event event then 64 else 0) steps
+PullsFit room (step.Script event ∷ steps) = PullsFit (pulls_after (is_tick_event event)) steps
 PullsFit room (step.App ∷ steps) = PullsFit 0 steps
 PullsFit room (step.Offer link load ∷ steps) = PullsFit room steps
 PullsFit room (step.Pulled parcel ∷ steps) = (0 < room) × PullsFit (room - 1) steps
@@ -67,7 +67,7 @@ one_if_left (suc room) n = suc n
 -- many may come before the first line of these steps
 abbrev pub short_ticks : ℕ → List JournalStep → ℕ
 short_ticks room [] = one_if_left room 0
-short_ticks room (step.Script event ∷ steps) = one_if_left room (short_ticks (if is_tick_event event then 64 else 0) steps)
+short_ticks room (step.Script event ∷ steps) = one_if_left room (short_ticks (pulls_after (is_tick_event event)) steps)
 short_ticks room (step.App ∷ steps) = one_if_left room (short_ticks 0 steps)
 short_ticks room (step.Offer link load ∷ steps) = short_ticks room steps
 short_ticks room (step.Pulled parcel ∷ steps) = short_ticks (room - 1) steps

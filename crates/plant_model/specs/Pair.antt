@@ -89,6 +89,11 @@ abbrev pub is_tick : JournalStep → Bool
 is_tick (step.Script event) = is_tick_event event
 is_tick _ = false
 
+-- how many parcels a plant pulls at most after a line of its script, where it is a tick, and where not
+abbrev pub pulls_after : Bool → ℕ
+pulls_after true = 64
+pulls_after false = 0
+
 -- the number of ticks in a journal
 abbrev pub ticks : List JournalStep → ℕ
 ticks journal = count_by is_tick journal

@@ -9,7 +9,7 @@ use Rattle.plant_model.specs.declared.event.PlantLine.TheVariants as line
 use Rattle.plant_model.specs.Acts.{Said, Event, App, Act, Start, Happen, PullFrom, line_step}
 use Rattle.plant_conf.specs.declared.conf.LinkConf.{LinkConf}
 use Rattle.plant_model.specs.Fits.{EventFits}
-use Rattle.plant_model.specs.Pair.{is_tick}
+use Rattle.plant_model.specs.Pair.{is_tick, pulls_after}
 
 -- what a line says fits the connections: an event of the script; any application does
 abbrev pub SaidFits : List LinkConf → Said → Type 0
@@ -21,7 +21,7 @@ SaidFits links (App app) = Unit {0}
 -- gives nothing, and none elsewhere
 abbrev pub IsPast : ℕ → List Act → Type 0
 IsPast room (Start ∷ []) = room ≡ 0
-IsPast room (Happen said ∷ acts) = (room ≡ (if is_tick (line_step said) then 64 else 0)) × IsPast 0 acts
+IsPast room (Happen said ∷ acts) = (room ≡ (pulls_after (is_tick (line_step said)))) × IsPast 0 acts
 IsPast room (PullFrom None ∷ acts) = (room ≡ 0) × ((left : ℕ) × IsPast (suc left) acts)
 IsPast room (PullFrom (Some parcel) ∷ acts) = IsPast (suc room) acts
 IsPast room _ = ⊥

@@ -1,6 +1,6 @@
--- Acts of the worked plant whose channel keeps order: its journal, and what happened to the channel. Acts are listed
--- newest first, steps and uses oldest first.
-use Rattle.std.specs.Prelude.{◌≡◌, ℕ, true, false, List, [], ◌∷◌, codes, map, reverse, take, Some}
+-- Acts of the worked plant: its journal, and what happened to the channel. Acts are listed newest first, steps and uses
+-- oldest first.
+use Rattle.std.specs.Prelude.{◌≡◌, ℕ, true, false, List, [], ◌∷◌, codes, map, reverse, take, Some, None}
 use Rattle.hex.specs.Hex.{decode_of}
 use Rattle.fsoe_base.specs.declared.command.End.{End}
 use Rattle.fsoe_base.specs.declared.command.End.TheVariants as side
@@ -12,6 +12,7 @@ use Rattle.plant_model.specs.declared.event.PlantEvent.TheVariants as event
 use Rattle.plant_model.specs.declared.journal.JournalStep.{JournalStep}
 use Rattle.plant_model.specs.declared.journal.JournalStep.TheVariants as step
 use Rattle.plant_model.specs.Acts.{Beginning, Event, Act, Start, Happen, PullFrom, journal, uses}
+use Rattle.plant_model.specs.Past.{IsPast}
 use Rattle.plant_model.specs.Uses.{Use, Begin, Push, Pull}
 use Rattle.plant_model.specs.Gifts.{GivesHeld}
 use Rattle.plant_model.specs.WorkedPlant.{both_links, tick, offer}
@@ -79,30 +80,36 @@ first_uses =
     ∷ Push (for_master 2 (codes "4e020090470000"))
     ∷ []
 
--- so they are, and a channel that keeps order gives just these parcels
+-- so they are, and a channel that keeps order gives just these parcels; 58 more may be pulled in this tick
 unfoldable pub FirstActs : Type 0
 FirstActs =
     (journal driving_plant first_acts ≡ first_steps)
     × (uses driving_plant first_acts ≡ first_uses)
     × GivesHeld (uses driving_plant first_acts) (Ring [])
+    × IsPast 58 first_acts
 
--- the same where the first connection is cut: what its ends send isn't pushed, and what was under way still comes
+-- the same where the channel gives nothing in the first tick, and the first connection is cut after it: what its ends
+-- send isn't pushed, and what was under way still comes
 abbrev pub cut_acts : List Act
 cut_acts =
     reverse
     (Start
     ∷ Happen (Event event.Tick)
+    ∷ PullFrom None
     ∷ Happen (Event (event.Cut 1 true))
+    ∷ Happen (Event event.Tick)
     ∷ map (λ parcel. PullFrom (Some parcel)) (take 2 first_parcels))
 
--- the uses then
+-- the uses then, and how many more parcels may be pulled
 unfoldable pub CutActs : Type 0
 CutActs =
-    uses driving_plant cut_acts
+    (uses driving_plant cut_acts
     ≡ Begin 1
     ∷ Push (for_slave 1 (codes "2a0000c42d0000"))
     ∷ Push (for_slave 2 (codes "2a0000c42d0000"))
+    ∷ Pull None
     ∷ Pull (Some (for_slave 1 (codes "2a0000c42d0000")))
     ∷ Pull (Some (for_slave 2 (codes "2a0000c42d0000")))
     ∷ Push (for_master 2 (codes "2a0000c42d0000"))
-    ∷ []
+    ∷ [])
+    × IsPast 62 cut_acts

@@ -15,7 +15,7 @@ pub use Rattle.plant_model.proofs.Lines.{line_said, lines_append, no_lines_by, n
 pub use Rattle.plant_model.specs.Acts.{Act, App, Beginning, Event, Happen, PullFrom, Said, Start, journal, line_step, offers, uses, uses_after}
 pub use Rattle.plant_model.specs.BoundLines.{age_text, bit_text, bound_line, bound_lines, broken_text, heard, heard_before, heard_of, is_driven, is_ticking, limit_by, limit_of, line_by}
 pub use Rattle.plant_model.specs.Fits.{Fits, lengths_at, lengths_in}
-pub use Rattle.plant_model.specs.Pair.{has_other, is_tick, link_at, lowest_other, outputs_at, pair, state_at, ticks}
+pub use Rattle.plant_model.specs.Pair.{has_other, is_tick, link_at, lowest_other, outputs_at, pair, pulls_after, state_at, ticks}
 pub use Rattle.plant_model.specs.Past.{IsPast, Named, Taken, passed, said, said_in, said_with, take_app, with_line}
 pub use Rattle.plant_model.specs.PlantReport.{in_tick, is_line, last_lines, lines_due, lines_from, link_line, link_lines, report_end, report_text, tick_lines, ticks_text}
 pub use Rattle.plant_model.specs.declared.event.PlantLine.{PlantLine}

@@ -1,5 +1,5 @@
 -- What a plant reports of its script, as far as it ran.
-use Rattle.plant_run.proofs.Common.{Act, Beginning, Ended, IsPast, JournalStep, LinkConf, Named, Parcel, PlantLine, PlantReports, PlantView, RunCloses, RunStands, Said, Script, ScriptHeading, Start, Terms, bound_lines, is_tick, journal, journal_after, last_lines, lengths_in, line_said, line_step, plant_reporting, refused_line, report_end, report_text, run_stop, said, said_in, script_format, take_app, tick_lines, ticks_text, with_line}
+use Rattle.plant_run.proofs.Common.{Act, Beginning, Ended, IsPast, JournalStep, LinkConf, Named, Parcel, PlantLine, PlantReports, PlantView, RunCloses, RunStands, Said, Script, ScriptHeading, Start, Terms, bound_lines, is_tick, journal, journal_after, last_lines, lengths_in, line_said, line_step, plant_reporting, pulls_after, refused_line, report_end, report_text, run_stop, said, said_in, script_format, take_app, tick_lines, ticks_text, with_line}
 use Rattle.std.proofs.Common.{◌≡◌, ℕ, ◌+◌, Bool, true, false, List, [], ◌∷◌, ◌++◌, length, map, if◌then◌else◌, refl, sym, ap, subst, ◌∙◌, append_assoc, arith, eq-eqb}
 use Rattle.std.specs.Prelude.{Option, None}
 use Rattle.std.proofs.lemmas.Bool.{ne_eqb}
@@ -26,8 +26,8 @@ quiet_said (one ∷ more) acts =
 
 -- there may be such acts
 one_past : (one : Said) (acts : List Act) (tick : Bool) → is_tick (line_step one) ≡ tick → IsPast 0 acts → IsPast 0 (with_line one (if tick then None ∷ [] else []) acts)
-one_past one acts true e h = (refl, (63, (sym (ap (λ (tick : Bool). if tick then 64 else 0) e), h)))
-one_past one acts false e h = (sym (ap (λ (tick : Bool). if tick then 64 else 0) e), h)
+one_past one acts true e h = (refl, (63, (sym (ap pulls_after e), h)))
+one_past one acts false e h = (sym (ap pulls_after e), h)
 
 quiet_past : (more : List Said) (acts : List Act) → IsPast 0 acts → IsPast 0 (quiet more acts)
 unfolding quiet

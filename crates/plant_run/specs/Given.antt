@@ -9,8 +9,8 @@ use Rattle.plant_conf.specs.ConfView.{ConfView}
 use Rattle.plant_conf.specs.Kept.{HasSameLengths}
 use Rattle.plant_conf.specs.declared.conf.LinkConf.{LinkConf}
 use Rattle.multi_master.specs.Calls.{AppView}
-use Rattle.plant_model.specs.Acts.{uses}
-use Rattle.plant_core.specs.Making.{begins_with, links_made}
+use Rattle.plant_model.specs.Acts.{begins_with, uses}
+use Rattle.plant_core.specs.Making.{links_made}
 use Rattle.plant_model.specs.Pair.{ticks}
 use Rattle.plant_model.specs.PlantReport.{link_lines}
 use Rattle.plant_run.specs.Reporting.{Terms}
