@@ -12,7 +12,7 @@ pub record Told : Type 0 where
   pub pushed : Option (List Parcel)
   pub given : Option (List Parcel)
 
--- a list that is told was told before, without this parcel at its end; from now on it may stay untold
+-- if the list is told now, then it was told before, and this parcel came to its end
 abbrev pub GrowsBy : Parcel → Option (List Parcel) → Option (List Parcel) → Type 0
 GrowsBy parcel old new = IfSome new (λ parcels. option_map (λ before. before ++ parcel ∷ []) old ≡ Some parcels)
 

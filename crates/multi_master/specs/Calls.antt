@@ -60,8 +60,9 @@ abbrev pub is_heard : List ℕ → Option Connection → Bool
 is_heard bytes None = false
 is_heard bytes (Some c) = tells_due (next_deed (move.Deliver bytes) c).did
 
--- the answer of the one cycle that a call runs, if it runs one: over the outputs with the frame that came, if it was
--- taken or ended the session; over those after all connections ticked; or that of the new application
+-- the answer of the cycle that a call runs, None where it runs none. A delivery runs one where the frame is taken or
+-- ends the session, over the outputs after that frame; a tick runs one over the outputs after all connections ticked; a
+-- change of the application runs one of the new application
 abbrev pub cycle_in : Call → Meant → Option Answer
 cycle_in (Deliver link bytes) m =
     if is_heard bytes (connection link m) then Some (answer false (event_at link (move.Deliver bytes) m)) else None
@@ -75,8 +76,8 @@ pub record IsSound (m : Meant) (a : Answer) : Type 0 where
   pub answered : map offer_at m.connections ≡ a.outputs
   pub guarded : GuardsBy m.app.guards (map outputs_at m.connections) a.outputs
 
--- the answers of a cycle, if one is run, are put as all connections' offers, and the application holds then what its
--- answer says
+-- after a cycle with this answer, its outputs are the offers of the connections, and the application holds what the
+-- answer says; without a cycle nothing changes
 abbrev pub with_cycle : Option Answer → Meant → Meant
 with_cycle None m = m
 with_cycle (Some a) m = record { connections = with_offers a.outputs m.connections; app = record m.app { holds = a.holds } }

@@ -1,5 +1,5 @@
 use Rattle.multi_master.proofs.Common.{MasterView, MultiView, ShowsDue, due_in, is_due, out, own_len, seen, settings_in}
-use Rattle.std.proofs.Common.{◌≡◌, ◌≤◌, ◌<◌, ◌++◌, ◌-◌, ℕ, suc, List, Some, true, false, map, length, take, drop, slice_get, slice_set, refl, sym, ap, subst, ◌∙◌, arith}
+use Rattle.std.proofs.Common.{◌≡◌, ◌<◌, ◌++◌, ◌-◌, ℕ, List, Some, true, false, map, length, take, drop, slice_get, slice_set, refl, sym, ap, subst, ◌∙◌}
 use Rattle.std.proofs.Math.ListN.{length-set}
 use Rattle.std.proofs.lemmas.Option.{slice_get_read}
 use Rattle.multi_master.proofs.Delivering.{Drops, Hears, drop_follows, drop_answers, hear_follows, hear_answers}
