@@ -1,7 +1,7 @@
-//! Runs both ends of a connection over a schedule. Each event is at one end. A delivered frame is any bytes, or one
-//! that the peer sent, unaltered or with one byte altered. The command `replay` runs a pair file or a file of several
-//! pairs, `bulk` runs a schedule made from a number, and `convert` rewrites a pair file. A run is proved to be the
-//! world that `exchange_model` defines.
+//! Runs both ends of a connection over a schedule. Each event is at one end. The frame that is delivered may be any
+//! bytes, or a frame that the peer sent, unaltered or with one byte altered. The command `replay` runs a pair file or a
+//! file of several pairs, `bulk` runs a schedule made from a number, and `convert` rewrites a pair file. A run is
+//! proved to be the world that `exchange_model` defines.
 //!
 //! ```rust
 //! use duo_run::Duo;

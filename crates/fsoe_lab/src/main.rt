@@ -1,5 +1,5 @@
-//! A second program for trials: `rates` runs a plant over standard input, also over a channel with chosen rates, and
-//! `journal` writes the plant's journal in place of its report.
+//! A second program for trials. Both commands run a plant over a script from standard input, and may be given the rates
+//! at which its channel loses, alters, repeats or delays a frame. `rates` writes the report, `journal` the journal.
 #![tactic(auto)]
 
 mod command;

@@ -12,7 +12,7 @@
 //!     let event = wait();
 //!     master.put(&commands());                            // fresh data to send, settings().own_len() bytes
 //!     let did = match event {
-//!         Frame(bytes) => master.deliver(&bytes, &mut out), // any bytes that came, of any number
+//!         Frame(bytes) => master.deliver(&bytes, &mut out), // the bytes that came, whichever and however many
 //!         Tick => master.tick(&mut out),                    // the watchdog counts these
 //!         Stop => master.reset(&mut out),
 //!     };

@@ -10,7 +10,7 @@
 //!     let event = wait();
 //!     slave.put(&inputs());                             // fresh data to send, settings().own_len() bytes
 //!     let did = match event {
-//!         Frame(bytes) => slave.deliver(&bytes, &mut out),  // any bytes that came, of any number
+//!         Frame(bytes) => slave.deliver(&bytes, &mut out),  // the bytes that came, whichever and however many
 //!         Tick => slave.tick(&mut out),                     // the watchdog counts these
 //!         Stop => slave.reset(&mut out),
 //!     };
