@@ -33,8 +33,7 @@ stays u p k h = grind (arith, get_or_append_left u p 0 k (omega arith), get_or_a
 
 passes : (t b : Bool) → t ≡ true → (t && not b) ≡ false → b ≡ true
 passes true true h e = refl
-passes true false h e = cc
-passes false b h e = cc
+passes _ _ h e = cc
 
 counted : (u p : List ℕ) (v n : ℕ) → (v + 4 ≤ length u → number_at (v + 2) u ≡ n) → fails (length u) (u ++ p) (v + 3) (number_at (v + 2) (u ++ p) == n) ≡ false
     → v + 4 ≤ length (u ++ p) → number_at (v + 2) (u ++ p) ≡ n

@@ -10,11 +10,8 @@ by_verdict s e bytes c load _ n (IsNext c' load' n' valid) h =
     let same : c' ≡ c = cc in
     let same_load : load' ≡ load = cc in
     subst (λ (l : List ℕ). IsValid s e bytes c l) same_load (subst (λ (k : Command). IsValid s e bytes k load') same valid)
-by_verdict s e bytes c load _ n (HasOtherLength other) h = cc
-by_verdict s e bytes c load _ n (IsKept len again) h = cc
-by_verdict s e bytes c load _ n (FailsTest found fails) h = cc
-by_verdict s e bytes c load _ n (FailsContents found fails) h = cc
 by_verdict s e bytes c load _ n (ResetsFrame load' frame) h = let same : command.Reset ≡ c = cc in absurd (n (sym same))
+by_verdict s e bytes c load _ n _ h = cc
 
 -- a frame of a session that an end would take has passed each test
 pub valid_is : (s : Setup) (e : List Deed) (bytes : List ℕ) (c : Command) (load : List ℕ) → c ≢ command.Reset → verdict s e bytes ≡ Valid c load → IsValid s e bytes c load

@@ -1,6 +1,6 @@
 -- A slave that took one frame of a session: it is the first Session frame, and the slave's answer to it carries the
 -- first piece of its session id.
-use Rattle.end_model.proofs.Common.{AfterConnection, AfterSession, Answers, Cause, Command, Deed, Did, Dropped, DropsReset, Expires, Frame, HasNoSession, IsHandshake, IsInSession, IsNextPhase, IsRun, IsValid, Move, OfConnection, OfParameter, OfSession, OfSlave, PeerResets, Reaction, Refuses, ResetsItself, SendsAgain, Setup, SlaveFirstData, SlaveGoesOn, SlaveMoreData, SlaveNextPhase, SlaveRejoins, SlaveSettings, SlaveStarts, State, Taking, count_in, crc_0, first_of, frame_len, frame_of, id_piece, id_sent, is_data, is_reset, kept, newest_crc, nonce, own, padded, phase_of, phase_of_frame, piece, piece_len, received, receives, same_phase, seal, sends, session_payload, since, slave_answer, state_of, taken, taken_link, uploaded, with_answer}
+use Rattle.end_model.proofs.Common.{AfterConnection, AfterSession, Answers, Cause, Command, Deed, Did, Dropped, DropsReset, Expires, Frame, HasNoSession, IsHandshake, IsInSession, IsNextPhase, IsRun, IsValid, Move, OfSession, OfSlave, PeerResets, Reaction, Refuses, ResetsItself, SendsAgain, Setup, SlaveFirstData, SlaveGoesOn, SlaveMoreData, SlaveNextPhase, SlaveRejoins, SlaveSettings, SlaveStarts, State, Taking, count_in, crc_0, first_of, frame_len, frame_of, id_piece, id_sent, is_data, is_reset, kept, newest_crc, nonce, own, padded, phase_of, phase_of_frame, piece, piece_len, received, receives, same_phase, seal, sends, session_payload, since, slave_answer, state_of, taken, taken_link, uploaded, with_answer}
 use Rattle.std.proofs.Common.{◌≡◌, ◌≢◌, ℕ, suc, List, [], ◌∷◌, ◌++◌, length, take, Bool, false, Option, Some, None, if◌then◌else◌, unwrap_or, IsTrue, refl, sym, ap, subst, ◌∙◌}
 use Rattle.std.specs.Option.{option_or}
 use Rattle.fsoe_base.specs.declared.command.State.TheVariants as state
@@ -78,8 +78,7 @@ later ss e bytes load c answer first now here other is began h =
 
 pub not_reset : (c : Command) → IsHandshake c → is_reset c ≡ false
 not_reset c OfSession = refl
-not_reset c OfConnection = refl
-not_reset c OfParameter = refl
+not_reset c _ = refl
 
 pub next_not_reset : (before c : Command) → IsNextPhase before c → is_reset c ≡ false
 next_not_reset before c AfterSession = refl

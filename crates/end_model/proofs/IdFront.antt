@@ -28,9 +28,8 @@ zeros zero = no_bytes
 zeros (suc n) = byte_first 0 (replicate n 0) (lit< tt) (zeros n)
 
 padded_bytes : (n l : ℕ) (bytes : List ℕ) → AreBytes bytes → AreBytes (take n bytes ++ replicate l 0)
-padded_bytes zero l bytes h = zeros l
-padded_bytes (suc n) l [] h = zeros l
 padded_bytes (suc n) l (d ∷ bytes) h = byte_first d (take n bytes ++ replicate l 0) (h 0) (padded_bytes n l bytes (λ i. h (suc i)))
+padded_bytes _ l _ h = zeros l
 
 id_bytes : (p : Profile) (id : ℕ) → AreBytes (session_payload id p)
 id_bytes profile.One id = byte_first (id % 256) (id / 256 % 256 ∷ []) (omega arith) (byte_first (id / 256 % 256) [] (omega arith) no_bytes)

@@ -16,9 +16,8 @@ count_crcs last conn seq cmd i [] = refl
 count_crcs last conn seq cmd i (g ∷ gs) = ap suc (count_crcs last conn seq cmd (suc i) gs)
 
 pub count_groups : (load : List ℕ) → length (groups load) ≡ (length load + 1) / 2
-count_groups [] = refl
-count_groups (d ∷ []) = refl
 count_groups (d ∷ d' ∷ load) = let e = count_groups load in omega arith
+count_groups _ = refl
 
 pub halves : (l : ℕ) → IsTrue (is_length l) → (l + 1) / 2 ≡ group_count l
 halves l h = grind (arith, nat_tests)

@@ -15,9 +15,8 @@ same_bytes bytes last h = ap (λ k. is_repeat k bytes) h ∙ (bytes_decides byte
 -- a repeat is dropped, whatever its length
 not_taken : (now : State) (s : Setup) (e : List Deed) (right again : Bool) (w : Opened) → again ≡ true
     → (on_verdict now s (judged s e (if right then (if again then opened_as.Drop why.Repeat else w) else opened_as.Drop why.Length))).took ≡ None
-not_taken now s e false again w h = refl
-not_taken now s e true true w h = refl
 not_taken now s e true false w h = cc
+not_taken now s e _ _ w h = refl
 
 pub never_again : (s : Setup) (e : List Deed) (bytes : List ℕ) → kept (since e) ≡ Some bytes → (step s e (move.Deliver bytes)).did.took ≡ None
 never_again s e bytes h =
@@ -27,8 +26,7 @@ never_again s e bytes h =
 dropped_again : (now : State) (s : Setup) (e : List Deed) (right again : Bool) (w : Opened) → right ≡ true → again ≡ true
     → on_verdict now s (judged s e (if right then (if again then opened_as.Drop why.Repeat else w) else opened_as.Drop why.Length)) ≡ dropped why.Repeat
 dropped_again now s e true true w h k = refl
-dropped_again now s e false again w h k = cc
-dropped_again now s e true false w h k = cc
+dropped_again now s e _ _ w h k = cc
 
 pub repeat_dropped : (s : Setup) (e : List Deed) (bytes : List ℕ) → length bytes ≡ frame_len (receives s) → kept (since e) ≡ Some bytes → (step s e (move.Deliver bytes)).did ≡ dropped why.Repeat
 repeat_dropped s e bytes len h =

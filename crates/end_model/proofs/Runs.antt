@@ -12,12 +12,10 @@ same_deed what did did' sent sent' h i = rw (h, i) refl
 
 -- a put, a hold and a nonce are noted alone: nothing is done, and no frame is sent
 pub set_deed : (s : Setup) (e : List Deed) (m : Move) → IsSetting m → begun m nothing ≡ step s e m
-set_deed s e (move.Put load) k = refl
-set_deed s e (move.Hold failsafe) k = refl
-set_deed s e (move.Nonce id) k = refl
 set_deed s e (move.Deliver bytes) k = absurd k
 set_deed s e move.Tick k = absurd k
 set_deed s e move.Local k = absurd k
+set_deed s e _ k = refl
 
 continued_append : (s : Setup) (front rest : List Move) (e : List Deed) → continued s e (front ++ rest) ≡ continued s (continued s e front) rest
 continued_append s [] rest e = refl

@@ -79,14 +79,12 @@ master_phase e bytes load ms c f (MasterMoreData _ _ _ is now x) = now ∙ sym (
 
 -- an end that took data is in Data
 pub data_after : (e : List Deed) (bytes load : List ℕ) (s : Setup) (c : Command) (f : List ℕ) → Taking e bytes load s c f → is_data c ≡ true → state_of s (with_answer bytes c load f e) ≡ state.Data
-data_after e bytes load s c f (SlaveRejoins _ now none frame) d = absurd (cc d)
-data_after e bytes load s c f (SlaveStarts _ _ now none x) d = absurd (cc d)
 data_after e bytes load s c f (SlaveGoesOn _ _ _ is now part x) d = absurd (handshake-data c is (phase_of_data c d))
 data_after e bytes load s c f (SlaveNextPhase _ before _ _ is now whole x) d = absurd (next-data before c is (phase_of_data c d))
 data_after e bytes load s c f (SlaveFirstData _ _ _ is now whole x) d = x.after
 data_after e bytes load s c f (SlaveMoreData _ _ _ is now whole x) d = x.after
-data_after e bytes load s c f (MasterStarts _ _ now none frame zero made sent after) d = absurd (cc d)
 data_after e bytes load s c f (MasterGoesOn _ _ _ is now part x) d = absurd (handshake-data c is (phase_of_data c d))
 data_after e bytes load s c f (MasterNextPhase _ _ next _ is now whole x) d = absurd (before-data c next is (phase_of_data c d))
 data_after e bytes load s c f (MasterFirstData _ _ now whole x) d = x.after
 data_after e bytes load s c f (MasterMoreData _ _ _ is now x) d = x.after
+data_after e bytes load s c f _ d = absurd (cc d)
