@@ -21,13 +21,10 @@ after before ready t gap a b = hands_by ((a && b) && before) (if not (beq a b) t
 -- both were pressed
 after-both : (n gap : ℕ) (t before a b : Bool) → next_hands n (hands_by before false gap) t a b ≡ after before false t gap a b
 after-both n gap t true true true = refl
-after-both n gap t true true false = refl
 after-both n gap t true false true = refl
-after-both n gap t true false false = refl
 after-both n gap t false true true = refl
-after-both n gap t false true false = refl
 after-both n gap t false false true = refl
-after-both n gap t false false false = refl
+after-both n gap t _ _ _ = refl
 
 -- both are pressed, in time or too late
 in-time : (q : Bool) → (if q then hands.On else hands.Spent) ≡ hands_by (q && true) false 0
@@ -41,13 +38,10 @@ too-late false = refl
 -- they weren't
 after-others : (n gap : ℕ) (t ready a b : Bool) → next_hands n (hands_by false ready gap) t a b ≡ after (nat_le gap n && ready) ready t gap a b
 after-others n gap t true true true = in-time (nat_le gap n)
-after-others n gap t true true false = refl
-after-others n gap t true false true = refl
-after-others n gap t true false false = refl
 after-others n gap t false true true = too-late (nat_le gap n)
-after-others n gap t false true false = refl
+after-others n gap t true false true = refl
 after-others n gap t false false true = refl
-after-others n gap t false false false = refl
+after-others n gap t _ _ _ = refl
 
 -- the next ones from any: a block isn't ready while both are pressed, and is ready before the run of both where it is
 -- now, in time
@@ -60,9 +54,8 @@ next-by n gap t a b false ready before spent seen = after-others n gap t ready a
 -- a block isn't ready while both are pressed
 spent-at : (a b : Bool) (x y : List Cycle) → (a && b) ≡ true → is_now neither y ≡ not (a || b) → is_now neither (if not (beq a b) then x else y) ≡ false
 spent-at true true x y h is = is
-spent-at true false x y h is = cc
 spent-at false true x y h is = cc
-spent-at false false x y h is = cc
+spent-at _ _ x y h is = cc
 
 spent : (e : List Cycle) → is_now both e ≡ true → is_now neither (before_run exactly_one e) ≡ false
 spent [] h = refl

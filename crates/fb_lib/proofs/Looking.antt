@@ -33,29 +33,18 @@ feedback-next n e c =
 
 -- what a block keeps goes on as looking back says
 next-is : (k : BlockKind) (n : ℕ) (e : List Cycle) (c : Cycle) → n < 65536 → next_held n (held_of k n e) c ≡ held_of k n (c ∷ e)
-next-is kind.Const0 n e c h = refl
-next-is kind.Const1 n e c h = refl
-next-is kind.And n e c h = refl
-next-is kind.Or n e c h = refl
-next-is kind.Latch n e c h = refl
-next-is kind.Estop n e c h = refl
 next-is kind.TwoHand n e c h = ap (λ (h : TwoHand). held.TwoHand h) (hands_of-next n e c)
 next-is kind.OnDelay n e c h = ap (λ (age : ℕ). held.OnDelay (record { age = age })) (on_age-next n c (run first e) (first c) h)
 next-is kind.OffDelay n e c h = ap (λ (left : ℕ). held.OffDelay (record { left = left })) (off_left-next n c (since_input e) (first c) (list_any first e) h)
 next-is kind.Feedback n e c h = feedback-next n e c
+next-is _ n e c h = refl
 
 -- what it gives is the value
 told-is : (k : BlockKind) (n : ℕ) (e : List Cycle) (c : Cycle) → n < 65536 → told n (held_of k n (c ∷ e)) c ≡ value k n (c ∷ e)
-told-is kind.Const0 n e c h = refl
-told-is kind.Const1 n e c h = refl
-told-is kind.And n e c h = refl
-told-is kind.Or n e c h = refl
-told-is kind.Latch n e c h = refl
-told-is kind.Estop n e c h = refl
 told-is kind.TwoHand n e c h = is_on-hands_of n (c ∷ e)
 told-is kind.OnDelay n e c h = on_told-is n (ticks (run first (c ∷ e))) (first c)
 told-is kind.OffDelay n e c h = off_told-is n (ticks (since_input (c ∷ e))) (first c) (list_any first e)
-told-is kind.Feedback n e c h = refl
+told-is _ n e c h = refl
 
 pub follows_by : (old new : BlockView) (c : Cycle) → old.n < 65536 → new ≡ next_block old c → BlockFollows old c new
 follows_by old new c fits is = record {

@@ -43,9 +43,8 @@ off_left-next n c e false false h = none c.ticked
 
 -- what the delays give, by what they count
 pub off_told-is : (n k : ℕ) (x any : Bool) → off_told (if x || any then n - k else 0) x ≡ (x || ((x || any) && nat_lt k n))
-off_told-is n k true any = refl
 off_told-is n k false true = grind (arith, nat_tests)
-off_told-is n k false false = refl
+off_told-is n k _ _ = refl
 
 pub on_told-is : (n k : ℕ) (x : Bool) → (x && nat_le n (min n k)) ≡ (x && nat_le n k)
 on_told-is n k true = grind (arith, nat_tests)
