@@ -56,9 +56,8 @@ image-apart images k j a b h =
 
 on-apart : (images : List (List ℕ)) (l m a b : ℕ) → (m ≡ l → a ≢ b)
     → bit_of (at_number (with_on images l a) m []) b ≡ bit_of (at_number images m []) b
-on-apart images zero m a b h = refl
-on-apart images (suc k) zero a b h = refl
 on-apart images (suc k) (suc j) a b h = image-apart images k j a b (λ e. h (ap (λ n. suc n) e))
+on-apart images _ _ a b h = refl
 
 differs : (l m a b : ℕ) → (l == m && a == b) ≡ false → m ≡ l → a ≢ b
 differs l m a b h e q = grind (arith, nat_tests)
@@ -69,9 +68,8 @@ other_bit images d o h = on-apart images d.link o.link d.bit o.bit (differs d.li
 
 -- images of zeros have no bit set
 replicate-zero : (n j : ℕ) → slice_index (replicate n 0) j ≡ 0
-replicate-zero zero j = refl
-replicate-zero (suc n) zero = refl
 replicate-zero (suc n) (suc j) = replicate-zero n j
+replicate-zero _ _ = refl
 
 pub no_bit : (bytes : List ℕ) (b : ℕ) → slice_index bytes (b / 8) ≡ 0 → bit_of bytes b ≡ false
 no_bit bytes b h = ap (λ x. not (bit_and x (2 ^ (b % 8)) == 0)) h ∙ ap (λ x. not (x == 0)) (and_zero_l (2 ^ (b % 8)))

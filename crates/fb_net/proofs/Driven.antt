@@ -11,15 +11,8 @@ use Rattle.fb_net.proofs.Guarding.{same_numbers}
 
 -- a power of 2 isn't 0
 power : (k : ℕ) → k < 8 → not (2 ^ k == 0) ≡ true
-power zero h = refl
-power (suc zero) h = refl
-power (suc (suc zero)) h = refl
-power (suc (suc (suc zero))) h = refl
-power (suc (suc (suc (suc zero)))) h = refl
-power (suc (suc (suc (suc (suc zero))))) h = refl
-power (suc (suc (suc (suc (suc (suc zero)))))) h = refl
-power (suc (suc (suc (suc (suc (suc (suc zero))))))) h = refl
 power (suc (suc (suc (suc (suc (suc (suc (suc k)))))))) h = absurd (omega arith)
+power _ h = refl
 
 -- a bit that is set is set
 bit-set : (bytes : List ℕ) (b : ℕ) → b < 8 * length bytes → bit_of (with_bit bytes b true) b ≡ true
@@ -46,9 +39,8 @@ number-set images (suc k) b h = image-set images k b h
 
 -- a bit exists by the lengths of the images
 length-at : (images : List (List ℕ)) (k : ℕ) → get_or (map length images) k 0 ≡ length (get_or images k [])
-length-at [] k = refl
-length-at (x ∷ xs) zero = refl
 length-at (x ∷ xs) (suc k) = length-at xs k
+length-at _ _ = refl
 
 length-number : (images : List (List ℕ)) (l : ℕ) → at_number (map length images) l 0 ≡ length (at_number images l [])
 length-number images zero = refl

@@ -13,10 +13,9 @@ use Rattle.fb_net.proofs.Bits.{other_bit, zero_bit}
 
 off-place : (gs vs : List Bool) (k : ℕ) → AreOff gs vs → get_or gs k false ≡ true → get_or vs k false ≡ false
 off-place [] [] k off g = refl
-off-place [] (v ∷ vs) k off g = absurd off
-off-place (x ∷ gs) [] k off g = absurd off
 off-place (x ∷ gs) (v ∷ vs) zero off g = off.0 g
 off-place (x ∷ gs) (v ∷ vs) (suc k) off g = off-place gs vs k off.1 g
+off-place _ _ k off g = absurd off
 
 off-number : (gs vs : List Bool) (k : ℕ) → AreOff gs vs → at_number gs k false ≡ true → at_number vs k false ≡ false
 off-number gs vs zero off g = refl
@@ -24,9 +23,8 @@ off-number gs vs (suc k) off g = off-place gs vs k off g
 
 off-more : (gs vs : List Bool) (g v : Bool) → AreOff gs vs → (g ≡ true → v ≡ false) → AreOff (gs ++ g ∷ []) (vs ++ v ∷ [])
 off-more [] [] g v off h = (h, tt)
-off-more [] (x ∷ vs) g v off h = absurd off
-off-more (x ∷ gs) [] g v off h = absurd off
 off-more (x ∷ gs) (y ∷ vs) g v off h = (off.0, off-more gs vs g v off.1 h)
+off-more _ _ g v off h = absurd off
 
 pub same_numbers : (l m a b : ℕ) → (l == m && a == b) ≡ true → (l ≡ m) × (a ≡ b)
 same_numbers l m a b h = (grind (arith, nat_tests), grind (arith, nat_tests))

@@ -9,15 +9,7 @@ use Rattle.fb_lib.specs.Kept.{held_of}
 
 kind_of-held_of : (k : BlockKind) (n : ℕ) (e : List Cycle) → kind_of (held_of k n e) ≡ k
 kind_of-held_of kind.Const0 n e = refl
-kind_of-held_of kind.Const1 n e = refl
-kind_of-held_of kind.And n e = refl
-kind_of-held_of kind.Or n e = refl
-kind_of-held_of kind.Latch n e = refl
-kind_of-held_of kind.Estop n e = refl
-kind_of-held_of kind.TwoHand n e = refl
-kind_of-held_of kind.OnDelay n e = refl
-kind_of-held_of kind.OffDelay n e = refl
-kind_of-held_of kind.Feedback n e = refl
+kind_of-held_of _ n e = refl
 
 -- a block keeps what a block of its kind keeps
 pub kind_is : (b : BlockSpec) → IsReady b → kind_of b.block.held ≡ b.block.kind
@@ -29,19 +21,12 @@ flag-back false = refl
 
 -- the numbers tell what is kept
 numbers-back : (h : Held) → held_from (kind_of h) (count_held h) (on_held h) (flag_held h) ≡ h
-numbers-back held.Const0 = refl
-numbers-back held.Const1 = refl
-numbers-back held.And = refl
-numbers-back held.Or = refl
 numbers-back (held.Latch l) = ap (λ (on : Bool). held.Latch (record { on = on })) (flag-back l.on)
 numbers-back (held.Estop s) = ap₂ (λ (on ack : Bool). held.Estop (record { on = on; ack = ack })) (flag-back s.on) (flag-back s.ack)
-numbers-back (held.TwoHand hands.Spent) = refl
-numbers-back (held.TwoHand (hands.Ready gap)) = refl
-numbers-back (held.TwoHand hands.On) = refl
-numbers-back (held.OnDelay d) = refl
-numbers-back (held.OffDelay d) = refl
 numbers-back (held.Feedback f) =
     ap₂ (λ (on bad : Bool). held.Feedback (record { on = on; age = f.age; bad = bad })) (flag-back f.on) (flag-back f.bad)
+numbers-back (held.TwoHand hands.Spent) = refl
+numbers-back _ = refl
 
 restored-back : (b : BlockSpec) → kind_of b.block.held ≡ b.block.kind
     → restored (net_block b) (count_held b.block.held) (on_held b.block.held) (flag_held b.block.held) ≡ b

@@ -46,11 +46,10 @@ lengths_mirrored (xs ∷ inputs) (n ∷ ns) = ap₂ (λ (k : ℕ) (ks : List ℕ
 
 -- a byte of a mirrored image is that of the input, or 0
 mirrored-at : (xs : List ℕ) (n j : ℕ) → (slice_index (mirrored xs n) j ≡ slice_index xs j) ⊎ (slice_index (mirrored xs n) j ≡ 0)
-mirrored-at xs zero j = inr refl
-mirrored-at [] (suc n) zero = inr refl
 mirrored-at [] (suc n) (suc j) = mirrored-at [] n j
 mirrored-at (x ∷ xs) (suc n) zero = inl refl
 mirrored-at (x ∷ xs) (suc n) (suc j) = mirrored-at xs n j
+mirrored-at _ _ _ = inr refl
 
 mirrored-bit : (xs : List ℕ) (n b : ℕ) → bit_of xs b ≡ false → bit_of (mirrored xs n) b ≡ false
 mirrored-bit xs n b h =

@@ -20,10 +20,9 @@ rest_more bs first i b h is same =
     sym same ∙ at_drop_more (λ (xs : List BlockSpec). xs) bs i b h ∙ ap (λ (x : BlockSpec). x ∷ drop (i + 1) bs) (sym is)
 
 drop-suc : (i : ℕ) (xs ys : List BlockSpec) (x : BlockSpec) → drop i xs ≡ x ∷ ys → drop (suc i) xs ≡ ys
-drop-suc zero [] ys x h = cc
-drop-suc (suc i) [] ys x h = cc
-drop-suc zero (x ∷ xs) ys y h = cc
 drop-suc (suc i) (x ∷ xs) ys y h = drop-suc i xs ys y h
+drop-suc zero [] ys x h = cc
+drop-suc _ _ ys _ h = cc
 
 drop-first : (i : ℕ) (xs ys : List BlockSpec) (x : BlockSpec) → drop i xs ≡ x ∷ ys → drop (i + 1) xs ≡ ys
 drop-first i xs ys x h = rw add-one (drop-suc i xs ys x h)

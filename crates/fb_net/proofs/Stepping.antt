@@ -10,15 +10,7 @@ use Rattle.fb_lib.proofs.Looking.{follows_by, gives_by}
 -- no kind has more inputs
 most-inputs : (k : BlockKind) (n : ℕ) → IsTrue (takes k n) → n ≤ MOST_INPUTS
 most-inputs kind.Const0 n h = grind (arith, nat_tests)
-most-inputs kind.Const1 n h = grind (arith, nat_tests)
-most-inputs kind.And n h = grind (arith, nat_tests)
-most-inputs kind.Or n h = grind (arith, nat_tests)
-most-inputs kind.Latch n h = grind (arith, nat_tests)
-most-inputs kind.Estop n h = grind (arith, nat_tests)
-most-inputs kind.TwoHand n h = grind (arith, nat_tests)
-most-inputs kind.OnDelay n h = grind (arith, nat_tests)
-most-inputs kind.OffDelay n h = grind (arith, nat_tests)
-most-inputs kind.Feedback n h = grind (arith, nat_tests)
+most-inputs _ n h = grind (arith, nat_tests)
 
 pub most_wires : (b : BlockSpec) → IsReady b → length b.ins ≤ MOST_INPUTS
 most_wires b r = most-inputs b.block.kind (length b.ins) r.takes
