@@ -20,8 +20,7 @@ item-awaited l t told (Some i) h = refl
 
 by-item : (soon other : Bool) (before : Option ℕ) → soon ≡ true → other ≡ false → is_some before ≡ true → is_some (if soon && not other then before else None) ≡ true
 by-item true false before s o h = h
-by-item true true before s o h = cc
-by-item false other before s o h = cc
+by-item _ _ before s o h = cc
 
 -- the load of an entry that took a frame
 aged-by : (l n bit : ℕ) (terms : Option Terms) (other soon : Bool) (before : Option ℕ) (t : Took) (c : Command) → other ≡ false → t.command ≡ c → (is_data t.command ≡ true → is_some before ≡ true) → in_time n terms ≡ soon

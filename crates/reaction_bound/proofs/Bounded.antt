@@ -14,7 +14,7 @@ use Rattle.end_model.specs.Setup.{Setup, OfMaster, OfSlave}
 use Rattle.end_model.specs.Chain.{since}
 use Rattle.end_model.specs.Payloads.{terms}
 use Rattle.end_model.specs.Readiness.{phase_after, phase_taken, state_of, ticks, told_terms}
-use Rattle.end_model.specs.Reactions.{Reaction, Puts, Holds, SetsNonce, Rests, Ages, Expires, SendsAgain, ResetsItself, DropsLength, DropsRepeat, DropsInReset, DropsReset, Refuses, PeerResets, Answers}
+use Rattle.end_model.specs.Reactions.{Reaction, Expires, SendsAgain, ResetsItself, Refuses, PeerResets, Answers}
 use Rattle.exchange_model.specs.World.{setup_of, deed_in, deeds, SameLengths}
 use Rattle.exchange_model.specs.Schedules.{IsWorld}
 use Rattle.exchange_model.proofs.Worlds.Projection.{same, next_told, deeds_are_run, entry_reacted}
@@ -57,21 +57,13 @@ quiet-keeps (OfMaster ms) e m d h = refl
 quiet-keeps (OfSlave ss) e m d h = ap (λ (t : Option Took). phase_after (of_session t) (phase_taken (since e))) h
 
 keeps-data : (s : Setup) (e : List Deed) (m : Move) (d : Did) (f : List ℕ) → Reaction s e m d f → d.took ≡ None → is_some d.reset ≡ false → state_of s e ≡ state.Data → state_of s (deed m d f ∷ e) ≡ state.Data
-keeps-data s e m d f (Puts load fits) none kept now = quiet-keeps s e m d none ∙ now
-keeps-data s e m d f (Holds failsafe) none kept now = quiet-keeps s e m d none ∙ now
-keeps-data s e m d f (SetsNonce id allowed) none kept now = quiet-keeps s e m d none ∙ now
-keeps-data s e m d f (Rests slave reset) none kept now = quiet-keeps s e m d none ∙ now
-keeps-data s e m d f (Ages counts below) none kept now = quiet-keeps s e m d none ∙ now
-keeps-data s e m d f (DropsLength bytes long) none kept now = quiet-keeps s e m d none ∙ now
-keeps-data s e m d f (DropsRepeat bytes fits again state) none kept now = quiet-keeps s e m d none ∙ now
-keeps-data s e m d f (DropsInReset bytes passed found reset verdict fails) none kept now = quiet-keeps s e m d none ∙ now
-keeps-data s e m d f (DropsReset bytes load master reset frame other) none kept now = quiet-keeps s e m d none ∙ now
 keeps-data s e m d f (SendsAgain master reset over) none kept now = let both : state.Reset ≡ state.Data = sym reset ∙ now in cc
 keeps-data s e m d f (Expires state over) none kept now = cc
 keeps-data s e m d f ResetsItself none kept now = cc
 keeps-data s e m d f (Refuses bytes passed found state verdict fails) none kept now = cc
 keeps-data s e m d f (PeerResets bytes load state frame) none kept now = cc
 keeps-data s e m d f (Answers bytes load c answer taking) none kept now = cc
+keeps-data s e m d f _ none kept now = quiet-keeps s e m d none ∙ now
 
 -- an end whose outputs are from the item of this number, n ticks later
 record Young (ms : MasterSettings) (ss : SlaveSettings) (which : End) (n k : ℕ) (w : List Entry) : Type 0 where
@@ -106,8 +98,7 @@ young-taken ms ss x w t n k lens h none took soon awaited =
 
 some-before : (soon other : Bool) (before : Option ℕ) (k : ℕ) → (if soon && not other then before else None) ≡ Some k → (soon ≡ true) × (before ≡ Some k)
 some-before true false before k h = (refl, h)
-some-before true true before k h = cc
-some-before false other before k h = cc
+some-before _ _ before k h = cc
 
 data-of : (took : Option Took) (t : Took) → took ≡ Some t → is_data t.command ≡ true → data_taken took ≡ Some t
 data-of took t h k = ap data_taken h ∙ simp k
@@ -117,11 +108,7 @@ young-by : (ms : MasterSettings) (ss : SlaveSettings) (x : Entry) (w : List Entr
 young-by ms ss x w t n k command.ProcessData lens h none took which_command is =
     let it : (in_time n x.terms ≡ true) × (awaited_by x.end w ≡ Some k) = some-before (in_time n x.terms) (is_other (items w) x) (awaited_by x.end w) k is in
     young-taken ms ss x w t n k lens h none (data-of x.did.took t took (ap is_data which_command)) it.0 it.1
-young-by ms ss x w t n k command.Reset lens h none took which_command is = cc
-young-by ms ss x w t n k command.Session lens h none took which_command is = cc
-young-by ms ss x w t n k command.Connection lens h none took which_command is = cc
-young-by ms ss x w t n k command.Parameter lens h none took which_command is = cc
-young-by ms ss x w t n k command.FailSafeData lens h none took which_command is = cc
+young-by ms ss x w t n k _ lens h none took which_command is = cc
 
 -- an entry that took nothing
 young-still : (ms : MasterSettings) (ss : SlaveSettings) (x : Entry) (w : List Entry) (n k : ℕ) → IsWorld ms ss (x ∷ w) → x.did.took ≡ None → is_some x.did.reset ≡ false

@@ -1,6 +1,6 @@
 -- What a reaction keeps says what looking back says.
 use Rattle.reaction_bound.proofs.Common.{first_of_both}
-use Rattle.std.proofs.Common.{◌≡◌, ◌≤◌, ℕ, zero, suc, ◌-◌, Bool, true, false, ◌&&◌, ◌||◌, nat_le, List, [], ◌∷◌, Option, None, Some, refl, sym, ap, ◌∙◌, arith}
+use Rattle.std.proofs.Common.{◌≡◌, ◌≤◌, ℕ, zero, suc, ◌-◌, Bool, true, false, ◌&&◌, ◌||◌, nat_le, List, ◌∷◌, Option, None, Some, refl, sym, ap, ◌∙◌, arith}
 use Rattle.std.proofs.Math.Dec.{leb-zero, leb-suc-zero}
 use Rattle.reaction_bound.specs.Reaction.{Heard, Quiet, Tick, ticks, quiet_for, is_late, broken_of}
 use Rattle.reaction_bound.specs.Kept.{first_of, quiet_from, is_long}
@@ -11,10 +11,9 @@ first_within None n from h is = let same : n ≡ from = cc in omega (arith, same
 first_within (Some first) n from h is = let same : first ≡ from = cc in h from (ap Some same)
 
 from_within : (heard : List Heard) (from : ℕ) → quiet_from heard ≡ Some from → from ≤ ticks heard
-from_within [] from is = absurd (cc is)
 from_within (Quiet true ∷ heard) from is = first_within (quiet_from heard) (ticks heard) from (from_within heard) is
-from_within (Quiet false ∷ heard) from is = absurd (cc is)
 from_within (Tick on ∷ heard) from is = let within = from_within heard from is in omega (arith, within)
+from_within _ from is = absurd (cc is)
 
 quiet_long : (n number : ℕ) (since : Option ℕ) (before : Bool) → before ≡ is_long n number since → (nat_le n 0 || before) ≡ is_long n number (Some (first_of since number))
 quiet_long zero number since before is = sym (leb-zero (number - first_of since number))
@@ -26,10 +25,9 @@ tick_long n number None within = refl
 tick_long n number (Some from) within = let early = within from refl in grind (arith, early)
 
 kept_long : (n : ℕ) (heard : List Heard) → quiet_for n heard ≡ is_long n (ticks heard) (quiet_from heard)
-kept_long n [] = refl
 kept_long n (Quiet true ∷ heard) = quiet_long n (ticks heard) (quiet_from heard) (quiet_for n heard) (kept_long n heard)
-kept_long n (Quiet false ∷ heard) = refl
 kept_long n (Tick on ∷ heard) = kept_long (n - 1) heard ∙ tick_long n (ticks heard) (quiet_from heard) (from_within heard)
+kept_long n _ = refl
 
 late_tick : (limit : ℕ) (on : Bool) (heard : List Heard) → (on && is_long limit (suc (ticks heard)) (quiet_from heard)) ≡ is_late limit (Tick on ∷ heard)
 late_tick limit true heard = sym (kept_long limit (Tick true ∷ heard))

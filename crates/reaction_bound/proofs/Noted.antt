@@ -46,11 +46,7 @@ acts-alike tick tick' other other' did did' watchdog before before' after after'
 -- the watchdog is asked where ProcessData were taken alone
 by-command : (c : Command) (other : Bool) (before watchdog watchdog' : Option ℕ) (n : ℕ) → (c ≡ command.ProcessData → watchdog ≡ watchdog') → standing_taken other before watchdog n c ≡ standing_taken other before watchdog' n c
 by-command command.ProcessData other before watchdog watchdog' n h = ap (λ (d : Option ℕ). standing_taken other before d n command.ProcessData) (h refl)
-by-command command.Reset other before watchdog watchdog' n h = refl
-by-command command.Session other before watchdog watchdog' n h = refl
-by-command command.Connection other before watchdog watchdog' n h = refl
-by-command command.Parameter other before watchdog watchdog' n h = refl
-by-command command.FailSafeData other before watchdog watchdog' n h = refl
+by-command _ other before watchdog watchdog' n h = refl
 
 by-took : (took : Option Took) (other : Bool) (before watchdog watchdog' : Option ℕ) (n : ℕ) (earlier : Option Standing) → IfSome took (λ t. t.command ≡ command.ProcessData → watchdog ≡ watchdog') → standing_at other before watchdog n took earlier ≡ standing_at other before watchdog' n took earlier
 by-took None other before watchdog watchdog' n earlier h = refl

@@ -14,11 +14,7 @@ by-test false before k l h is = cc
 
 by-command : (n : ℕ) (terms : Option Terms) (other : Bool) (before : Option ℕ) (c : Command) (k l : ℕ) → (before ≡ Some k → k ≤ l) → source_by n terms other before c ≡ Some k → k ≤ l
 by-command n terms other before command.ProcessData k l h is = by-test (in_time n terms && not other) before k l h is
-by-command n terms other before command.Reset k l h is = cc
-by-command n terms other before command.Session k l h is = cc
-by-command n terms other before command.Connection k l h is = cc
-by-command n terms other before command.Parameter k l h is = cc
-by-command n terms other before command.FailSafeData k l h is = cc
+by-command n terms other before _ k l h is = cc
 
 by-took : (n : ℕ) (terms : Option Terms) (other : Bool) (before : Option ℕ) (took : Option Took) (earlier : Option ℕ) (k l : ℕ) → (before ≡ Some k → k ≤ l) → (earlier ≡ Some k → k ≤ l)
     → source_at n terms other before took earlier ≡ Some k → k ≤ l
@@ -85,11 +81,7 @@ expires-head false reset later earlier peers peers' left left' h k = h
 
 ticked-suc : (m : Move) (n : ℕ) → ticked m (suc n) ≡ suc (ticked m n)
 ticked-suc move.Tick n = refl
-ticked-suc (move.Deliver bytes) n = refl
-ticked-suc (move.Put load) n = refl
-ticked-suc (move.Hold failsafe) n = refl
-ticked-suc (move.Nonce id) n = refl
-ticked-suc move.Local n = refl
+ticked-suc _ n = refl
 
 ticked-at-suc : (mine : Bool) (m : Move) (n : ℕ) → (if mine then ticked m (suc n) else suc n) ≡ suc (if mine then ticked m n else n)
 ticked-at-suc true m n = ticked-suc m n
@@ -170,17 +162,13 @@ soon watchdog = grind (arith, nat_tests)
 taken-in : (which : End) (x : Entry) (w : List Entry) (terms : Option Terms) (other : Bool) (before : Option ℕ) (c : Command) → same_end which x.end ≡ true → awaited_by which w ≡ before
     → option_map (λ k. stands (left_by 0 terms) (told (ticks_since which k (x ∷ w)))) (source_by 0 terms other before c)
     ≡ standing_taken other before (watchdog_in terms) (counted (is_tick x.what) (waited which w before)) c
-taken-in which x w terms other before command.Reset e h = refl
-taken-in which x w terms other before command.Session e h = refl
-taken-in which x w terms other before command.Connection e h = refl
-taken-in which x w terms other before command.Parameter e h = refl
-taken-in which x w terms other before command.FailSafeData e h = refl
 taken-in which x w None true before command.ProcessData e h = refl
 taken-in which x w None false None command.ProcessData e h = refl
 taken-in which x w None false (Some k) command.ProcessData e h = refl
 taken-in which x w (Some terms) other before command.ProcessData e h =
     ap (λ (b : Bool). option_map (λ k. stands (terms.watchdog - 0) (told (ticks_since which k (x ∷ w)))) (if b && not other then before else None)) (soon terms.watchdog)
     ∙ by-tests which x w terms.watchdog (nat_le terms.watchdog 0) other before e h refl
+taken-in which x w terms other before _ e h = refl
 
 expired-map : (f : ℕ → Standing) (b : Bool) (o : Option ℕ) → option_map f (if b then None else o) ≡ (if b then None else option_map f o)
 expired-map f true o = refl
@@ -201,11 +189,7 @@ tick-map left left' ages o later h k =
 
 by-move : (which : End) (w : List Entry) (m : Move) → option_map (λ k. stands (left_after which (ticked m 0) w) (counted (is_tick m) (told (ticks_since which k w)))) (source_after which (ticked m 0) w) ≡ standing_counted (is_tick m) (standing_of which w)
 by-move which w move.Tick = tick-map (left_after which 0 w) (left_after which 1 w) (λ k. told (ticks_since which k w)) (source_after which 0 w) (source_after which 1 w) (left-next which 0 w) (expires which 0 w)
-by-move which w (move.Deliver bytes) = refl
-by-move which w (move.Put load) = refl
-by-move which w (move.Hold failsafe) = refl
-by-move which w (move.Nonce id) = refl
-by-move which w move.Local = refl
+by-move which w _ = refl
 
 -- outputs after an entry of the end that took nothing
 ticked-in : (which : End) (x : Entry) (w : List Entry) → same_end which x.end ≡ true
@@ -241,9 +225,8 @@ told-max : (a b m : ℕ) → min (max a b) m ≡ max (min a m) (min b m)
 told-max a b m = omega arith
 
 told-greater : (a b : Option ℕ) → told_age (greater a b) ≡ greater (told_age a) (told_age b)
-told-greater None b = refl
-told-greater (Some a) None = refl
 told-greater (Some a) (Some b) = ap Some (told-max a b (2 ^ 32 - 1))
+told-greater _ _ = refl
 
 -- the greatest age after an entry of the end
 pub acted_worst : (which : End) (x : Entry) (w : List Entry) → told_age (worst_of which (x ∷ w)) ≡ greater (age_in (standing_of which (x ∷ w))) (told_age (worst_of which w))

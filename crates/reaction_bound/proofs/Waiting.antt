@@ -115,11 +115,7 @@ told-twice n m = omega arith
 -- ticks are counted as they are told
 pub told_ticked : (m : Move) (n : ℕ) → told (ticked m n) ≡ counted (is_tick m) (told n)
 told_ticked move.Tick n = told-twice n (2 ^ 32 - 1)
-told_ticked (move.Deliver bytes) n = refl
-told_ticked (move.Put load) n = refl
-told_ticked (move.Hold failsafe) n = refl
-told_ticked (move.Nonce id) n = refl
-told_ticked move.Local n = refl
+told_ticked _ n = refl
 
 -- ticks that were counted, after an entry of the end or of its peer
 abbrev pub counted_at : Bool → Move → ℕ → ℕ
