@@ -43,17 +43,11 @@ pub data Same (p : State) (ss : SlaveSettings) (e : List Deed) (bytes : List ℕ
 -- the frame that is kept, and the chain
 kept-same : (p : State) (ss : SlaveSettings) (e : List Deed) → SoundAt p ss e → machine.kept_in (now_in p ss (notes_of ss e)) ≡ kept (since e)
 kept-same state.Reset ss e h = sym (ap (λ (n : Notes). n.kept) h.1)
-kept-same state.Session ss e h = sym h.kept_is
-kept-same state.Connection ss e h = sym h.kept_is
-kept-same state.Parameter ss e h = sym h.kept_is
-kept-same state.Data ss e h = sym h.kept_is
+kept-same _ ss e h = sym h.kept_is
 
 pub chain-same : (p : State) (ss : SlaveSettings) (e : List Deed) → SoundAt p ss e → machine.chain_of (now_in p ss (notes_of ss e)) ≡ (notes_of ss e).chain
 chain-same state.Reset ss e h = sym (ap (λ (n : Notes). n.chain) h.1)
-chain-same state.Session ss e h = refl
-chain-same state.Connection ss e h = refl
-chain-same state.Parameter ss e h = refl
-chain-same state.Data ss e h = refl
+chain-same _ ss e h = refl
 
 fits-same : (p : State) (ss : SlaveSettings) (e : List Deed) (f : Frame) → SoundAt p ss e → fits_next (machine.chain_of (now_in p ss (notes_of ss e))) f ≡ fits (OfSlave ss) (since e) f
 fits-same p ss e f h =
@@ -71,41 +65,24 @@ no-conn o field h = sym (ap (λ (o : Option ℕ). model.is_slave_conn o field) h
 allows-same : (p : State) (ss : SlaveSettings) (e : List Deed) (c : Command)
     → whole ss.profile state.Parameter (parameters ss e) ≡ nat_le (id_len ss.profile + 4 + rule_len ss.rule) (length (parameters ss e))
     → machine.allows (now_in p ss (notes_of ss e)) c ≡ slave_allows p (whole ss.profile p (uploaded ss p e)) c
-allows-same state.Reset ss e c w = refl
-allows-same state.Session ss e c w = refl
-allows-same state.Connection ss e c w = refl
 allows-same state.Parameter ss e c w = ap (λ (done : Bool). slave_allows state.Parameter done c) (sym w)
-allows-same state.Data ss e c w = refl
+allows-same _ ss e c w = refl
 
 -- the test of the connection id, where the command is allowed
 conn-same : (p : State) (ss : SlaveSettings) (e : List Deed) (c : Command) (field : ℕ) → c ≢ command.Reset → SoundAt p ss e
     → machine.allows (now_in p ss (notes_of ss e)) c ≡ true → machine.has_conn (now_in p ss (notes_of ss e)) c field ≡ model.has_conn (OfSlave ss) e c field
 conn-same p ss e command.Reset field r h a = absurd (r refl)
 conn-same state.Reset ss e command.Session field r h a = refl
-conn-same state.Reset ss e command.Connection field r h a = cc
-conn-same state.Reset ss e command.Parameter field r h a = cc
-conn-same state.Reset ss e command.FailSafeData field r h a = cc
-conn-same state.Reset ss e command.ProcessData field r h a = cc
 conn-same state.Session ss e command.Session field r h a = refl
 conn-same state.Session ss e command.Connection field r h a = no-conn (slave_conn ss e) field h.no_conn
-conn-same state.Session ss e command.Parameter field r h a = cc
-conn-same state.Session ss e command.FailSafeData field r h a = cc
-conn-same state.Session ss e command.ProcessData field r h a = cc
-conn-same state.Connection ss e command.Session field r h a = cc
 conn-same state.Connection ss e command.Connection field r h a = conn-of (slave_conn ss e) _ field h.conn_is
 conn-same state.Connection ss e command.Parameter field r h a = conn-of (slave_conn ss e) _ field h.conn_is
-conn-same state.Connection ss e command.FailSafeData field r h a = cc
-conn-same state.Connection ss e command.ProcessData field r h a = cc
-conn-same state.Parameter ss e command.Session field r h a = cc
-conn-same state.Parameter ss e command.Connection field r h a = cc
 conn-same state.Parameter ss e command.Parameter field r h a = conn-of (slave_conn ss e) _ field h.conn_is
 conn-same state.Parameter ss e command.FailSafeData field r h a = conn-of (slave_conn ss e) _ field h.conn_is
 conn-same state.Parameter ss e command.ProcessData field r h a = conn-of (slave_conn ss e) _ field h.conn_is
-conn-same state.Data ss e command.Session field r h a = cc
-conn-same state.Data ss e command.Connection field r h a = cc
-conn-same state.Data ss e command.Parameter field r h a = cc
 conn-same state.Data ss e command.FailSafeData field r h a = ap (λ (k : ℕ). field == k) h.conn_said ∙ conn-of (slave_conn ss e) _ field h.conn_is
 conn-same state.Data ss e command.ProcessData field r h a = ap (λ (k : ℕ). field == k) h.conn_said ∙ conn-of (slave_conn ss e) _ field h.conn_is
+conn-same _ ss e _ field r h a = cc
 
 -- a frame of a session, by its three tests
 by-tests : (p : State) (ss : SlaveSettings) (e : List Deed) (bytes : List ℕ) (c : Command) (a h t a' h' t' : Bool)

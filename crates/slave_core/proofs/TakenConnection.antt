@@ -23,8 +23,7 @@ stays u p k h = grind (arith, get_or_append_left u p 0 k (omega arith), get_or_a
 
 passes : (t b : Bool) → t ≡ true → (t && not b) ≡ false → b ≡ true
 passes true true h e = refl
-passes true false h e = cc
-passes false b h e = cc
+passes _ _ h e = cc
 
 said : (u p : List ℕ) (k n : ℕ) → (k + 2 ≤ length u → number_at k u ≡ n) → fails (length u) (u ++ p) (k + 1) (number_at k (u ++ p) == n) ≡ false
     → k + 2 ≤ length (u ++ p) → number_at k (u ++ p) ≡ n
@@ -39,9 +38,8 @@ fields None b e = refl
 fields (Some x) b e = absurd (cc e)
 
 both : (t t' : Bool) (x y : Code) → (if t then Some x else if t' then Some y else None) ≡ None → (t ≡ false) × (t' ≡ false)
-both true t' x y e = absurd (cc e)
-both false true x y e = absurd (cc e)
 both false false x y e = (refl, refl)
+both _ _ x y e = absurd (cc e)
 
 -- the connection id and the address that were joined are the session's and the slave's
 said-both : (conn address : ℕ) (rule : AppRule) (u p rest : List ℕ) → (2 ≤ length u → number_at 0 u ≡ conn) → (4 ≤ length u → number_at 2 u ≡ address)

@@ -21,17 +21,11 @@ use Rattle.slave_core.proofs.Agreed.{agrees, run-sound}
 
 refused-did : (p : State) (ss : SlaveSettings) (e : List Deed) (x : Code) → (refuses (view_in p ss e) true x).did ≡ on_fault p true x
 refused-did state.Reset ss e x = refl
-refused-did state.Session ss e x = refl
-refused-did state.Connection ss e x = refl
-refused-did state.Parameter ss e x = refl
-refused-did state.Data ss e x = refl
+refused-did _ ss e x = refl
 
 refused-state : (p : State) (ss : SlaveSettings) (e : List Deed) (x : Code) (reset : InReset) → now.Reset reset ≡ (refuses (view_in p ss e) true x).slave.state
 refused-state state.Reset ss e x reset = refl
-refused-state state.Session ss e x reset = refl
-refused-state state.Connection ss e x reset = refl
-refused-state state.Parameter ss e x reset = refl
-refused-state state.Data ss e x reset = refl
+refused-state _ ss e x reset = refl
 
 -- the outcome of a frame that passed the tests
 settled : (ss : SlaveSettings) (e : List Deed) (old : Now) (kit : KitView) (f : SessionFrameView) (bytes : List ℕ) → Meets ss e old kit f bytes → after (view_of ss e) (move.Deliver bytes) ≡ settles (view_of ss e) f (reply kit old f) (next_state kit old f)
@@ -135,10 +129,7 @@ taken_by v w f answer k t i j =
 forgotten : (kit : KitView) (state : Now) (timer : Timer) (x : Code) → (IsTrue (is_reset state) → timer ≡ started kit.settings.hand)
     → refuses_contents (fallen (record { kit = kit; state = state; timer = timer })) (is_reset state) x ≡ refuses (record { kit = kit; state = state; timer = timer }) true x
 forgotten kit (now.Reset s) timer x h = ap (λ (timer : Timer). drops (record { kit = kit; state = now.Reset s; timer = timer }) true dropped.InReset) (sym (h refl))
-forgotten kit (now.Session s) timer x h = refl
-forgotten kit (now.Connection s) timer x h = refl
-forgotten kit (now.Parameter s) timer x h = refl
-forgotten kit (now.Data s) timer x h = refl
+forgotten kit _ timer x h = refl
 
 -- a slave that forgot its session refuses a frame as it did before: in state Reset it is as it was
 pub refused_by : (v w : SlaveView) (f : SessionFrameView) (b : Bool) (x : Code) → IsSoundSlave v → b ≡ is_reset v.state → w ≡ fallen v
