@@ -19,9 +19,8 @@ first None b e = refl
 first (Some x) b e = absurd (cc e)
 
 second : (t t' : Bool) (x y : Code) (z : Option Code) → (if t then Some x else if t' then Some y else z) ≡ None → t' ≡ false
-second true t' x y z e = absurd (cc e)
-second false true x y z e = absurd (cc e)
 second false false x y z e = refl
+second _ _ x y z e = absurd (cc e)
 
 -- the test of the watchdog is passed where no test fails
 watchdog-tested : (most count : ℕ) (profile : Profile) (rule : AppRule) (before : ℕ) (u rest : List ℕ) → contents_fault (expected.Parameter most count profile) rule before u rest ≡ None
@@ -51,7 +50,6 @@ watchdog u p most before tested long =
 
 -- the watchdog of the joined bytes isn't 0 where no test fails
 pub joined_watchdog : (e : Expected) (rule : AppRule) (u p rest : List ℕ) → HasWatchdog e u → contents_fault e rule (length u) (u ++ p) rest ≡ None → HasWatchdog e (u ++ p)
-joined_watchdog (expected.Session profile) rule u p rest h f = tt
-joined_watchdog (expected.Connection conn address) rule u p rest h f = tt
 joined_watchdog (expected.Parameter most count profile) rule u p rest h f =
     watchdog u p most h (watchdog-tested most count profile rule (length u) (u ++ p) rest f)
+joined_watchdog _ rule u p rest h f = tt
