@@ -1,6 +1,6 @@
 -- A frame that differs in one thing from a frame that fits.
 use Rattle.seq_chain.proofs.Common.{AreBytes, DifferAt, DifferInCommand, DifferInConnection, DifferInCrc, DifferInGroup, Frame, Link, SteppedAlike, cover, crc_0, crcs, crcs_from, first_of, fits, following, groups, next, number_of, rem, repeats_crc, stepped, steps_again}
-use Rattle.std.proofs.Common.{◌≡◌, ◌≢◌, ℕ, zero, suc, ◌<◌, List, [], ◌∷◌, length, Bool, true, false, Option, Some, None, ◌==◌, IsTrue, refl, sym, ap, subst, ◌∙◌, arith}
+use Rattle.std.proofs.Common.{◌≡◌, ◌≢◌, ℕ, zero, suc, ◌<◌, List, ◌∷◌, length, Bool, true, false, Option, Some, None, ◌==◌, IsTrue, refl, sym, ap, subst, ◌∙◌, arith}
 use Rattle.std.specs.Cmp.Lexicographic.{bytes_decides}
 use Rattle.seq_chain.proofs.ToldApart.{command_told, connection_told, groups_told, first_group, crc_0_is}
 
@@ -57,8 +57,7 @@ first_data_refused last before f g h h' right d steps = group_refused last befor
 -- a later group doesn't change the CRC_0, and so not the step
 same_first : (last conn n cmd k : ℕ) (gs hs : List (List ℕ)) → DifferAt (suc k) gs hs → first_of (crcs_from last conn n cmd 0 gs) ≡ first_of (crcs_from last conn n cmd 0 hs)
 same_first last conn n cmd k (g ∷ gs) (h ∷ hs) other = ap (λ x. rem (cover last conn n cmd 0 x)) other.0
-same_first last conn n cmd k [] hs other = absurd other
-same_first last conn n cmd k (g ∷ gs) [] other = absurd other
+same_first last conn n cmd k _ _ other = absurd other
 
 same_step : (last conn cmd k : ℕ) (before : Option Link) (load load' : List ℕ) → DifferAt (suc k) (groups load) (groups load')
     → repeats_crc (λ n. crc_0 last conn n cmd load) before ≡ repeats_crc (λ n. crc_0 last conn n cmd load') before
@@ -72,10 +71,7 @@ later_data_refused last before f g (suc k) later h h' right d = group_refused la
 differ_not_equal : (k : ℕ) (xs ys : List ℕ) → DifferAt k xs ys → xs ≢ ys
 differ_not_equal zero (x ∷ xs) (y ∷ ys) d e = d.0 (cc)
 differ_not_equal (suc k) (x ∷ xs) (y ∷ ys) d e = differ_not_equal k xs ys d.1 (cc)
-differ_not_equal zero [] ys d e = d
-differ_not_equal zero (x ∷ xs) [] d e = d
-differ_not_equal (suc k) [] ys d e = d
-differ_not_equal (suc k) (x ∷ xs) [] d e = d
+differ_not_equal _ _ _ d e = d
 
 pub crc_refused : (last : ℕ) (before : Option Link) (f g : Frame) (k : ℕ) → IsTrue (fits last before f) → DifferInCrc k f g → fits last before g ≡ false
 crc_refused last before f g k right d =

@@ -35,9 +35,7 @@ pub data Tested (l : ℕ) (repeats : Bool) (bytes : List ℕ) : Opened → Type 
 -- what a Reset frame says is its first data byte
 said : (a b k : Bool) (x y z u v : Code) → (if not a then Err x else if not b then Err y else if not k then Err z else Ok u) ≡ Ok v → v ≡ u
 said true true true x y z u v h = cc
-said true true false x y z u v h = absurd (cc h)
-said true false k x y z u v h = absurd (cc h)
-said false b k x y z u v h = absurd (cc h)
+said _ _ _ x y z u v h = absurd (cc h)
 
 said-first : (f : Frame) (x : Code) → reset_view f ≡ Ok x → x ≡ code (first_of f.load)
 said-first f x h = said (f.conn == 0) (pointwise nat_eq f.crcs (reset_crcs f.load)) (zeros_follow f.load) (code 0x03) (code 0x04) (code 0x07) (code (first_of f.load)) x h

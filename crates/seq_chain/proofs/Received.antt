@@ -25,25 +25,14 @@ received_connection l bytes valid right h =
 one_load : (cmd : ℕ) (bytes : List ℕ) → length bytes ≡ 5 → AreBytes bytes → AreBytes (one_byte cmd bytes).load
 one_load cmd (d ∷ c ∷ c' ∷ k ∷ k' ∷ []) right h zero = h zero
 one_load cmd (d ∷ c ∷ c' ∷ k ∷ k' ∷ []) right h (suc i) = omega arith
-one_load cmd [] right h i = absurd (omega arith)
-one_load cmd (a ∷ []) right h i = absurd (omega arith)
-one_load cmd (a ∷ b ∷ []) right h i = absurd (omega arith)
-one_load cmd (a ∷ b ∷ c ∷ []) right h i = absurd (omega arith)
-one_load cmd (a ∷ b ∷ c ∷ d ∷ []) right h i = absurd (omega arith)
-one_load cmd (a ∷ b ∷ c ∷ d ∷ e ∷ f ∷ more) right h i = absurd (omega arith)
+one_load cmd _ right h i = absurd (omega arith)
 
 pairs_load : (cmd n : ℕ) (bytes : List ℕ) → length bytes ≡ 4 * n + 2 → AreBytes bytes → AreBytes (pairs cmd bytes).load
 pairs_load cmd zero (k ∷ k' ∷ []) right h i = omega arith
 pairs_load cmd (suc n) (d ∷ d' ∷ c ∷ c' ∷ bytes) right h zero = h zero
 pairs_load cmd (suc n) (d ∷ d' ∷ c ∷ c' ∷ bytes) right h (suc zero) = h (suc zero)
 pairs_load cmd (suc n) (d ∷ d' ∷ c ∷ c' ∷ bytes) right h (suc (suc i)) = pairs_load cmd n bytes (omega arith) (λ j. h (suc (suc (suc (suc j))))) i
-pairs_load cmd zero [] right h i = absurd (omega arith)
-pairs_load cmd zero (a ∷ []) right h i = absurd (omega arith)
-pairs_load cmd zero (a ∷ b ∷ c ∷ more) right h i = absurd (omega arith)
-pairs_load cmd (suc n) [] right h i = absurd (omega arith)
-pairs_load cmd (suc n) (a ∷ []) right h i = absurd (omega arith)
-pairs_load cmd (suc n) (a ∷ b ∷ []) right h i = absurd (omega arith)
-pairs_load cmd (suc n) (a ∷ b ∷ c ∷ []) right h i = absurd (omega arith)
+pairs_load cmd _ _ right h i = absurd (omega arith)
 
 pairs_of : (l cmd : ℕ) (bytes : List ℕ) → l ≢ 1 → frame_of l (cmd ∷ bytes) ≡ pairs cmd bytes
 pairs_of l cmd bytes other = grind (arith, nat_tests)
