@@ -10,16 +10,14 @@ use Rattle.black_channel.specs.Window.{WindowView, Pushes, Tells, newest_first}
 use Rattle.black_channel.specs.Altered.{back_th}
 
 order : (a b : ℕ) → (a < b) ⊎ (b ≤ a)
-order zero zero = inr (omega arith)
 order zero (suc b) = inl (omega arith)
-order (suc a) zero = inr (omega arith)
+order _ zero = inr (omega arith)
 order (suc a) (suc b) = elim (order a b) [ inl h ↦ inl (omega arith) | inr h ↦ inr (omega arith) ]
 
 take-whole : (xs ys : List (List ℕ)) (n : ℕ) → length xs ≡ n → take n (xs ++ ys) ≡ xs
 take-whole [] ys zero h = refl
-take-whole [] ys (suc n) h = cc
-take-whole (x ∷ xs) ys zero h = cc
 take-whole (x ∷ xs) ys (suc n) h = ap (λ (l : List (List ℕ)). x ∷ l) (take-whole xs ys n (omega arith))
+take-whole _ ys _ h = cc
 
 take-short : (xs : List (List ℕ)) (n : ℕ) → length xs ≤ n → take n xs ≡ xs
 take-short [] zero h = refl
@@ -114,9 +112,8 @@ not_found ring next (suc k) p h =
 
 -- the first of the first of a list
 fewer : (n : ℕ) (xs : List (List ℕ)) → take n (take (suc n) xs) ≡ take n xs
-fewer zero xs = refl
-fewer (suc n) [] = refl
 fewer (suc n) (x ∷ xs) = ap (λ (l : List (List ℕ)). x ∷ l) (fewer n xs)
+fewer _ _ = refl
 
 one-more : (n most : ℕ) → min (min n most + 1) most ≡ min (suc n) most
 one-more n most = omega arith
