@@ -60,9 +60,8 @@ cut (x ∷ xs) more = cut_at (is_newline x) x xs more refl (cut xs more)
 
 -- the parts before others are whole lines
 whole_lines : (front : List (List ℕ)) (next : List ℕ) (tail : List (List ℕ)) → lines_in (front ++ next ∷ tail) ≡ map whole_line front ++ lines_in (next ∷ tail)
-whole_lines [] next tail = refl
-whole_lines (text ∷ []) next tail = refl
 whole_lines (text ∷ other ∷ front) next tail = ap (λ (z : Lines). whole_line text ∷ z) (whole_lines (other ∷ front) next tail)
+whole_lines _ next tail = refl
 
 -- nothing, or what is no line
 abbrev IsOpen : Lines → Type 0
@@ -109,17 +108,14 @@ same_after f h log (Err cause) first text lines more later at = (refl, at)
 
 same_events : {H L E : Type 0} (f : InputFormat H L E) (h : H) (w t u : Lines) (text : List ℕ) → IsOpen t → (log : List E) → slice_get (w ++ t) (length (events_in f h log (w ++ t))) ≡ Some (Ok text)
     → IsSame (events_in f h log (w ++ t)) (events_in f h log (w ++ u)) (w ++ u) text
-same_events f h [] [] u text is log at = cc
 same_events f h [] (Ok first ∷ t) u text is log at = absurd is
-same_events f h [] (Err why ∷ t) u text is log at = cc
-same_events f h (Err why ∷ w) t u text is log at = cc
 same_events f h (Ok first ∷ w) t u text is log at = same_after f h log (f.line h first) first text (w ++ t) (w ++ u) (same_events f h w t u text is) at
+same_events f h _ _ u text is log at = cc
 
 -- an input stops by `end` at a line
 at_line : {H L E : Type 0} (f : InputFormat H L E) (h : H) (number : ℕ) (full : Bool) (next : Option (Result (List ℕ) InputCause)) → stop_at f h number full next ≡ AtEnd → (text : List ℕ) × (next ≡ Some (Ok text))
-at_line f h number full None e = cc
-at_line f h number full (Some (Err why)) e = cc
 at_line f h number full (Some (Ok text)) e = (text, refl)
+at_line f h number full _ e = cc
 
 after_same : {H L E : Type 0} (f : InputFormat H L E) (h : H) (n : ℕ) (w t u : Lines) → IsOpen t → (input_after f (record { heading = h; lines = n; rest = w ++ t })).stop ≡ AtEnd
     → input_after f (record { heading = h; lines = n; rest = w ++ u }) ≡ input_after f (record { heading = h; lines = n; rest = w ++ t })

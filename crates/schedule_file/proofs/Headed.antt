@@ -1,6 +1,6 @@
 -- What a new header has, and each line keeps, a header that is done has.
 use Rattle.schedule_file.proofs.Common.{InputCause, InputFormat, LineCause, Stop, WholeHeaderOf, header_in, header_read, header_step, input_by, input_read, lines_of}
-use Rattle.std.proofs.Common.{ℕ, ◌+◌, Bool, true, false, List, [], ◌∷◌}
+use Rattle.std.proofs.Common.{ℕ, ◌+◌, Bool, true, false, List, ◌∷◌}
 use Rattle.std.specs.Prelude.{Result, Ok, Err, IfOk, IfSome, if◌then◌else◌}
 
 pub either : {A E : Type 0} (b : Bool) (r t : Result A E) (P : A → Type 0) → IfOk r P → IfOk t P → IfOk (if b then r else t) P
@@ -14,10 +14,9 @@ step is_whole P number rest go_on (Err cause) s next = tt
 
 lines : {H L E : Type 0} (f : InputFormat H L E) (P : H → Type 0) → ((h : H) (text : List ℕ) → P h → IfOk (f.header_line h text) P) → (number : ℕ) (h : H) (texts : List (Result (List ℕ) InputCause)) → P h
     → IfOk (header_in f number h texts) (λ whole. P whole.heading)
-lines f P keeps number h [] s = tt
-lines f P keeps number h (Err why ∷ rest) s = tt
 lines f P keeps number h (Ok text ∷ rest) s =
     step f.is_whole P number rest (λ next. header_in f (number + 1) next rest) (f.header_line h text) (keeps h text s) (λ next sound. lines f P keeps (number + 1) next rest sound)
+lines f P keeps number h _ s = tt
 
 input : {H L E : Type 0} (f : InputFormat H L E) (P : H → Type 0) (r : Result (WholeHeaderOf H) Stop) → IfOk r (λ whole. P whole.heading) → IfSome (input_by f r).heading P
 input f P (Ok whole) s = s

@@ -26,9 +26,8 @@ pub hex_said : (most : ℕ) (text bytes : List ℕ) → bytes_said most text ≡
 hex_said most text bytes e = ap (one_hex_field most) (alone most text bytes e) ∙ ap (value_or cause.Hex) e
 
 unsaid : (most : ℕ) (text : List ℕ) (fields : List (List ℕ)) → bytes_said most text ≡ None → ((field : List ℕ) → fields ≡ field ∷ [] → field ≡ text) → one_hex_field most fields ≡ Err (not_hex fields)
-unsaid most text [] e same = refl
 unsaid most text (field ∷ []) e same = ap (λ t. value_or cause.Hex (bytes_said most t)) (same field refl) ∙ ap (value_or cause.Hex) e
-unsaid most text (field ∷ next ∷ more) e same = refl
+unsaid most text _ e same = refl
 
 pub hex_unsaid : (most : ℕ) (text : List ℕ) → bytes_said most text ≡ None → one_hex_field most (fields_of text) ≡ Err (not_hex (fields_of text))
 hex_unsaid most text e = unsaid most text (fields_of text) e (λ field is. ap (join_with_byte 32) (sym is) ∙ join_with_byte-slice_split 32 text)

@@ -54,8 +54,7 @@ left-least kind p w app listed h = absurd (false≢true h)
 
 left-rule : (line : RuleLine) (app : ℕ) → left_after (rule_place line) app (rule_len (rule_begun line)) < 514
 left-rule (rule.Any n) app = omega arith
-left-rule rule.Exact app = omega arith
-left-rule rule.Ranges app = omega arith
+left-rule _ app = omega arith
 
 -- a `profile` line follows `master` or `slave`
 profile-fewer : (p : Place) (h : Heading) (n : ℕ) → IsTrue (may_stand h.kind p word.Profile) → lines_left (profile_taken p h n) < left_after p (length h.master.app) (rule_len h.slave.rule)

@@ -47,8 +47,7 @@ event_at-first number place few = grind (arith, nat_tests)
 
 neither : (a b : Bool) (x y : Event) → a ≡ false → b ≡ false → (if a || b then x else y) ≡ y
 neither false false x y p q = refl
-neither true b x y p q = cc
-neither false true x y p q = cc
+neither _ _ x y p q = cc
 
 -- the later events of the other numbers
 pub event_at-word : (number count : ℕ) → 4 ≤ count → event_at (suc number) (suc count) ≡ event_of_word (word_after (suc number) (count - 4))

@@ -70,14 +70,12 @@ event_fits sends profiles word.End fields = tt
 one_fits : (sends : List (End → ℕ)) (profiles : List (End → Profile)) (pair : ℕ) (s : End → ℕ) (p : End → Profile) (r : Result ScheduleLine LineCause)
     → numbered pair sends ≡ Some s → numbered pair profiles ≡ Some p → IfOk r (OnStep (Fits s p)) → IfOk (of_pair pair r) (PairsLineFits sends profiles)
 one_fits sends profiles pair s p (Ok (line.Step event)) e d fits = rw (e, d) fits
-one_fits sends profiles pair s p (Ok line.End) e d fits = tt
-one_fits sends profiles pair s p (Err cause) e d fits = tt
+one_fits sends profiles pair s p _ e d fits = tt
 
 to_fits : (sends : List (End → ℕ)) (profiles : List (End → Profile)) (pair : ℕ) (s : Option (End → ℕ)) (p : Option (End → Profile)) (word : PairWord) (fields : List (List ℕ))
     → numbered pair sends ≡ s → numbered pair profiles ≡ p → IfOk (said_to pair s p word fields) (PairsLineFits sends profiles)
 to_fits sends profiles pair (Some s) (Some p) word fields e d = one_fits sends profiles pair s p (event_said s p word fields) e d (event_fits s p word fields)
-to_fits sends profiles pair None p word fields e d = tt
-to_fits sends profiles pair (Some s) None word fields e d = tt
+to_fits sends profiles pair _ _ word fields e d = tt
 
 number_fits : (sends : List (End → ℕ)) (profiles : List (End → Profile)) (number : Option ℕ) (word : PairWord) (fields : List (List ℕ)) → IfOk (said_to_number sends profiles number word fields) (PairsLineFits sends profiles)
 number_fits sends profiles None word fields = tt
@@ -111,6 +109,4 @@ map-next f g kept new pairs before a b e is found same =
 pub room_before : (s : PairsStage) (before : List Heading) (last : Heading) (most : ℕ) → length (pairs_begun s before last) < most → (s ≡ stage.Pairs) ⊎ (s ≡ stage.Done) → length before + 1 < most
 room_before stage.Pairs before last most few some = let all = length_push before last in omega (arith, all, few)
 room_before stage.Done before last most few some = let all = length_push before last in omega (arith, all, few)
-room_before stage.Start before last most few some = elim some [ inl e ↦ cc | inr e ↦ cc ]
-room_before stage.Title before last most few some = elim some [ inl e ↦ cc | inr e ↦ cc ]
-room_before stage.Refused before last most few some = elim some [ inl e ↦ cc | inr e ↦ cc ]
+room_before _ before last most few some = elim some [ inl e ↦ cc | inr e ↦ cc ]

@@ -14,16 +14,9 @@ use Rattle.schedule_file.proofs.ReadBack.{digits-decimal, no_space-decimal, numb
 
 -- what a word of an event says to a pair, where it says this event
 word_said : (own : End → ℕ) (profile : End → Profile) (word : PairWord) (fields : List (List ℕ)) (event : Event) → pair_said own profile (Some word) fields ≡ Ok (line.Step event) → event_said own profile word fields ≡ Ok (line.Step event)
-word_said own profile (word.Deliver to) fields event e = e
-word_said own profile (word.Altered to) fields event e = e
-word_said own profile (word.Raw to) fields event e = e
-word_said own profile (word.Tick at) fields event e = e
-word_said own profile (word.Put at) fields event e = e
-word_said own profile (word.Hold at) fields event e = e
-word_said own profile (word.Nonce at) fields event e = e
-word_said own profile (word.Local at) fields event e = e
 word_said own profile word.End [] event e = cc
 word_said own profile word.End (field ∷ fields) event e = cc
+word_said own profile _ fields event e = e
 
 -- the word of a line, and the fields after it
 of_word : (sends : List (End → ℕ)) (profiles : List (End → Profile)) (pair : ℕ) (own : End → ℕ) (profile : End → Profile) (digits first : List ℕ) (fields : List (List ℕ)) (w : Option PairWord) (event : Event)
@@ -51,8 +44,7 @@ numbered_said sends profiles pair own profile text event lt s p says =
 by_ends : (sends : List (End → ℕ)) (profiles : List (End → Profile)) (pair : ℕ) (s : Option (End → ℕ)) (p : Option (End → Profile)) (event : Event) → pair < 65536 → IsOfTypes event
     → numbered pair sends ≡ s → numbered pair profiles ≡ p → FitsEnds s p event → pairs_line sends profiles (with_pair pair (event_text event)) ≡ Ok (said.One pair event)
 by_ends sends profiles pair (Some own) (Some profile) event lt typed e d fits = numbered_said sends profiles pair own profile (event_text event) event lt e d (read_back own profile event typed fits)
-by_ends sends profiles pair None p event lt typed e d fits = absurd fits
-by_ends sends profiles pair (Some own) None event lt typed e d fits = absurd fits
+by_ends sends profiles pair _ _ event lt typed e d fits = absurd fits
 
 pub pair_read_back : (sends : List (End → ℕ)) (profiles : List (End → Profile)) (pair : ℕ) (event : Event) → pair < 65536 → IsOfTypes event → FitsPair sends profiles pair event
     → pairs_line sends profiles (with_pair pair (event_text event)) ≡ Ok (said.One pair event)

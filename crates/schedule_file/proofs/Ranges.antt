@@ -10,10 +10,9 @@ use Rattle.schedule_file.specs.declared.line_cause.LineCause.TheVariants as caus
 -- one more pair at the end of both lists
 pointwise-append-one : (low high : List ℕ) (x y : ℕ) → IsTrue (pointwise nat_le low high) → x ≤ y
     → IsTrue (pointwise nat_le (low ++ x ∷ []) (high ++ y ∷ []))
-pointwise-append-one [] [] x y h le = grind (arith, nat_tests)
-pointwise-append-one [] (b ∷ high) x y h le = grind (arith, nat_tests)
-pointwise-append-one (a ∷ low) [] x y h le = grind (arith, nat_tests)
 pointwise-append-one (a ∷ low) (b ∷ high) x y h le = grind (arith, nat_tests, pointwise-append-one low high x y)
+pointwise-append-one [] [] x y h le = grind (arith, nat_tests)
+pointwise-append-one _ _ x y h le = grind (arith, nat_tests)
 
 pub is_acceptable-append-one : (low high : List ℕ) (x y : ℕ) → IsTrue (is_acceptable (Ranges low high)) → x ≤ y
     → IsTrue (is_acceptable (Ranges (low ++ x ∷ []) (high ++ y ∷ [])))
@@ -46,6 +45,5 @@ pair_at pairs k lt =
 -- lists of ranges are as long as each other
 pub length-pointwise : (low high : List ℕ) → IsTrue (pointwise nat_le low high) → length high ≡ length low
 length-pointwise [] [] h = refl
-length-pointwise [] (y ∷ high) h = grind (arith, nat_tests)
-length-pointwise (x ∷ low) [] h = grind (arith, nat_tests)
 length-pointwise (x ∷ low) (y ∷ high) h = grind (arith, nat_tests, length-pointwise low high)
+length-pointwise _ _ h = grind (arith, nat_tests)

@@ -164,14 +164,12 @@ profile_allows nonce = allows_by (allows_id profile.One nonce) nonce refl
 
 begun_acceptable : (line : RuleLine) → RuleInRange line → IsTrue (is_acceptable (rule_begun line))
 begun_acceptable (rule.Any n) range = grind (arith, nat_tests)
-begun_acceptable rule.Exact range = refl
-begun_acceptable rule.Ranges range = refl
+begun_acceptable _ range = refl
 
 pointwise_append : (low high lows highs : List ℕ) → IsTrue (pointwise nat_le low high) → IsTrue (pointwise nat_le lows highs) → IsTrue (pointwise nat_le (low ++ lows) (high ++ highs))
 pointwise_append [] [] lows highs a b = b
-pointwise_append [] (y ∷ high) lows highs a b = grind (arith, nat_tests)
-pointwise_append (x ∷ low) [] lows highs a b = grind (arith, nat_tests)
 pointwise_append (x ∷ low) (y ∷ high) lows highs a b = grind (arith, nat_tests, pointwise_append low high lows highs)
+pointwise_append _ _ lows highs a b = grind (arith, nat_tests)
 
 -- a rule with one more line of its own
 bytes_acceptable : (r : AppRule) (bytes : List ℕ) → IfOk (rule_with_bytes r bytes) (λ all. IsTrue (is_acceptable all))
