@@ -66,10 +66,8 @@ ends_told r status.Read ended o told faults same fewer ends = record {
   cause = rose_since faults o.source.faults_before o.source.faults_after fewer ends.cause;
 }
 ends_told r status.Write ended o told faults same fewer ends = record { appended = ends.appended; wrote = if_told _ told o.source.before same ends.wrote; cause = ends.cause }
-ends_told r status.Usage ended o told faults same fewer ends = ends
-ends_told r status.Config ended o told faults same fewer ends = ends
-ends_told r status.Desk ended o told faults same fewer ends = ends
 ends_told r status.Memory ended o told faults same fewer ends = record { place_is = ends.place_is; takes = ends.takes; wrote = if_told _ told o.source.before same ends.wrote }
+ends_told r _ ended o told faults same fewer ends = ends
 
 pub ran_told : {H L E : Type 0} (r : Reporting H L E) (ended : Ended) (o : Outside) (told : Option (List ℕ)) (faults : ℕ) → AreTold told o.source.before → o.source.faults_before ≡ faults → RanOver r ended o → RanOver r ended (since told faults o)
 ran_told r ended o told faults same stayed ran = record {
@@ -100,10 +98,7 @@ leaves_as r closes d status.Other ended o told faults same all = record { input 
 leaves_as r closes d status.Line ended o told faults same l = record { why = l.why; stops = if_told _ told o.source.before same l.stops; number_is = l.number_is; wrote = l.wrote }
 leaves_as r closes d status.Read ended o told faults same l = record { lines_are = l.lines_are; wrote = l.wrote }
 leaves_as r closes d status.Write ended o told faults same l = record { whole = l.whole; within = may_told r.format closes d l.whole told o.source.before same l.within; wrote = l.wrote; last = l.last }
-leaves_as r closes d status.Memory ended o told faults same l = l
-leaves_as r closes d status.Usage ended o told faults same l = l
-leaves_as r closes d status.Config ended o told faults same l = l
-leaves_as r closes d status.Desk ended o told faults same l = l
+leaves_as r closes d _ ended o told faults same l = l
 
 pub leaves_told : {H L E : Type 0} (unchanged : Type 0) (r : Reporting H L E) (stands : H → List E → List ℕ → Type 0) (closes : H → List E → List ℕ → Ended → Type 0) (ended : Ended) (o : Outside) (told : Option (List ℕ)) (faults : ℕ)
     → AreTold told o.source.before → Leaves unchanged r stands closes ended o → Leaves unchanged r stands closes ended (since told faults o)

@@ -29,8 +29,7 @@ source_stayed : (T : Type 0) (sent : ℕ) (waiting : List ℕ) (why : Halt) (res
     → Writes sent (waiting ++ last_of why) (halted_by why) result sink → result.status ≢ status.Read → after ≡ before
 source_stayed T sent waiting (halt.Read count) result sink before after blames still writes other =
     elim writes [ inl whole ↦ absurd (other (ap (λ (e : Ended). e.status) whole.0)) | inr cut ↦ still (omega (arith, cut.less, length-append waiting [])) ]
-source_stayed T sent waiting halt.Memory result sink before after blames still writes other = blames
-source_stayed T sent waiting (halt.Refused line cause) result sink before after blames still writes other = blames
+source_stayed T sent waiting _ result sink before after blames still writes other = blames
 
 -- the input goes no further, after nothing failed; where a read fails, nothing waits
 pub counted_halted : (T : Type 0) (o : Outside) (between : Option (List ℕ)) (read faults sent : ℕ) (waiting : List ℕ) (why : Halt) (result : Ended) → Blames {T = T} (Err why) read o.source.faults_after → read ≤ o.source.faults_after → read ≡ o.source.faults_before

@@ -12,19 +12,14 @@ declines_goes (Err halt.Memory) before lines old new d e took = tt
 declines_goes (Err (halt.Refused line cause)) before lines old new d e took = (d ∙ e, took)
 
 pub declines_stalls : {T : Type 0} (result : Result T Halt) (lines : ℕ) (held : List ℕ) → Declines result lines → Stalls result held
-declines_stalls (Ok taken) lines held d = tt
 declines_stalls (Err (halt.Read count)) lines held d = absurd d
-declines_stalls (Err halt.Memory) lines held d = tt
-declines_stalls (Err (halt.Refused line cause)) lines held d = tt
+declines_stalls _ lines held d = tt
 
 pub declines_blames : {T : Type 0} (result : Result T Halt) (lines before now : ℕ) → Declines result lines → now ≡ before → Blames result before now
-declines_blames (Ok taken) lines before now d same = same
 declines_blames (Err (halt.Read count)) lines before now d same = absurd d
-declines_blames (Err halt.Memory) lines before now d same = same
-declines_blames (Err (halt.Refused line cause)) lines before now d same = same
+declines_blames _ lines before now d same = same
 
 -- it is blamed likewise since an earlier moment from which on the count stayed
 pub blames_since : (T U : Type 0) (why : Halt) (first before now : ℕ) → before ≡ first → Blames {T = T} (Err why) before now → Blames {T = U} (Err why) first now
 blames_since T U (halt.Read count) first before now same h = subst (λ (n : ℕ). Rose n now) same h
-blames_since T U halt.Memory first before now same h = h ∙ same
-blames_since T U (halt.Refused line cause) first before now same h = h ∙ same
+blames_since T U _ first before now same h = h ∙ same

@@ -15,15 +15,13 @@ reported r ended o wrote = IfSome_then o.source.before wrote (λ input text. (te
 
 pub stops_exactly : {H L E : Type 0} (r : Reporting H L E) (s : Status) (ended : Ended) (o : Outside) → EndsAs r s ended o
     → (Rose o.source.faults_before o.source.faults_after → ⊥) → (Rose o.sink.faults_before o.sink.faults_after → ⊥) → (s ≡ status.Memory → ⊥) → IsReported r ended o.source.before
-stops_exactly r status.Ok ended o ends read write memory = reported r ended o ends.wrote
-stops_exactly r status.Other ended o ends read write memory = reported r ended o ends.wrote
-stops_exactly r status.Line ended o ends read write memory = reported r ended o ends.wrote
 stops_exactly r status.Read ended o ends read write memory = absurd (read ends.cause)
 stops_exactly r status.Write ended o ends read write memory = absurd (write ends.cause)
 stops_exactly r status.Usage ended o ends read write memory = absurd ends
 stops_exactly r status.Config ended o ends read write memory = absurd ends
 stops_exactly r status.Desk ended o ends read write memory = absurd ends
 stops_exactly r status.Memory ended o ends read write memory = absurd (memory refl)
+stops_exactly r _ ended o ends read write memory = reported r ended o ends.wrote
 
 pub ran_by : {H L E : Type 0} (r : Reporting H L E) (ended : Ended) (o : Outside) → EndsAs r ended.status ended o → CountsFaults ended.status o → RanOver r ended o
 ran_by r ended o ends faults = record { ends = ends; stops = stops_exactly r ended.status ended o ends; faults = faults }

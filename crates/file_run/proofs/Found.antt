@@ -20,8 +20,7 @@ no_line fault.NoNewline before text old new r = by_open old (λ lines. first_lin
 -- and nothing is taken
 pub none_goes : (why : LineFault) (first before lines : ℕ) (old new : Option (List ℕ)) → first ≡ before → Reads (Err why) old new → Goes {T = Unit {0}} (Err (halt_of why first)) before lines old new
 none_goes fault.Read first before lines old new e r = (e, r)
-none_goes fault.Long first before lines old new e r = (ap (λ (n : ℕ). n + 1) e, took_nothing old new r.1)
-none_goes fault.NoNewline first before lines old new e r = (ap (λ (n : ℕ). n + 1) e, took_nothing old new r.1)
+none_goes _ first before lines old new e r = (ap (λ (n : ℕ). n + 1) e, took_nothing old new r.1)
 
 -- then there is no next header line
 pub no_header_line : {H L E : Type 0} (f : InputFormat H L E) (takes : Bool) (h next : H) (why : Halt) (text : List ℕ) (old new : Option (List ℕ)) → FindsLine (Err why) text old new → FindsHeading f takes h (Err why) next old new

@@ -186,13 +186,7 @@ left_stopped r stands left closes says full o b c w1 faults waiting events lines
 did_all : {H L E : Type 0} (r : Reporting H L E) (closes : Closing H E) (d : Done H E) (judges : Bool) (s : Status) (place : ℕ) (ended : Ended) (o : Outside) → EndsWhole judges s place → LeavesAll r.format closes d ended o → LeavesAs r closes d s ended o
 did_all r closes d judges status.Ok place ended o whole all = all
 did_all r closes d judges status.Other place ended o whole all = all
-did_all r closes d judges status.Usage place ended o whole all = absurd whole
-did_all r closes d judges status.Config place ended o whole all = absurd whole
-did_all r closes d judges status.Line place ended o whole all = absurd whole
-did_all r closes d judges status.Desk place ended o whole all = absurd whole
-did_all r closes d judges status.Read place ended o whole all = absurd whole
-did_all r closes d judges status.Write place ended o whole all = absurd whole
-did_all r closes d judges status.Memory place ended o whole all = absurd whole
+did_all r closes d judges _ place ended o whole all = absurd whole
 
 pub left_at_end : {H L E : Type 0} (r : Reporting H L E) (stands left : Standing H E) (closes : Closing H E) (says : Saying L) (full : Bool) (o : Outside) (b c w1 : Option (List ℕ)) (faults : ℕ) (waiting : OutputView) (events lines : ℕ) (last : List ℕ) (ended result : Ended)
     (k : Running r stands says o.source.before b o.sink.before w1 waiting events lines) → Reports r stands → left k.heading k.log k.text → FindsEvent r.format.event says full (Ok None) b c → IsFullness r stands events full

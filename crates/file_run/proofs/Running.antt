@@ -178,13 +178,7 @@ stops_so f h n log (Some xs) (Some ys) stop P seen stops holds = subst P (sym (a
 as_whole : {H L E : Type 0} (r : Reporting H L E) (s : Status) (place : ℕ) (ended : Ended) (o : Outside) → EndsWhole r.judges s place → CameToEnd r ended o → EndsAs r s ended o
 as_whole r status.Ok place ended o whole came = came
 as_whole r status.Other place ended o whole came = came
-as_whole r status.Usage place ended o whole came = absurd whole
-as_whole r status.Config place ended o whole came = absurd whole
-as_whole r status.Line place ended o whole came = absurd whole
-as_whole r status.Desk place ended o whole came = absurd whole
-as_whole r status.Read place ended o whole came = absurd whole
-as_whole r status.Write place ended o whole came = absurd whole
-as_whole r status.Memory place ended o whole came = absurd whole
+as_whole r _ place ended o whole came = absurd whole
 
 -- a whole report was written: the run ends as it says, or a write failed at the end
 ends_reported : {H L E : Type 0} (r : Reporting H L E) (o : Outside) (w1 : Option (List ℕ)) (faults : ℕ) (waiting : OutputView) (text last : List ℕ) (ended result : Ended) → Sent o.sink.before w1 waiting text

@@ -99,17 +99,15 @@ input_open {H} {L} {E} f h n log text rest said stop room says none stops =
 -- why a line is refused: by itself, or since no event may come
 why_refused : {L E : Type 0} (event : L → Option E) (full is : Bool) (said : Result L LineCause) (why : InputCause) → in_input (if full then (if is then Ok None else Err refusal.TooMany) else by_itself event said) ≡ Err why
     → ((full ≡ false) × (c : LineCause) × (said ≡ Err c) × (Line c ≡ why)) ⊎ ((full ≡ true) × (is ≡ false) × (TooMany ≡ why))
-why_refused event true true said why e = cc
 why_refused event true false said why e = inr (refl, refl, cc)
-why_refused event false is (Ok line) why e = cc
 why_refused event false is (Err c) why e = inl (refl, c, refl, cc)
+why_refused event _ _ _ why e = cc
 
 why_ended : {L E : Type 0} (event : L → Option E) (full is : Bool) (said : Result L LineCause) → (if full then (if is then Ok None else Err refusal.TooMany) else by_itself event said) ≡ Ok None
     → ((full ≡ false) × (line : L) × (said ≡ Ok line) × (event line ≡ None)) ⊎ ((full ≡ true) × (is ≡ true))
 why_ended event true true said e = inr (refl, refl)
-why_ended event true false said e = cc
 why_ended event false is (Ok line) e = inl (refl, line, refl, cc)
-why_ended event false is (Err c) e = cc
+why_ended event _ _ _ e = cc
 
 full_refused : (number : ℕ) (text : List ℕ) → bytes_eq text (codes "end") ≡ false → stop_full number text ≡ Refused number TooMany
 full_refused number text is = ap (λ (x : Bool). if x then AtEnd else Refused number TooMany) is
