@@ -8,28 +8,24 @@ use Rattle.multi_master.proofs.Keeping.{none_changed}
 
 new-where : (settings : List MasterSettings) (ms : List MasterView) → AllZip IsNewMaster settings ms → AllZip IsWhere (map fresh settings) ms
 new-where [] [] h = tt
-new-where [] (m ∷ ms) h = absurd h
-new-where (s ∷ ss) [] h = absurd h
 new-where (s ∷ ss) (m ∷ ms) h = (h.0.is_after, new-where ss ms h.1)
+new-where _ _ h = absurd h
 
 pub new_settings : (settings : List MasterSettings) (ms : List MasterView) → AllZip IsNewMaster settings ms → map settings_in ms ≡ settings
 new_settings [] [] h = refl
-new_settings [] (m ∷ ms) h = absurd h
-new_settings (s ∷ ss) [] h = absurd h
 new_settings (s ∷ ss) (m ∷ ms) h = ap₂ (λ (x : MasterSettings) (xs : List MasterSettings). x ∷ xs) h.0.settings_are (new_settings ss ms h.1)
+new_settings _ _ h = absurd h
 
 new-rest : (settings : List MasterSettings) (ms : List MasterView) → AllZip IsNewMaster settings ms → All (λ m. due_in m ≡ false) ms
 new-rest [] [] h = All-nil (λ m. due_in m ≡ false)
-new-rest [] (m ∷ ms) h = absurd h
-new-rest (s ∷ ss) [] h = absurd h
 new-rest (s ∷ ss) (m ∷ ms) h = All-cons (λ m. due_in m ≡ false) m ms h.0.rest (new-rest ss ms h.1)
+new-rest _ _ h = absurd h
 
 new-inputs : (settings : List MasterSettings) (ms : List MasterView) → AllZip IsNewMaster settings ms → map first_input ms ≡ map outputs_at (map fresh settings)
 new-inputs [] [] h = refl
-new-inputs [] (m ∷ ms) h = absurd h
-new-inputs (s ∷ ss) [] h = absurd h
 new-inputs (s ∷ ss) (m ∷ ms) h =
     ap₂ (λ (x : List ℕ) (xs : List (List ℕ)). x ∷ xs) (ap (λ (x : MasterSettings). replicate (receives (OfMaster x)) 0) h.0.settings_are) (new-inputs ss ms h.1)
+new-inputs _ _ h = absurd h
 
 few : (settings : List MasterSettings) (b : Bool) → nat_lt 64 (length settings) ≡ b → (if b then Some fault.TooMany else first_pair settings) ≡ None → length settings ≤ 64
 few settings true h e = absurd (cc e)
@@ -44,9 +40,8 @@ mapped f (m ∷ ms) = ap (λ (n : ℕ). suc n) (mapped f ms)
 
 pub new_links : (settings : List MasterSettings) (ms : List MasterView) → AllZip IsNewMaster settings ms → length ms ≡ length settings
 new_links [] [] h = refl
-new_links [] (m ∷ ms) h = absurd h
-new_links (s ∷ ss) [] h = absurd h
 new_links (s ∷ ss) (m ∷ ms) h = ap (λ (n : ℕ). suc n) (new_links ss ms h.1)
+new_links _ _ h = absurd h
 
 pub new_multi : (settings : List MasterSettings) (ms : List MasterView) (inputs answers : List (List ℕ)) → AllZip IsNewMaster settings ms → first_fault settings ≡ None
     → inputs ≡ map first_input ms → map length answers ≡ map own_len ms → (changed : List ℕ) → changed ≡ [] → IsMulti ms inputs answers changed

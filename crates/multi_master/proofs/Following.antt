@@ -9,9 +9,8 @@ use Rattle.multi_master.proofs.Ticking.{ticks_where, ticks_read, ticks_did, tick
 -- masters have the lengths of their connections
 pub own_lens : (cs : List Connection) (ms : List MasterView) → AllZip IsWhere cs ms → map own_len ms ≡ map offer_len cs
 own_lens [] [] h = refl
-own_lens [] (m ∷ ms) h = absurd h
-own_lens (c ∷ cs) [] h = absurd h
 own_lens (c ∷ cs) (m ∷ ms) h = ap₂ (λ (n : ℕ) (ns : List ℕ). n ∷ ns) (ap own_len h.0.is) (own_lens cs ms h.1)
+own_lens _ _ h = absurd h
 
 -- the answer of a cycle, by what is meant
 pub cycle_answers : (m : Meant) (old new : AppView) (ticked : Bool) (inputs : List (List ℕ)) (lens : List ℕ) (answers : List (List ℕ)) → old ≡ m.app → inputs ≡ map outputs_at m.connections

@@ -164,10 +164,9 @@ events_alone settings app calls (suc k) = own-events calls (suc k) (slice_get (m
 
 -- the settings stay
 offers-settings : (loads : List (List ℕ)) (cs : List Connection) → map (λ c. c.settings) (with_offers loads cs) ≡ map (λ c. c.settings) cs
-offers-settings [] cs = refl
-offers-settings (load ∷ loads) [] = refl
 offers-settings (load ∷ loads) (c ∷ cs) =
     ap₂ (λ (s : MasterSettings) (ss : List MasterSettings). s ∷ ss) (offer-grows load c (is_offer load c)).settings (offers-settings loads cs)
+offers-settings _ _ = refl
 
 cycle-settings : (o : Option Answer) (m : Meant) → map (λ c. c.settings) (with_cycle o m).connections ≡ map (λ c. c.settings) m.connections
 cycle-settings None m = refl

@@ -16,10 +16,9 @@ pub record At {A B : Type 0} (R : A → B → Type 0) (xs : List A) (k : ℕ) (y
 
 pub at_place : {A B : Type 0} (R : A → B → Type 0) (xs : List A) (ys : List B) (k : ℕ) (y : B) → AllZip R xs ys → slice_get ys k ≡ Some y → At R xs k y
 at_place R [] [] k y h e = cc
-at_place R [] (b ∷ ys) k y h e = absurd h
-at_place R (a ∷ xs) [] k y h e = absurd h
 at_place R (a ∷ xs) (b ∷ ys) zero y h e = let i : b ≡ y = cc in record { there = a; is = refl; holds = subst (λ z. R a z) i h.0 }
 at_place R (a ∷ xs) (b ∷ ys) (suc k) y h e = let p = at_place R xs ys k y h.1 e in record { there = p.there; is = p.is; holds = p.holds }
+at_place R _ _ k y h e = absurd h
 
 -- what stands at the place of a number, where numbers begin with 1
 pub record Placed {X : Type 0} (xs : List X) (n place : ℕ) (x : X) : Type 0 where
@@ -37,10 +36,9 @@ master_placed masters link from m h e read = placed masters _ link from m h (len
 -- both lists with others at a place
 pub zip_set : {A B : Type 0} (R : A → B → Type 0) (xs : List A) (ys : List B) (k : ℕ) (x : A) (y : B) → AllZip R xs ys → R x y → AllZip R (slice_set xs k x) (slice_set ys k y)
 zip_set R [] [] k x y h r = tt
-zip_set R [] (b ∷ ys) k x y h r = absurd h
-zip_set R (a ∷ xs) [] k x y h r = absurd h
 zip_set R (a ∷ xs) (b ∷ ys) zero x y h r = (r, h.1)
 zip_set R (a ∷ xs) (b ∷ ys) (suc k) x y h r = (h.0, zip_set R xs ys k x y h.1 r)
+zip_set R _ _ k x y h r = absurd h
 
 -- what holds of each is so at a place
 pub all_at : {X : Type 0} (P : X → Type 0) (xs : List X) (k : ℕ) (x : X) → All P xs → slice_get xs k ≡ Some x → P x
@@ -74,20 +72,18 @@ some_at (a ∷ xs) (suc k) h = some_at xs k (omega arith)
 -- lists that map to the same are as long
 pub same_length : {A B C : Type 0} (f : A → C) (g : B → C) (xs : List A) (ys : List B) → map f xs ≡ map g ys → length xs ≡ length ys
 same_length f g [] [] h = refl
-same_length f g [] (b ∷ ys) h = absurd (cc h)
-same_length f g (a ∷ xs) [] h = absurd (cc h)
 same_length f g (a ∷ xs) (b ∷ ys) h = ap suc (same_length f g xs ys (cc))
+same_length f g _ _ h = absurd (cc h)
 
 pub same_bytes : (xs : List ℕ) → pointwise nat_eq xs xs ≡ true
 same_bytes xs = nat_list_eq_equiv.refl xs
 
 -- a later place is as before
 pub set_before : {A : Type 0} (xs : List A) (i k : ℕ) (y : A) → i < k → slice_get (slice_set xs i y) k ≡ slice_get xs k
-set_before [] i k y h = refl
 set_before (a ∷ xs) zero zero y h = absurd (omega arith)
-set_before (a ∷ xs) zero (suc k) y h = refl
 set_before (a ∷ xs) (suc i) zero y h = absurd (omega arith)
 set_before (a ∷ xs) (suc i) (suc k) y h = set_before xs i k y (omega arith)
+set_before _ _ _ y h = refl
 
 -- what was set at a place is read there
 pub read_back : {A : Type 0} (xs : List A) (k : ℕ) (y r : A) → k < length xs → r ≡ slice_index_or (slice_set xs k y) k r → r ≡ y

@@ -49,15 +49,13 @@ put_due c bytes did x h s =
 pub puts_where : (cs : List Connection) (steps : List PutStep) → AllZip IsWhere cs (map (λ x. x.old) steps) → All IsPutStep steps
     → AllZip IsWhere (with_offers (map (λ x. x.answer) steps) cs) (map (λ x. x.new) steps)
 puts_where [] [] h s = tt
-puts_where [] (x ∷ xs) h s = absurd h
-puts_where (c ∷ cs) [] h s = absurd h
 puts_where (c ∷ cs) (x ∷ xs) h s = (put_at_rest c x h.0 (All-head IsPutStep x xs s), puts_where cs xs h.1 (All-tail IsPutStep x xs s))
+puts_where _ _ h s = absurd h
 
 pub all_shown : (cs : List Connection) (steps : List PutStep) → AllZip IsWhere cs (map (λ x. x.old) steps) → All IsPutStep steps → AllZip IsShown cs steps
 all_shown [] [] h s = tt
-all_shown [] (x ∷ xs) h s = absurd h
-all_shown (c ∷ cs) [] h s = absurd h
 all_shown (c ∷ cs) (x ∷ xs) h s = (shown_at_rest c x h.0 (All-head IsPutStep x xs s), all_shown cs xs h.1 (All-tail IsPutStep x xs s))
+all_shown _ _ h s = absurd h
 
 -- the offers after it are the answers
 put-offer : (c : Connection) (load : List ℕ) (b : Bool) → is_offer load c ≡ b → offer_at (if b then c else with_event (move.Put load) c) ≡ load
@@ -70,9 +68,8 @@ offer_put c load = put-offer c load (is_offer load c) refl
 pub offers_put : (cs : List Connection) (steps : List PutStep) → AllZip IsShown cs steps
     → map offer_at (with_offers (map (λ x. x.answer) steps) cs) ≡ map (λ x. x.answer) steps
 offers_put [] [] h = refl
-offers_put [] (x ∷ xs) h = absurd h
-offers_put (c ∷ cs) [] h = absurd h
 offers_put (c ∷ cs) (x ∷ xs) h = rw (offer_put c x.answer, offers_put cs xs h.1) refl
+offers_put _ _ h = absurd h
 
 -- no outputs are other than before
 put-outputs : (c : Connection) (load : List ℕ) (b : Bool) → outputs_at (if b then c else with_event (move.Put load) c) ≡ outputs_at c
@@ -83,10 +80,9 @@ pub outputs_put : (c : Connection) (load : List ℕ) → outputs_at (with_offer 
 outputs_put c load = put-outputs c load (is_offer load c)
 
 pub all_outputs_put : (cs : List Connection) (loads : List (List ℕ)) → map outputs_at (with_offers loads cs) ≡ map outputs_at cs
-all_outputs_put [] [] = refl
-all_outputs_put [] (load ∷ loads) = refl
-all_outputs_put (c ∷ cs) [] = refl
 all_outputs_put (c ∷ cs) (load ∷ loads) = rw (outputs_put c load, all_outputs_put cs loads) refl
+all_outputs_put [] [] = refl
+all_outputs_put _ _ = refl
 
 -- the connections are told that have another offer
 told-here : (n : ℕ) (load : List ℕ) (b : Bool) (more : List (ℕ × List ℕ)) → numbers_of (if b then more else (n, load) ∷ more) ≡ (if not b then n ∷ [] else []) ++ numbers_of more
@@ -95,8 +91,7 @@ told-here n load false more = refl
 
 pub puts_told : (n : ℕ) (cs : List Connection) (steps : List PutStep) → AllZip IsShown cs steps → numbers_of (changed_from n cs (map (λ x. x.answer) steps)) ≡ changed_steps n steps
 puts_told n [] [] h = refl
-puts_told n [] (x ∷ xs) h = absurd h
-puts_told n (c ∷ cs) [] h = absurd h
 puts_told n (c ∷ cs) (x ∷ xs) h =
     told-here n x.answer (is_offer x.answer c) (changed_from (suc n) cs (map (λ x. x.answer) xs))
     ∙ ap₂ (λ (told : Bool) (more : List ℕ). (if told then n ∷ [] else []) ++ more) (sym h.0) (puts_told (suc n) cs xs h.1)
+puts_told n _ _ h = absurd h

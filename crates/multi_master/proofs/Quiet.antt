@@ -34,8 +34,7 @@ quiet_tick s e r h =
 quiet-parts : (s : Setup) (e : List Deed) (x : Deed) (n : ℕ) (took : Option Took) (reset : Option Cause) (before : List ℕ) → (is_some took || is_some reset) ≡ false
     → (if is_some reset then zeros s else held_up s (x ∷ e) n took before) ≡ before
 quiet-parts s e x n None None before h = refl
-quiet-parts s e x n (Some t) reset before h = absurd (cc h)
-quiet-parts s e x n None (Some why) before h = absurd (cc h)
+quiet-parts s e x n _ _ before h = absurd (cc h)
 
 pub quiet_frame : (s : Setup) (e : List Deed) (bytes : List ℕ) → tells_due (step s e (move.Deliver bytes)).did ≡ false
     → out s (step s e (move.Deliver bytes) ∷ e) ≡ out s e

@@ -23,38 +23,33 @@ tick-read c x h s b =
 pub ticks_where : (cs : List Connection) (steps : List TickStep) → AllZip IsWhere cs (map (λ x. x.old) steps) → All IsTickStep steps
     → AllZip IsWhere (map (with_event move.Tick) cs) (map (λ x. x.new) steps)
 ticks_where [] [] h s = tt
-ticks_where [] (x ∷ xs) h s = absurd h
-ticks_where (c ∷ cs) [] h s = absurd h
 ticks_where (c ∷ cs) (x ∷ xs) h s = (tick-where c x h.0 (All-head IsTickStep x xs s), ticks_where cs xs h.1 (All-tail IsTickStep x xs s))
+ticks_where _ _ h s = absurd h
 
 pub ticks_read : (cs : List Connection) (steps : List TickStep) → AllZip IsWhere cs (map (λ x. x.old) steps) → All IsTickStep steps
     → map (λ x. x.before) steps ≡ map outputs_at cs → map (λ x. x.after) steps ≡ map outputs_at (map (with_event move.Tick) cs)
 ticks_read [] [] h s e = refl
-ticks_read [] (x ∷ xs) h s e = absurd h
-ticks_read (c ∷ cs) [] h s e = absurd h
 ticks_read (c ∷ cs) (x ∷ xs) h s e =
     let a : x.before ≡ outputs_at c = cc in
     let b : map (λ x. x.before) xs ≡ map outputs_at cs = cc in
     rw (tick-read c x h.0 (All-head IsTickStep x xs s) a, ticks_read cs xs h.1 (All-tail IsTickStep x xs s) b) refl
+ticks_read _ _ h s e = absurd h
 
 pub ticks_did : (cs : List Connection) (steps : List TickStep) → AllZip IsWhere cs (map (λ x. x.old) steps) → All IsTickStep steps
     → map (λ x. x.did) steps ≡ map (λ c. (next_deed move.Tick c).did) cs
 ticks_did [] [] h s = refl
-ticks_did [] (x ∷ xs) h s = absurd h
-ticks_did (c ∷ cs) [] h s = absurd h
 ticks_did (c ∷ cs) (x ∷ xs) h s =
     rw ((All-head IsTickStep x xs s).answers.did c.settings c.deeds h.0, ticks_did cs xs h.1 (All-tail IsTickStep x xs s)) refl
+ticks_did _ _ h s = absurd h
 
 pub ticks_sent : (cs : List Connection) (steps : List TickStep) → AllZip IsWhere cs (map (λ x. x.old) steps) → All IsTickStep steps
     → map (λ x. x.sent) steps ≡ map (λ c. (next_deed move.Tick c).sent) cs
 ticks_sent [] [] h s = refl
-ticks_sent [] (x ∷ xs) h s = absurd h
-ticks_sent (c ∷ cs) [] h s = absurd h
 ticks_sent (c ∷ cs) (x ∷ xs) h s =
     rw ((All-head IsTickStep x xs s).answers.sent c.settings c.deeds h.0, ticks_sent cs xs h.1 (All-tail IsTickStep x xs s)) refl
+ticks_sent _ _ h s = absurd h
 
 -- a tick changes no offer, so the same answers are others than the offers before and after it
 pub told_ticked : (n : ℕ) (cs : List Connection) (loads : List (List ℕ)) → changed_from n (map (with_event move.Tick) cs) loads ≡ changed_from n cs loads
-told_ticked n [] loads = refl
-told_ticked n (c ∷ cs) [] = refl
 told_ticked n (c ∷ cs) (load ∷ loads) = rw (told_ticked (suc n) cs loads) refl
+told_ticked n _ _ = refl
