@@ -36,17 +36,12 @@ pub data Same (p : State) (ms : MasterSettings) (e : List Deed) (bytes : List �
 -- the frame that is kept, and the chain
 kept-same : (p : State) (ms : MasterSettings) (e : List Deed) → SoundAt p ms e → machine.kept_in (phase_in p ms (notes_of ms e)) ≡ kept (since e)
 kept-same state.Reset ms e h = sym (ap (λ (n : Notes). n.kept) h)
-kept-same state.Session ms e h = sym h.kept_is
-kept-same state.Connection ms e h = sym h.kept_is
-kept-same state.Parameter ms e h = sym h.kept_is
 kept-same state.Data ms e h = sym h
+kept-same _ ms e h = sym h.kept_is
 
 chain-same : (p : State) (ms : MasterSettings) (e : List Deed) → SoundAt p ms e → machine.chain_of (phase_in p ms (notes_of ms e)) ≡ (notes_of ms e).chain
 chain-same state.Reset ms e h = sym (ap (λ (n : Notes). n.chain) h)
-chain-same state.Session ms e h = refl
-chain-same state.Connection ms e h = refl
-chain-same state.Parameter ms e h = refl
-chain-same state.Data ms e h = refl
+chain-same _ ms e h = refl
 
 fits-same : (p : State) (ms : MasterSettings) (e : List Deed) (f : Frame) → SoundAt p ms e → fits_next (machine.chain_of (phase_in p ms (notes_of ms e))) f ≡ fits (OfMaster ms) (since e) f
 fits-same p ms e f h =
@@ -56,10 +51,7 @@ fits-same p ms e f h =
 -- the test of the command
 allows-same : (p : State) (ms : MasterSettings) (n : Notes) (c : Command) → machine.allows (phase_in p ms n) c ≡ master_allows p c
 allows-same state.Reset ms n c = refl
-allows-same state.Session ms n c = refl
-allows-same state.Connection ms n c = refl
-allows-same state.Parameter ms n c = refl
-allows-same state.Data ms n c = refl
+allows-same _ ms n c = refl
 
 -- a frame of a session, by its three tests
 by-tests : (p : State) (ms : MasterSettings) (e : List Deed) (bytes : List ℕ) (c : Command) (a h t a' h' t' : Bool)
