@@ -132,11 +132,10 @@ given-end f vs i xs all h a =
 entry-cases : {B : Type 0} (says : ℕ → Members → Result B ConfFault) (key : Key) (k : ℕ) (d : Data) (ds : List Data) (ts : List Members) (a : Option Members) (o : Option (List Members))
     → a ≡ as_table d → o ≡ all_give as_table ds → with_first a o ≡ Some ts
     → ((us : List Members) → o ≡ Some us → each says (suc k) us ≡ each (entry says key) (suc k) ds) → each says k ts ≡ each (entry says key) k (d ∷ ds)
-entry-cases says key k d ds ts None o p q h later = absurd (cc)
-entry-cases says key k d ds ts (Some t) None p q h later = absurd (cc)
 entry-cases says key k d ds ts (Some t) (Some us) p q h later =
     let ts_are : ts ≡ t ∷ us = cc in
     rw (ts_are, ← p, later us refl) refl
+entry-cases says key k d ds ts _ _ p q h later = absurd (cc)
 
 pub each-entry : {B : Type 0} (says : ℕ → Members → Result B ConfFault) (key : Key) (k : ℕ) (ds : List Data) (ts : List Members) → all_give as_table ds ≡ Some ts
     → each says k ts ≡ each (entry says key) k ds
@@ -147,11 +146,10 @@ each-entry says key k (d ∷ ds) ts h =
 -- where all values are texts, the wires of the texts are those of the values
 texts-cases : (d : Data) (ds : List Data) (ts : List (List ℕ)) (a : Option (List ℕ)) (o : Option (List (List ℕ))) → a ≡ as_str d → o ≡ all_give as_str ds → with_first a o ≡ Some ts
     → ((us : List (List ℕ)) → o ≡ Some us → all_give wire_said us ≡ all_give wire_in ds) → all_give wire_said ts ≡ all_give wire_in (d ∷ ds)
-texts-cases d ds ts None o p q h later = absurd (cc)
-texts-cases d ds ts (Some t) None p q h later = absurd (cc)
 texts-cases d ds ts (Some t) (Some us) p q h later =
     let ts_are : ts ≡ t ∷ us = cc in
     rw (ts_are, ← p, later us refl) refl
+texts-cases d ds ts _ _ p q h later = absurd (cc)
 
 pub given-texts : (ds : List Data) (ts : List (List ℕ)) → all_give as_str ds ≡ Some ts → all_give wire_said ts ≡ all_give wire_in ds
 given-texts [] ts h = let e : ts ≡ [] = cc in rw e refl
@@ -159,11 +157,10 @@ given-texts (d ∷ ds) ts h = texts-cases d ds ts (as_str d) (all_give as_str ds
 
 -- as many are given as there are values
 length-cases : {B : Type 0} (n : ℕ) (ys : List B) (a : Option B) (o : Option (List B)) → with_first a o ≡ Some ys → ((zs : List B) → o ≡ Some zs → length zs ≡ n) → length ys ≡ suc n
-length-cases n ys None o h later = absurd (cc)
-length-cases n ys (Some y) None h later = absurd (cc)
 length-cases n ys (Some y) (Some zs) h later =
     let ys_are : ys ≡ y ∷ zs = cc in
     rw (ys_are, later zs refl) refl
+length-cases n ys _ _ h later = absurd (cc)
 
 pub length-given : {B : Type 0} (f : Data → Option B) (ds : List Data) (ys : List B) → all_give f ds ≡ Some ys → length ys ≡ length ds
 length-given f [] ys h = let e : ys ≡ [] = cc in rw e refl
