@@ -70,14 +70,13 @@ event_world link end _ w = refl
 
 -- what such an event is to its end
 plain_move : (e : Event) → IsPlain e → (m : Move) × ((frames : List (List ℕ)) → move_from frames e ≡ Some m)
-plain_move (at.Deliver to back) h = absurd h
-plain_move (at.Altered to back pos mask) h = absurd h
 plain_move (at.Raw to frame) h = (move.Deliver frame, λ frames. refl)
 plain_move (at.Tick end) h = (move.Tick, λ frames. refl)
 plain_move (at.Put end load) h = (move.Put load, λ frames. refl)
 plain_move (at.Hold end failsafe) h = (move.Hold failsafe, λ frames. refl)
 plain_move (at.Nonce end id) h = (move.Nonce id, λ frames. refl)
 plain_move (at.Local end) h = (move.Local, λ frames. refl)
+plain_move _ h = absurd h
 
 world_append : (ms : MasterSettings) (ss : SlaveSettings) (xs ys : List Event) (w : List Entry) → ArePlain xs → world_after ms ss (xs ++ ys) w ≡ world_after ms ss ys (world_after ms ss xs w)
 world_append ms ss [] ys w h = refl

@@ -44,9 +44,8 @@ offer_is s which [] = refl
 offer_is s which (x ∷ w) = offer_if s which x w (same_end which x.end) (offer_is s which w)
 
 bit_by : (s : Setup) (bit : ℕ) (now : Bool) (o : Option (List ℕ)) → offers_bit bit (if now then FailSafe else offered_put o) ≡ (not now && bit_of (put_or s o) bit)
-bit_by s bit true o = refl
 bit_by s bit false None = sym (zero_bit (sends s ∷ []) (record { link = 1; bit = bit }))
-bit_by s bit false (Some load) = refl
+bit_by s bit _ _ = refl
 
 -- whether an end offers a bit as 1, by its deeds
 pub offers_is : (s : Setup) (which : End) (bit : ℕ) (w : List Entry) → offers_bit bit (next_offered (of_end which w)) ≡ (not (held (deeds which w)) && bit_of (offer s (deeds which w)) bit)

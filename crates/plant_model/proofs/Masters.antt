@@ -74,9 +74,8 @@ none_if k n load rest false h e =
     ap₂ (λ (b : Bool) (es : List Event). (if b then at.Put side.Master load ∷ [] else []) ++ es) (not_same n k (λ z. absurd (omega arith))) e
 
 none_of : (k n : ℕ) (cs : List Connection) (loads : List (List ℕ)) → k < n → own_events k (map offer_step (changed_from n cs loads)) ≡ []
-none_of k n [] loads h = refl
-none_of k n (c ∷ cs) [] h = refl
 none_of k n (c ∷ cs) (load ∷ loads) h = none_if k n load (changed_from (suc n) cs loads) (is_offer load c) h (none_of k (suc n) cs loads (omega arith))
+none_of k n _ _ h = refl
 
 skip_from : (k n : ℕ) (load : List ℕ) (links : List LinkConf) (js rest : List JournalStep) → n < k → masters_from k links (js ++ step.Offer n load ∷ rest) ≡ masters_from k links (js ++ rest)
 skip_from k n load [] js rest h = refl

@@ -55,8 +55,7 @@ delivered_zero _ bit _ bytes link w h = h
 most_if : (m n : Move) (one other : Bool) (a b : ℕ) → m ≡ n → one ≡ other → a ≤ b → (if one then ticked m a else a) ≤ (if other then ticked n b else b)
 most_if m n true true a b i j h = subst (λ (z : Move). ticked m a ≤ ticked z b) i (ticked_most m a b h)
 most_if m n false false a b i j h = h
-most_if m n true false a b i j h = absurd (cc j)
-most_if m n false true a b i j h = absurd (cc j)
+most_if m n _ _ a b i j h = absurd (cc j)
 
 -- a data frame that offered the bit as 1 was sent before those that were sent while it was offered as 0
 sent_before : (which : End) (bit : ℕ) (new old later before : List Entry) (x : Entry) → SentWhile (OffersZero (peer which) bit) (peer which) new old → new ++ old ≡ later ++ (x ∷ before)

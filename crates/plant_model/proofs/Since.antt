@@ -265,12 +265,11 @@ ticks_first s os h =
     omega arith
 
 steps_ticks : (act : Act) (os : List JournalStep) → ticks os ≡ 0 → ticks (steps_of act os) ≡ cond (is_tick_act act) 1 0
-steps_ticks Start os h = h
 steps_ticks (Happen said) os h = ticks_first (line_step said) os h
-steps_ticks (PullFrom None) os h = h
 steps_ticks (PullFrom (Some parcel)) os h =
     let all : ticks (os ++ step.Pulled parcel ∷ []) ≡ ticks os + ticks (step.Pulled parcel ∷ []) = sum_by-append (λ x. cond (is_tick x) 1 0) os (step.Pulled parcel ∷ []) in
     all ∙ ap (λ (n : ℕ). n + 0) h
+steps_ticks _ os h = h
 
 -- a tick alone counts
 pub act_ticks : (b : Beginning) (act : Act) (done : List Act) → ticks (journal b (act ∷ done)) ≡ ticks (journal b done) + cond (is_tick_act act) 1 0

@@ -25,9 +25,8 @@ both_first true y h = refl
 both_first false y h = h
 
 both_second : (x y : Bool) → (x && y) ≡ true → y ≡ true
-both_second true y h = h
 both_second false true h = refl
-both_second false false h = h
+both_second _ _ h = h
 
 -- an act after which a bound is still goes on with what was quiet
 pub quiet_on : (b : Beginning) (bound : BoundSpec) (act : Act) (later earlier : List Act) → AllSound b (act ∷ later ++ earlier) → is_still b bound (act ∷ later ++ earlier) ≡ true
@@ -113,14 +112,12 @@ cycle_guards (Some a) m = refl
 
 parcel_guards : (b : Beginning) (done : List Act) (o : Option LinkConf) (end : End) (n : ℕ) (frame : List ℕ)
     → (meant (settings b) b.app (option_to_list (delivery_call o end n frame) ++ calls b done)).app.guards ≡ (masters b done).app.guards
-parcel_guards b done None end n frame = refl
-parcel_guards b done (Some link) side.Slave n frame = refl
 parcel_guards b done (Some link) side.Master n frame = cycle_guards (cycle_in (Deliver n frame) (masters b done)) (masters b done)
+parcel_guards b done _ _ n frame = refl
 
 act_guards : (b : Beginning) (act : Act) (done : List Act) → IsOfTick act → (masters b (act ∷ done)).app.guards ≡ (masters b done).app.guards
-act_guards b _ done Ticks = refl
-act_guards b _ done (Pulls None) = refl
 act_guards b _ done (Pulls (Some parcel)) = parcel_guards b done (link_at b.links parcel.to.link) parcel.to.end parcel.to.link parcel.frame
+act_guards b _ done _ = refl
 
 -- so a bound stays still through a tick
 pub stays_still : (b : Beginning) (bound : BoundSpec) (act : Act) (done : List Act) → IsOfTick act → is_still b bound (act ∷ done) ≡ is_still b bound done

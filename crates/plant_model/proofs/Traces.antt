@@ -101,9 +101,7 @@ one_rose (Some parcel) n old mid new le rose more = λ below. let later = more b
 
 pub empties_rose : (uses : List Use) (old new : Told) → Trace uses old new → EmptiesRose uses old new
 empties_rose [] old new e = λ below. let same : old.empties ≡ new.empties = ap (λ (z : Told). z.empties) e in omega arith
-empties_rose (Begin seed ∷ uses) old new t =
-    subst (λ (n : ℕ). RoseBy (empty_pulls uses) n new.empties) t.1.empties (empties_rose uses t.0 new t.2)
-empties_rose (Push parcel ∷ uses) old new t =
-    subst (λ (n : ℕ). RoseBy (empty_pulls uses) n new.empties) t.1.empties (empties_rose uses t.0 new t.2)
 empties_rose (Pull gift ∷ uses) old new t =
     one_rose gift (empty_pulls uses) old.empties t.0.empties new.empties t.1.empties t.1.nothing (empties_rose uses t.0 new t.2)
+empties_rose (_ ∷ uses) old new t =
+    subst (λ (n : ℕ). RoseBy (empty_pulls uses) n new.empties) t.1.empties (empties_rose uses t.0 new t.2)
