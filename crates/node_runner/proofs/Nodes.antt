@@ -51,8 +51,7 @@ pub record HasTerms (end : End) (h : Heading) (s : Setup) : Type 0 where
 set_terms : (end : End) (h : Heading) (s : Setup) → IsSetTo end h s → HasTerms end h s
 set_terms side.Master h (OfMaster ms) set = record { end_is = refl; sends_is = set.0; profile_is = set.2.profile_is }
 set_terms side.Slave h (OfSlave ss) set = record { end_is = refl; sends_is = set.1; profile_is = set.2.profile_is }
-set_terms side.Master h (OfSlave ss) set = absurd set
-set_terms side.Slave h (OfMaster ms) set = absurd set
+set_terms _ h _ set = absurd set
 
 -- what fits a header fits the end that is set to it
 fits_set : (end : End) (h : Heading) (s : Setup) (event : Event) → HasTerms end h s → FitsEnd end (own_length h end) (heading_profile h end) event

@@ -17,11 +17,10 @@ use Rattle.node_runner.specs.Report.{AreLines, IsReport, IsSetTo, deed_lines, de
 
 one_setup : (end : End) (h : Heading) (s t : Setup) → IsSetTo end h s → IsSetTo end h t → s ≡ t
 one_setup side.Master h (OfMaster a) (OfMaster b) x y = ap OfMaster (one_master h a b x y)
-one_setup side.Master h (OfMaster a) (OfSlave b) x y = absurd y
 one_setup side.Master h (OfSlave a) t x y = absurd x
 one_setup side.Slave h (OfSlave a) (OfSlave b) x y = ap OfSlave (one_slave h a b x y)
-one_setup side.Slave h (OfSlave a) (OfMaster b) x y = absurd y
 one_setup side.Slave h (OfMaster a) t x y = absurd x
+one_setup _ h _ _ x y = absurd y
 
 one_text : (end : End) (heading : Option Heading) (events : List Event) (a b : List ℕ) → AreLines end heading events a → AreLines end heading events b → a ≡ b
 one_text end None events a b x y = x ∙ sym y
