@@ -107,8 +107,7 @@ offers_all master listed i old new before after past shows h = record {
 -- offers send nothing
 nothing_sent : (b c : Bool) (frames : List (List ℕ)) → with_frame (if b then (if c then [] else []) else []) frames ≡ frames
 nothing_sent true true frames = refl
-nothing_sent true false frames = refl
-nothing_sent false c frames = refl
+nothing_sent _ _ frames = refl
 
 offer_sends : (at : End) (link : LinkConf) (k : ℕ) (steps : List JournalStep) (n : ℕ) (load : List ℕ) → frames_of at (pair link k (steps ++ step.Offer n load ∷ [])) ≡ frames_of at (pair link k steps)
 offer_sends side.Master link k steps n load =

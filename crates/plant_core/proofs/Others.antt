@@ -33,13 +33,12 @@ ended k [] steps all h = h.lowest
 ended k (conf ∷ confs) steps all h = absurd h.noted
 
 drop_one : {X : Type 0} (i : ℕ) (xs : List X) → drop 1 (drop i xs) ≡ drop (suc i) xs
-drop_one zero xs = refl
-drop_one (suc i) [] = refl
 drop_one (suc i) (x ∷ xs) = drop_one i xs
+drop_one _ _ = refl
 
 drop_none : {X : Type 0} (i : ℕ) (xs : List X) → length xs ≤ i → drop i xs ≡ []
-drop_none zero [] h = refl
 drop_none zero (x ∷ xs) h = absurd (omega arith)
+drop_none zero [] h = refl
 drop_none (suc i) [] h = refl
 drop_none (suc i) (x ∷ xs) h = drop_none i xs (omega arith)
 
