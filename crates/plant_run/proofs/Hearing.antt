@@ -15,13 +15,12 @@ if_ticks false on before = omega arith
 
 -- no more ticks are heard than there are lines
 said_ticks : (b : Beginning) (bound : BoundSpec) (acts : List Act) (on : Bool) → reaction.ticks (if is_ticking acts then reaction.Tick on ∷ heard_before b bound acts else heard_before b bound acts) ≤ length (said_in acts)
-said_ticks b bound [] on = omega arith
-said_ticks b bound (Start ∷ acts) on = omega arith
 said_ticks b bound (Happen said ∷ acts) on =
     let rest = said_ticks b bound acts (is_driven b bound acts) in
     let one = if_ticks (is_tick (line_step said)) on (heard_of b bound acts) in
     omega (arith, rest, one, length_push (said_in acts) said)
 said_ticks b bound (PullFrom gift ∷ acts) on = said_ticks b bound acts on
+said_ticks b bound _ on = omega arith
 
 pub rooms : (b : Beginning) (acts : List Act) (bounds : List BoundSpec) → length (said_in acts) + 1 < 2 ^ 64 → All HasRoom (reactions_after b acts bounds)
 rooms b acts [] h = All-nil HasRoom

@@ -44,5 +44,4 @@ fields_fit line first rest most e =
 -- the only field is one of them
 pub one_fits : (fields : List (List ℕ)) (field : List ℕ) → FieldsFit fields → one_field fields ≡ Ok field → length field ≤ MAX_LINE
 one_fits (only ∷ []) field h e = let same : only ≡ field = cc in subst (IsShort MAX_LINE) same (All-head (IsShort MAX_LINE) only [] h)
-one_fits [] field h e = cc
-one_fits (first ∷ next ∷ more) field h e = cc
+one_fits _ field h e = cc

@@ -27,9 +27,8 @@ none_first None p e = refl
 none_first (Some l) p e = absurd (cc e)
 
 none_second : (o p : Option LinkConf) → None ≡ option_map (λ (l : LinkConf). l.master.watchdog) p → 0 ≡ limit_by o p
-none_second None p e = refl
-none_second (Some l) None e = refl
 none_second (Some l) (Some k) e = absurd (cc e)
+none_second _ _ e = refl
 
 -- that of one without its e-stop's connection, and of one without its drive's
 pub limit_none : (links : List LinkConf) (bound : BoundSpec) → None ≡ option_map (λ l. l.master.watchdog) (link_at links bound.estop.link) → 0 ≡ limit_of links bound
