@@ -21,10 +21,9 @@ pub within : {X : Type 0} (name_of : X → List ℕ) (name : List ℕ) (xs : Lis
 within name_of name xs n e = let below = within_from (λ own. bytes_eq own name) 0 n (map name_of xs) e in omega (arith, below, length-map xs name_of)
 
 map_removed : {X Y : Type 0} (f : X → Y) (xs : List X) (place : ℕ) → map f (remove xs place) ≡ remove (map f xs) place
-map_removed f [] zero = refl
-map_removed f [] (suc place) = refl
-map_removed f (x ∷ xs) zero = refl
 map_removed f (x ∷ xs) (suc place) = ap (λ (ys : List _). f x ∷ ys) (map_removed f xs place)
+map_removed f [] zero = refl
+map_removed f _ _ = refl
 
 pub map_twice : {X Y Z : Type 0} (f : X → Y) (g : Y → Z) (xs : List X) → map g (map f xs) ≡ map (λ x. g (f x)) xs
 map_twice f g [] = refl

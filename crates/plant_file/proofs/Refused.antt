@@ -17,12 +17,7 @@ pub text_refused : {C : Type 0} (Ran : PlantRun) (why : ConfFault) (ended : Ende
     → (why ≡ fault.Memory → (ended ≡ record { status = status.Memory; place = 0 }) × (o.sink.after ≡ o.sink.before) × (o.sink.faults_after ≡ o.sink.faults_before))
     → (why ≢ fault.Memory → Writes 0 (config_line (setup.Conf why)) (record { status = status.Config; place = 0 }) ended o.sink)
     → o.sink.faults_before ≤ o.sink.faults_after → RanSaid Ran (Err why) ended o h
-text_refused Ran fault.Syntax ended o h nothing none wrote later = record { nothing = nothing; wrote = wrote (λ e. cc); later = later }
-text_refused Ran fault.TooMany ended o h nothing none wrote later = record { nothing = nothing; wrote = wrote (λ e. cc); later = later }
-text_refused Ran (fault.Missing key) ended o h nothing none wrote later = record { nothing = nothing; wrote = wrote (λ e. cc); later = later }
-text_refused Ran (fault.Kind key) ended o h nothing none wrote later = record { nothing = nothing; wrote = wrote (λ e. cc); later = later }
-text_refused Ran (fault.Range key) ended o h nothing none wrote later = record { nothing = nothing; wrote = wrote (λ e. cc); later = later }
-text_refused Ran (fault.SameConn a b) ended o h nothing none wrote later = record { nothing = nothing; wrote = wrote (λ e. cc); later = later }
 text_refused Ran fault.Memory ended o h nothing none wrote later =
     let had = none refl in
     record { nothing = nothing; ended_is = had.0; written = had.1; faults = had.2 }
+text_refused Ran _ ended o h nothing none wrote later = record { nothing = nothing; wrote = wrote (λ e. cc); later = later }
