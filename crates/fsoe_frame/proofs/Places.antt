@@ -264,16 +264,13 @@ one_whole b =
           ∙ ap (λ xs. b ∷ d ∷ c ∷ c' ∷ xs) (low_high_of k k' (are (suc (suc (suc (suc zero))))));
     })
 
-other_count : (l : ℕ) → l ≢ 1 → group_count l ≡ l / 2
-other_count l h = grind (arith, nat_tests)
-
 pairs_whole : (l b : ℕ) (bytes : List ℕ) → l ≢ 1 → l % 2 ≡ 0 → length bytes ≡ 2 + 2 * l → Whole l (b ∷ bytes) (pairs b bytes)
 pairs_whole l b bytes other even h =
     let right : length bytes ≡ 4 * (l / 2) + 2 = omega arith in
     let counts = pairs_counts b (l / 2) bytes right in
     record {
       load = omega (arith, counts.0);
-      crcs = counts.1 ∙ sym (other_count l other);
+      crcs = counts.1 ∙ sym (count_even l other);
       back = λ are. (pairs_bytes b (l / 2) bytes right).1 (λ i. are (suc i));
     }
 
@@ -296,7 +293,7 @@ group_of l bytes f k valid right e lt =
 
 pub crc_within : (l : ℕ) (bytes : List ℕ) (f : Frame) (k : ℕ) → IsTrue (is_length l) → length bytes ≡ frame_len l → frame_of l bytes ≡ f → l ≢ 1 → k < length f.crcs → 3 + 4 * k + 2 ≤ length bytes
 crc_within l bytes f k valid right e other lt =
-    omega (arith, group_of l bytes f k valid right e lt, frame_len_other l valid other, other_count l other)
+    omega (arith, group_of l bytes f k valid right e lt, frame_len_other l valid other, count_even l other)
 
 pub crc_at_pairs : (l : ℕ) (bytes : List ℕ) (f : Frame) (k : ℕ) → IsTrue (is_length l) → length bytes ≡ frame_len l → frame_of l bytes ≡ f → l ≢ 1 → k < length f.crcs
     → little_number 2 (drop (3 + 4 * k) bytes) ≡ slice_index f.crcs k
@@ -311,7 +308,7 @@ loaded l bytes out f valid right e o =
     (subst (λ n. IsTrue (is_length n)) len valid, sym (ap (λ g. length g.crcs) e) ∙ w.crcs ∙ ap group_count len)
 
 -- the next pair of a load
-pair_left : (load : List ℕ) (i : ℕ) → 2 * i + 1 < length load → drop (2 * i) load ≡ get_or load (2 * i) 0 ∷ get_or load (2 * i + 1) 0 ∷ drop (2 * (i + 1)) load
+pub pair_left : (load : List ℕ) (i : ℕ) → 2 * i + 1 < length load → drop (2 * i) load ≡ get_or load (2 * i) 0 ∷ get_or load (2 * i + 1) 0 ∷ drop (2 * (i + 1)) load
 pair_left load i h =
     let more : suc (2 * i + 1) ≡ 2 * (i + 1) = omega arith in
     drop-cons load (2 * i) 0 (omega arith)
