@@ -1,17 +1,13 @@
 -- The number of application parameters in an upload is that of the slave's rule.
 use Rattle.end_model.proofs.Common.{Code, Profile, code, id_len, number_at}
-use Rattle.std.proofs.Common.{◌≡◌, ◌==◌, ℕ, ◌+◌, ◌≤◌, ◌<◌, nat_le, nat_lt, Bool, true, false, ◌&&◌, not, List, ◌++◌, length, Option, Some, None, if◌then◌else◌, refl, ◌∙◌, inl, inr, arith}
-use Rattle.std.specs.Option.{option_or}
+use Rattle.std.proofs.Common.{◌≡◌, ◌==◌, ℕ, ◌+◌, ◌≤◌, ◌<◌, nat_le, nat_lt, Bool, true, false, ◌&&◌, not, List, ◌++◌, length, Some, None, if◌then◌else◌, refl, ◌∙◌, inl, inr, arith}
 use Rattle.std.proofs.lemmas.List.{get_or_append_left}
 use Rattle.std.proofs.lemmas.Bool.{eqb-true}
 use Rattle.std.proofs.lemmas.Bool.Decides.{leb_tells}
 use Rattle.param_load.specs.declared.app_rule.AppRule.{AppRule}
 use Rattle.param_load.specs.declared.contents.Expected.TheVariants as expected
 use Rattle.param_load.specs.Contents.{fails, word_is, communication_fault, app_fault, app_part, field_fault, padding_fault, contents_fault}
-
-first : (a b : Option Code) → option_or a b ≡ None → a ≡ None
-first None b e = refl
-first (Some x) b e = absurd (cc e)
+use Rattle.param_load.proofs.Watchdog.{first}
 
 fourth : (t t' t'' t''' : Bool) (x y z w : Code) → (if t then Some x else if t' then Some y else if t'' then Some z else if t''' then Some w else None) ≡ None → t''' ≡ false
 fourth false false false false x y z w e = refl
@@ -28,10 +24,10 @@ number-tested most count profile rule before u rest f =
     (fails before u (id_len profile + 1) (word_is profile u)) (fails before u (id_len profile + 3) (number_at (id_len profile + 2) u == count))
     (code 0x08) (code 0x09) (code 0x09) (code 0x0A) communication
 
-stays : (u p : List ℕ) (k : ℕ) → k + 1 < length u → number_at k (u ++ p) ≡ number_at k u
+pub stays : (u p : List ℕ) (k : ℕ) → k + 1 < length u → number_at k (u ++ p) ≡ number_at k u
 stays u p k h = grind (arith, get_or_append_left u p 0 k (omega arith), get_or_append_left u p 0 (k + 1) h)
 
-passes : (t b : Bool) → t ≡ true → (t && not b) ≡ false → b ≡ true
+pub passes : (t b : Bool) → t ≡ true → (t && not b) ≡ false → b ≡ true
 passes true true h e = refl
 passes _ _ h e = cc
 

@@ -58,7 +58,7 @@ front_by zero l d b rest some = absurd (omega arith)
 front_by (suc zero) l d b rest some = lone d (l - 1)
 front_by (suc (suc n)) l d b rest some = let more : (suc (suc n) == 1) ≡ false = grind (arith, nat_tests) in ap (λ one. if one then d else d + 256 * b) (sym more)
 
-positive : (l : ℕ) → IsTrue (is_length l) → 0 < l
+pub positive : (l : ℕ) → IsTrue (is_length l) → 0 < l
 positive l h = grind (arith, nat_tests)
 
 piece_some : (s : Setup) → 0 < piece_len s

@@ -1,7 +1,6 @@
 -- Frames that one end sends after one another in a session have different CRC_0.
-use Rattle.end_model.proofs.Common.{Answers, Command, Deed, Did, Expires, Frame, IsRun, Link, Move, OfMaster, OfSlave, PeerResets, Reaction, Refuses, ResetsItself, SendsAgain, Setup, Taking, command_byte, first_of, frame_of, is_empty, is_length, newest_crc, offer, own, own_link, received, receives, sends, since, taken, takes_frame, with_answer}
-use Rattle.std.proofs.Common.{◌≡◌, ℕ, ◌<◌, List, [], ◌∷◌, length, Bool, true, false, Option, Some, None, IfSome, IsTrue, if◌then◌else◌, refl, sym, subst, ◌∙◌, arith}
-use Rattle.std.proofs.lemmas.Bool.Decides.{nat_tests}
+use Rattle.end_model.proofs.Common.{Answers, Command, Deed, Did, Expires, Frame, IsRun, Link, Move, OfMaster, OfSlave, PeerResets, Reaction, Refuses, ResetsItself, SendsAgain, Setup, Taking, command_byte, first_of, frame_of, is_empty, newest_crc, offer, own, own_link, received, receives, sends, since, taken, takes_frame, with_answer}
+use Rattle.std.proofs.Common.{◌≡◌, ℕ, ◌<◌, List, [], ◌∷◌, length, Bool, true, false, Option, Some, None, IfSome, if◌then◌else◌, refl, sym, subst, ◌∙◌, arith}
 use Rattle.fsoe_base.specs.declared.command.Command.TheVariants as command
 use Rattle.seq_chain.specs.Sealing as sealing
 use Rattle.seq_chain.proofs.Steps.{number_within, after_link}
@@ -12,6 +11,7 @@ use Rattle.end_model.proofs.SoundRuns.{reacted}
 use Rattle.end_model.proofs.Taken.{exchange_of, answer_is, master_answers}
 use Rattle.end_model.proofs.ReadBack.{valid_length, read_back}
 use Rattle.end_model.proofs.SealedFrames.{IsSealed, master_sealed, slave_sealed, offer_len}
+use Rattle.end_model.proofs.IdFront.{positive}
 
 -- what is noted of the newest frame: a number of 16 bits and the frame's CRC_0
 abbrev IsNoted : ℕ → Option Link → List (List ℕ) → Type 0
@@ -44,12 +44,9 @@ other l last conn cmd before load [] h some = tt
 other l last conn cmd (Some link) load (f ∷ frames) h some = λ e. after_link last conn cmd link load h.0 some (e ∙ sym h.1)
 other l last conn cmd None load (f ∷ frames) h some = absurd h
 
-some_bytes : (l : ℕ) → IsTrue (is_length l) → 0 < l
-some_bytes l h = grind (arith, nat_tests)
-
 other_sent : (s : Setup) (m : Move) (did : Did) (e : List Deed) (f : List ℕ) → IsSealed s (record { what = m; did = did; sent = [] } ∷ e) f → IsOtherThanNewest (sends s) (first_of (frame_of (sends s) f).crcs) (own (since e))
 other_sent s m did e f h =
-    let some : 0 < length h.load = let positive = some_bytes (sends s) (valid_length s) in let len = h.len in omega arith in
+    let some : 0 < length h.load = let sent = positive (sends s) (valid_length s) in let len = h.len in omega arith in
     let draft : List Deed = record { what = m; did = did; sent = [] } ∷ since e in
     subst (λ (g : List ℕ). IsOtherThanNewest (sends s) (first_of (frame_of (sends s) g).crcs) (own (since e))) (sym h.is)
     (subst (λ (g : Frame). IsOtherThanNewest (sends s) (first_of g.crcs) (own (since e))) (sym (read_back s draft h.conn h.command h.load h.len))

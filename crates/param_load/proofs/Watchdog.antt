@@ -14,7 +14,7 @@ use Rattle.param_load.specs.Profile.{id_len}
 use Rattle.param_load.specs.Payload.{number_at}
 use Rattle.param_load.specs.Upload.{HasWatchdog}
 
-first : (a b : Option Code) → option_or a b ≡ None → a ≡ None
+pub first : (a b : Option Code) → option_or a b ≡ None → a ≡ None
 first None b e = refl
 first (Some x) b e = absurd (cc e)
 
