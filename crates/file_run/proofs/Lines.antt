@@ -7,6 +7,7 @@ use Rattle.std.specs.Io.KnownBytes.{Consumes}
 use Rattle.std.specs.List.{slice_split, onto_first}
 use Rattle.std.proofs.lemmas.List.Splits.{slice_split_at, slice_split_none, length-slice_split, slice_split-cons_no}
 use Rattle.std.proofs.lemmas.Bool.Decides.{nat_tests}
+use Rattle.schedule_file.proofs.OneField.{some_part}
 
 whole_short : (text : List ℕ) → length text ≤ 640 → whole_line text ≡ Ok text
 whole_short text h = grind (arith, nat_tests)
@@ -34,10 +35,6 @@ lines_whole text more is =
 pub lines_open : (input : List ℕ) → IsUnended input → lines_of input ≡ Err NoNewline ∷ []
 lines_open [] is = absurd (omega arith)
 lines_open (b ∷ text) is = ap lines_in (slice_split_none is_newline (b ∷ text) is.2) ∙ open_short b text is.1
-
-some_part : (parts : List (List ℕ)) (n : ℕ) → length parts ≡ n + 1 → (head : List ℕ) × (tail : List (List ℕ)) × (parts ≡ head ∷ tail)
-some_part [] n e = absurd (omega arith)
-some_part (head ∷ tail) n e = (head, tail, refl)
 
 -- the first part is as long as what no newline stands in
 front : (k : ℕ) (input : List ℕ) → k ≤ length input → HasNoNewline (take k input)
