@@ -1,5 +1,5 @@
 -- In a world without another entry outputs with a bit as 1 have an age: they are from an item.
-use Rattle.reaction_bound.proofs.Common.{Command, End, Entry, IsTakenFrom, Item, NoOther, TakesAwaited, Terms, Took, age_of, awaited, awaited_by, data_taken, in_time, is_other, item_number, items, of_end, outputs_after, outputs_at, outputs_by, outputs_due, received_len, same_end, source, source_after, source_at, source_by, source_in, ticked, ticks_since}
+use Rattle.reaction_bound.proofs.Common.{Command, End, Entry, IsTakenFrom, Item, NoOther, TakesAwaited, Terms, Took, age_of, awaited, awaited_by, in_time, is_other, item_number, items, of_end, outputs_after, outputs_at, outputs_by, outputs_due, received_len, same_end, source, source_after, source_at, source_by, source_in, ticked, ticks_since}
 use Rattle.std.proofs.Common.{◌≡◌, ℕ, List, [], ◌∷◌, replicate, Bool, true, false, ◌&&◌, not, Option, Some, None, is_some, IsSome, option_map, if◌then◌else◌, refl, ap, ◌∙◌, subst}
 use Rattle.fsoe_base.specs.declared.command.Command.TheVariants as command
 use Rattle.fsoe_base.specs.Image.{bit_of}
@@ -12,6 +12,7 @@ use Rattle.exchange_model.proofs.Worlds.Projection.{same}
 use Rattle.exchange_model.proofs.Joint.Taking.{NoneOther, none_other}
 use Rattle.exchange_model.proofs.Fairness.Headline.{takes_awaited}
 use Rattle.exchange_model.proofs.Offering.Shown.{none_of_zeros}
+use Rattle.reaction_bound.proofs.Bounded.{data-of}
 
 -- data are taken from an item that was awaited
 item-awaited : (l : ℕ) (t : Took) (told : Option Terms) (o : Option Item) → IsTakenFrom l (Some t) told o → is_some (item_number o) ≡ true
@@ -51,9 +52,6 @@ aged-head : (which : End) (l n bit : ℕ) (x : Entry) (w : List Entry) (mine : B
     → is_some (let earlier : Option ℕ = source_after which (if mine then ticked x.what n else n) w in if mine then source_in n x (is_other (items w) x) (awaited_by which w) earlier else earlier) ≡ true
 aged-head which l n bit x w true o awaits before one = aged-own which l n bit x w (is_some x.did.reset) o (awaits refl) (before (ticked x.what n)) one
 aged-head which l n bit x w false o awaits before one = before n one
-
-data-of : (took : Option Took) (t : Took) → took ≡ Some t → is_data t.command ≡ true → data_taken took ≡ Some t
-data-of took t h k = ap data_taken h ∙ simp k
 
 -- what an entry of the end took is from the item awaited before it
 own-awaits : (ms : MasterSettings) (ss : SlaveSettings) (x : Entry) (w : List Entry) → SameLengths ms ss → IsWorld ms ss (x ∷ w) → NoOther (x ∷ w)

@@ -1,6 +1,6 @@
 -- In a world without another entry outputs are no older than twice the watchdog: one of them passes at most until the
 -- end takes what its peer sent, and one until the outputs are zeros.
-use Rattle.reaction_bound.proofs.Common.{Command, Deed, End, Entry, Move, NoOther, Terms, Took, age_of, awaited_by, data_taken, greater, in_time, is_empty, is_other, items, items_of, of_session, peer, same_end, source, source_after, source_at, source_by, ticked, ticks_since, worst_of}
+use Rattle.reaction_bound.proofs.Common.{Command, Deed, End, Entry, Move, NoOther, Terms, Took, age_of, awaited_by, data_taken, greater, in_time, is_other, items, items_of, of_session, peer, same_end, source, source_after, source_at, source_by, ticked, ticks_since, worst_of}
 use Rattle.std.proofs.Common.{◌≡◌, ℕ, ◌+◌, ◌-◌, ◌*◌, ◌<◌, ◌≤◌, nat_lt, List, [], ◌∷◌, length, Bool, true, false, ◌&&◌, not, Option, Some, None, IfSome, IsSomeAnd, is_some, option_map, if◌then◌else◌, refl, sym, ap, ◌∙◌, subst, arith}
 use Rattle.std.proofs.lemmas.Bool.{ltb-true}
 use Rattle.fsoe_base.specs.declared.command.State.TheVariants as state
@@ -20,18 +20,14 @@ use Rattle.exchange_model.specs.Schedules.{IsWorld}
 use Rattle.exchange_model.proofs.Worlds.Projection.{same, next_told, deeds_are_run, entry_reacted}
 use Rattle.exchange_model.proofs.Joint.Taking.{NoneOther, none_other}
 use Rattle.exchange_model.proofs.Alone.Pieces.{deed}
-use Rattle.exchange_model.proofs.Offering.Older.{ticked_across, ticked_most}
+use Rattle.exchange_model.proofs.Offering.Older.{ticked_across}
 use Rattle.exchange_model.proofs.Offering.Young.{TakesYoung, takes_young}
-use Rattle.exchange_model.proofs.Offering.Offered.{agrees, tells, taking_agrees, own_head, same_itself}
+use Rattle.exchange_model.proofs.Offering.Sending.{ticks-head}
+use Rattle.exchange_model.proofs.Offering.Offered.{agrees, tells, taking_agrees, own_head, same_itself, both-ways}
 use Rattle.reaction_bound.proofs.Waiting.{awaited_within, since_next, Next, Kept, Gone, Fresh, next, fresh_now}
 use Rattle.reaction_bound.proofs.Outputs.{source_within}
 
 -- the ticks since an awaited item was sent are no more than those that the end counted since it sent its own
-waits-head : (s : Setup) (x : Entry) (e : List Deed) (a : ℕ) (mine : Bool) → (mine ≡ true → is_empty x.sent ≡ true) → a ≤ ticks s e
-    → (if mine then ticked x.what a else a) ≤ ticks s (if mine then deed_in x ∷ e else e)
-waits-head s x e a true quiet h = let none : is_empty x.sent ≡ true = quiet refl in simp none (ticked_most x.what a (ticks s e) h)
-waits-head s x e a false quiet h = h
-
 waits-next : (s : Setup) (which : End) (x : Entry) (w : List Entry) (k : ℕ) → ((k : ℕ) → awaited_by which w ≡ Some k → ticks_since which k w ≤ ticks s (deeds which w))
     → awaited_by which (x ∷ w) ≡ Some k → Next which x w → ticks_since which k (x ∷ w) ≤ ticks s (deeds which (x ∷ w))
 waits-next s which x w k before h (Gone g) = let none : Some k ≡ None = sym h ∙ g in cc
@@ -45,7 +41,7 @@ waits-next s which x w k before h (Fresh n g sent) =
 waits-next s which x w k before h (Kept g quiet) =
     let was : awaited_by which w ≡ Some k = sym g ∙ h in
     subst (λ (n : ℕ). n ≤ ticks s (deeds which (x ∷ w))) (sym (since_next which k x w (same_end which x.end) refl (awaited_within which w k was)))
-    (waits-head s x (deeds which w) (ticks_since which k w) (same_end which x.end) quiet (before k was))
+    (ticks-head s x (deeds which w) (ticks_since which k w) (same_end which x.end) quiet (before k was))
 
 waits : (s : Setup) (which : End) (w : List Entry) (k : ℕ) → awaited_by which w ≡ Some k → ticks_since which k w ≤ ticks s (deeds which w)
 waits s which [] k h = omega arith
@@ -74,10 +70,6 @@ record Young (ms : MasterSettings) (ss : SlaveSettings) (which : End) (n k : ℕ
 taken-young : (since since' now n told watchdog : ℕ) → since ≡ since' → since' ≤ now → now < told → told ≡ watchdog → n < watchdog → since + n ≤ 2 * watchdog - 2
 taken-young since since' now n told watchdog a b c d e = omega arith
 
-both-ways : (b : Bool) (m n : ℕ) → m ≡ n → (if b then m else n) ≡ n
-both-ways true m n h = h
-both-ways false m n h = refl
-
 young-taken : (ms : MasterSettings) (ss : SlaveSettings) (x : Entry) (w : List Entry) (t : Took) (n k : ℕ) → SameLengths ms ss → IsWorld ms ss (x ∷ w) → NoOther (x ∷ w)
     → data_taken x.did.took ≡ Some t → in_time n x.terms ≡ true → awaited_by x.end w ≡ Some k → Young ms ss x.end n k (x ∷ w)
 young-taken ms ss x w t n k lens h none took soon awaited =
@@ -100,7 +92,7 @@ some-before : (soon other : Bool) (before : Option ℕ) (k : ℕ) → (if soon &
 some-before true false before k h = (refl, h)
 some-before _ _ before k h = cc
 
-data-of : (took : Option Took) (t : Took) → took ≡ Some t → is_data t.command ≡ true → data_taken took ≡ Some t
+pub data-of : (took : Option Took) (t : Took) → took ≡ Some t → is_data t.command ≡ true → data_taken took ≡ Some t
 data-of took t h k = ap data_taken h ∙ simp k
 
 young-by : (ms : MasterSettings) (ss : SlaveSettings) (x : Entry) (w : List Entry) (t : Took) (n k : ℕ) (c : Command) → SameLengths ms ss → IsWorld ms ss (x ∷ w) → NoOther (x ∷ w)

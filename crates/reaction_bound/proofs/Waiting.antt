@@ -9,9 +9,10 @@ use Rattle.param_load.specs.declared.entry.Move.TheVariants as move
 use Rattle.end_model.specs.Phases.{has_command}
 use Rattle.exchange_model.specs.Monitor as monitor
 use Rattle.exchange_model.specs.Monitor.{MonitorView, Side, sent_number, next_number, is_answer, next_sent, sent_next, heard_next, side_of, noted_next}
-use Rattle.exchange_model.proofs.Worlds.Numbered.{Grown, Same, More, grown, numbered}
+use Rattle.exchange_model.proofs.Worlds.Numbered.{grown, numbered}
 use Rattle.exchange_model.proofs.Joint.Awaited.{awaited_found}
 use Rattle.exchange_model.proofs.Monitors.Noted.{newest_next, notes_by, awaited_number}
+use Rattle.exchange_model.proofs.Offering.Sending.{grown-length}
 
 -- an item with a number
 record HasNumber (k : ℕ) (o : Option Item) : Type 0 where
@@ -29,10 +30,6 @@ awaited_within which w k h =
     let it : HasNumber k (awaited (items w) which) = number-found (awaited (items w) which) k h in
     let f = awaited_found (items_of which (items w)) (items_of (peer which) (items w)) it.item (numbered which w) (numbered (peer which) w) it.is in
     subst (λ (k : ℕ). k ≤ length (items_of (peer which) (items w))) it.number_is f.within
-
-grown-length : (old new : List Item) → Grown old new → length old ≤ length new
-grown-length old new (Same e) = let q : length new ≡ length old = ap length e in omega arith
-grown-length old new (More i e h) = let q : length new ≡ suc (length old) = ap length e in omega arith
 
 -- an end has no fewer items after an entry
 pub items_grow : (which : End) (x : Entry) (w : List Entry) → length (items_of which (items w)) ≤ length (items_of which (items (x ∷ w)))

@@ -106,7 +106,7 @@ takes-bit ms ss bit x w t lens h n took one =
       no_tick = y.no_tick;
     }
 
-both-ways : (b : Bool) (m n : ℕ) → m ≡ n → (if b then m else n) ≡ n
+pub both-ways : (b : Bool) (m n : ℕ) → m ≡ n → (if b then m else n) ≡ n
 both-ways true m n h = h
 both-ways false m n h = refl
 

@@ -83,7 +83,7 @@ answered-within : (who : End) (bytes : List ℕ) (took : Option Took) (w : List 
 answered-within who bytes None w k h = cc
 answered-within who bytes (Some t) w k h = taken-within who bytes w k (is_guarded t.command) h
 
-grown-length : (old more : List Item) → Grown old more → length old ≤ length more
+pub grown-length : (old more : List Item) → Grown old more → length old ≤ length more
 grown-length old more (Same e) = let k : length more ≡ length old = ap length e in omega arith
 grown-length old more (More i e n) = let k : length more ≡ suc (length old) = ap length e in omega arith
 
@@ -105,7 +105,7 @@ sends-none which x later w false mine is h =
     let b : length (items_of which (items w)) ≤ length (items_of which (items (later ++ w))) = older-items which later w in
     absurd (omega arith)
 
-ticks-head : (s : Setup) (x : Entry) (e : List Deed) (a : ℕ) (mine : Bool) → (mine ≡ true → is_empty x.sent ≡ true) → a ≤ ticks s e
+pub ticks-head : (s : Setup) (x : Entry) (e : List Deed) (a : ℕ) (mine : Bool) → (mine ≡ true → is_empty x.sent ≡ true) → a ≤ ticks s e
     → (if mine then ticked x.what a else a) ≤ ticks s (if mine then deed_in x ∷ e else e)
 ticks-head s x e a true quiet h = let none : is_empty x.sent ≡ true = quiet refl in simp none (ticked_most x.what a (ticks s e) h)
 ticks-head s x e a false quiet h = h
