@@ -1,8 +1,7 @@
 -- A Connection frame that passed the tests: what the machine does is what looking back gives.
 use Rattle.slave_core.proofs.Common.{Chain, Code, Deed, OfSlave, Outcome, SessionFrameView, SlaveSettings, State, UploadView, advanced, as_now, begun, code, conn_id, connection_reply, connection_taking, contents, has_command, judged_contents, kit_of, notes_of, number_at, on_verdict, or_reset, outcome_by, padded, piece_len, session_of, settles, slave_conn, slave_limit, state_of, takes_frame, upload_of, view_in}
-use Rattle.std.proofs.Common.{◌≡◌, ◌==◌, ℕ, ◌+◌, ◌-◌, ◌<◌, ◌≤◌, nat_le, nat_lt, Bool, true, false, ◌&&◌, not, List, [], ◌∷◌, ◌++◌, length, take, drop, Option, Some, None, if◌then◌else◌, refl, sym, ap, ap₂, subst, ◌∙◌, inl, inr, arith}
+use Rattle.std.proofs.Common.{◌≡◌, ◌==◌, ℕ, ◌+◌, ◌-◌, ◌<◌, ◌≤◌, nat_le, nat_lt, Bool, true, false, ◌&&◌, List, [], ◌∷◌, ◌++◌, length, take, drop, Option, Some, None, if◌then◌else◌, refl, sym, ap, ap₂, subst, ◌∙◌, inl, inr, arith}
 use Rattle.std.specs.Option.{option_or}
-use Rattle.std.proofs.lemmas.List.{get_or_append_left}
 use Rattle.std.proofs.lemmas.Bool.{eqb-true}
 use Rattle.std.proofs.lemmas.Bool.Decides.{leb_tells}
 use Rattle.fsoe_base.specs.declared.command.Command.TheVariants as command
@@ -10,6 +9,8 @@ use Rattle.param_load.specs.declared.app_rule.AppRule.{AppRule}
 use Rattle.param_load.specs.declared.contents.Expected.TheVariants as expected
 use Rattle.param_load.specs.declared.entry.Move.TheVariants as move
 use Rattle.param_load.specs.Contents.{fails, connection_fault, padding_fault, contents_fault}
+use Rattle.param_load.proofs.Watchdog.{first}
+use Rattle.end_model.proofs.Counted.{stays, passes}
 use Rattle.slave_core.specs.declared.now.Now.TheVariants as now
 use Rattle.slave_core.specs.declared.states.InConnection.{InConnection}
 use Rattle.slave_core.proofs.Sound.{Sound}
@@ -18,13 +19,6 @@ use Rattle.slave_core.proofs.Agrees.{Agrees, same_slave, fresh_limit, fault-agre
 use Rattle.slave_core.proofs.Arrived.{chain_answered, frame_answered, Arrived, chain-after, piece-len, filled, piece-own, piece-peer, last-piece, connects-first, is-there, there}
 
 -- a number in the joined bytes stays what it was tested to be
-stays : (u p : List ℕ) (k : ℕ) → k + 1 < length u → number_at k (u ++ p) ≡ number_at k u
-stays u p k h = grind (arith, get_or_append_left u p 0 k (omega arith), get_or_append_left u p 0 (k + 1) h)
-
-passes : (t b : Bool) → t ≡ true → (t && not b) ≡ false → b ≡ true
-passes true true h e = refl
-passes _ _ h e = cc
-
 said : (u p : List ℕ) (k n : ℕ) → (k + 2 ≤ length u → number_at k u ≡ n) → fails (length u) (u ++ p) (k + 1) (number_at k (u ++ p) == n) ≡ false
     → k + 2 ≤ length (u ++ p) → number_at k (u ++ p) ≡ n
 said u p k n before tested long =
@@ -32,10 +26,6 @@ said u p k n before tested long =
       | inl t ↦ eqb-true (number_at k (u ++ p)) n (passes (nat_le (length u) (k + 1) && nat_lt (k + 1) (length (u ++ p))) (number_at k (u ++ p) == n) (grind arith) tested)
       | inr t ↦ stays u p k (let l : k + 1 < length u = t.1 in omega arith) ∙ before (let l : k + 1 < length u = t.1 in omega arith)
     ]
-
-fields : (a b : Option Code) → option_or a b ≡ None → a ≡ None
-fields None b e = refl
-fields (Some x) b e = absurd (cc e)
 
 both : (t t' : Bool) (x y : Code) → (if t then Some x else if t' then Some y else None) ≡ None → (t ≡ false) × (t' ≡ false)
 both false false x y e = (refl, refl)
@@ -47,7 +37,7 @@ said-both : (conn address : ℕ) (rule : AppRule) (u p rest : List ℕ) → (2 �
     → (2 ≤ length (u ++ p) → number_at 0 (u ++ p) ≡ conn) × (4 ≤ length (u ++ p) → number_at 2 (u ++ p) ≡ address)
 said-both conn address rule u p rest h g f =
     let t = both (fails (length u) (u ++ p) 1 (number_at 0 (u ++ p) == conn)) (fails (length u) (u ++ p) 3 (number_at 2 (u ++ p) == address)) (code 0x03) (code 0x06)
-    (fields (connection_fault conn address (length u) (u ++ p)) (padding_fault (expected.Connection conn address) (u ++ p) rest) f) in
+    (first (connection_fault conn address (length u) (u ++ p)) (padding_fault (expected.Connection conn address) (u ++ p) rest) f) in
     (said u p 0 conn h t.0, said u p 2 address g t.1)
 
 abbrev seen : SlaveSettings → List ℕ → SessionFrameView
