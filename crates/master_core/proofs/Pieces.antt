@@ -1,18 +1,16 @@
 -- When the pieces of a payload are all sent.
-use Rattle.master_core.proofs.Common.{MasterSettings, OfMaster, is_length, piece_len}
-use Rattle.std.proofs.Common.{◌≡◌, ℕ, zero, suc, ◌+◌, ◌-◌, ◌*◌, ◌/◌, ◌<◌, ◌≤◌, min, nat_le, nat_lt, Bool, true, false, not, IsTrue, refl, sym, ap, ◌∙◌, suc-mul, arith}
+use Rattle.master_core.proofs.Common.{MasterSettings, OfMaster, piece_len}
+use Rattle.std.proofs.Common.{◌≡◌, ℕ, zero, suc, ◌+◌, ◌-◌, ◌*◌, ◌/◌, ◌<◌, ◌≤◌, min, nat_le, nat_lt, Bool, true, false, not, refl, sym, ap, ◌∙◌, suc-mul, arith}
 use Rattle.std.proofs.Math.Nat.{le-div_iff_mul-le}
 use Rattle.std.proofs.lemmas.Bool.Decides.{nat_tests}
-
-some-length : (l : ℕ) → IsTrue (is_length l) → 0 < l
-some-length l h = grind (arith, nat_tests)
+use Rattle.end_model.proofs.IdFront.{positive}
 
 some-min : (m n : ℕ) → 0 < m → 0 < n → 0 < min m n
 some-min m n h k = omega arith
 
 -- a piece has a byte
 pub some_piece : (ms : MasterSettings) → 0 < piece_len (OfMaster ms)
-some_piece ms = some-min ms.lengths.master ms.lengths.slave (some-length ms.lengths.master ms.lengths.valid_master) (some-length ms.lengths.slave ms.lengths.valid_slave)
+some_piece ms = some-min ms.lengths.master ms.lengths.slave (positive ms.lengths.master ms.lengths.valid_master) (positive ms.lengths.slave ms.lengths.valid_slave)
 
 -- a piece is at most as long as a frame of the master
 pub piece_own : (ms : MasterSettings) → piece_len (OfMaster ms) ≤ ms.lengths.master
