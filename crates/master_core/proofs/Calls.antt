@@ -22,11 +22,11 @@ Reached ms v e None = AtRest ms v e
 Reached ms v e (Some p) = InDelivery ms v e p
 
 -- a delivery in which nothing was taken and no session ended sent nothing
-abbrev IsDelivery : Move → Type 0
+abbrev pub IsDelivery : Move → Type 0
 IsDelivery (move.Deliver bytes) = Unit {0}
 IsDelivery _ = ⊥
 
-quiet : (s : Setup) (e : List Deed) (m : Move) (d : Did) (f : List ℕ) → IsDelivery m → tells_due d ≡ false → Reaction s e m d f → deed m (record d { sent = false }) [] ≡ deed m d f
+pub quiet : (s : Setup) (e : List Deed) (m : Move) (d : Did) (f : List ℕ) → IsDelivery m → tells_due d ≡ false → Reaction s e m d f → deed m (record d { sent = false }) [] ≡ deed m d f
 quiet s e m d f k h (Expires now old) = absurd (cc h)
 quiet s e m d f k h (SendsAgain master now old) = absurd k
 quiet s e m d f k h ResetsItself = absurd (cc h)

@@ -4,12 +4,13 @@ use Rattle.std.proofs.Common.{◌≡◌, ℕ, List, [], ◌∷◌, Option, Some,
 use Rattle.fsoe_base.specs.declared.did.Cause.{Cause}
 use Rattle.fsoe_base.specs.declared.did.Took.{Took}
 use Rattle.param_load.specs.declared.entry.Move.TheVariants as move
-use Rattle.end_model.specs.Reactions.{Reaction, Rests, Ages, Expires, SendsAgain, ResetsItself, Refuses, PeerResets, Answers}
+use Rattle.end_model.specs.Reactions.{Reaction, Rests, Ages, Expires, SendsAgain}
 use Rattle.end_model.specs.Step.{step}
 use Rattle.end_model.specs.Runs.{IsRun}
 use Rattle.end_model.proofs.Shown.{looking_back, fail_safe}
 use Rattle.end_model.proofs.SoundRuns.{reacts}
 use Rattle.master_core.specs.Calls.{tells_due}
+use Rattle.master_core.proofs.Calls.{quiet}
 
 -- a tick that ends no session
 abbrev IsTick : Move → Type 0
@@ -43,24 +44,11 @@ quiet_frame s e bytes h =
     quiet-parts s e x 0 x.did.took x.did.reset (out_after s 0 e) h
 
 -- it sends nothing
-abbrev IsDelivery : Move → Type 0
-IsDelivery (move.Deliver bytes) = Unit {0}
-IsDelivery _ = ⊥
-
-quiet-sent : (s : Setup) (e : List Deed) (m : Move) (d : Did) (f : List ℕ) → IsDelivery m → tells_due d ≡ false → Reaction s e m d f → deed m d f ≡ deed m (record d { sent = false }) []
-quiet-sent s e m d f k h (Refuses bytes passed found now told fails) = absurd (cc h)
-quiet-sent s e m d f k h (PeerResets bytes load now frame) = absurd (cc h)
-quiet-sent s e m d f k h (Answers bytes load c answer taking) = absurd (cc h)
-quiet-sent s e m d f k h (Expires now old) = absurd k
-quiet-sent s e m d f k h (SendsAgain master now old) = absurd k
-quiet-sent s e m d f k h ResetsItself = absurd k
-quiet-sent s e m d f k h _ = refl
-
 pub quiet_deed : (s : Setup) (e : List Deed) (bytes : List ℕ) → IsRun s e → tells_due (step s e (move.Deliver bytes)).did ≡ false
     → step s e (move.Deliver bytes) ≡ deed (move.Deliver bytes) (record (step s e (move.Deliver bytes)).did { sent = false }) []
 quiet_deed s e bytes r h =
     let x : Deed = step s e (move.Deliver bytes) in
-    quiet-sent s e (move.Deliver bytes) x.did x.sent tt h (reacts s e (move.Deliver bytes) r tt)
+    sym (quiet s e (move.Deliver bytes) x.did x.sent tt h (reacts s e (move.Deliver bytes) r tt))
 
 -- what a frame leaves as outputs goes by what was taken, whether the session ended, and the outputs before
 held-same : (ms : MasterSettings) (e f : List Deed) (took : Option Took) (before : List ℕ) → held_up (OfMaster ms) e 0 took before ≡ held_up (OfMaster ms) f 0 took before
