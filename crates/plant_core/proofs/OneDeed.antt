@@ -1,19 +1,17 @@
 -- Acts in which one end of one connection does something, and no cycle is run.
 use Rattle.plant_core.proofs.Common.{Act, Beginning, Call, Delivers, End, Entry, Event, Fits, GoesOn, Happen, HasDone, IsOne, JournalStep, LinkConf, LinkIs, LinkStands, LinkView, LinksAre, MasterNoted, Move, MultiView, Nonce, OfSlave, Parcel, Placed, PlantView, PullFrom, SlaveActs, StandsFor, Told, Trace, Use, all_pushes, call_of, calls, cut_after, delivery_call, each_none, each_one, event_call, frames_next, frames_of, is_cut, journal, lengths_kept, link_at, next_of, next_uses, no_entry, not_same, nothing, offers_by, pair, pair_one, pair_other, pair_own, pairs_by, peer, place_of, pushes_each, pushes_of, same_end, sent_in, sent_uses, settings, slave_move, steps_of, with_frame}
-use Rattle.std.proofs.Common.{◌≡◌, ◌≢◌, ◌≤◌, length, ℕ, suc, ◌==◌, Bool, true, false, List, [], ◌∷◌, ◌++◌, slice_get, slice_set, Option, Some, None, if◌then◌else◌, refl, sym, ap, ap₂, subst, ◌∙◌, arith}
-use Rattle.std.specs.Prelude.{IfSome, IsTrue, option_to_list}
-use Rattle.std.proofs.lemmas.Bool.{eq-eqb, le-leb}
+use Rattle.std.proofs.Common.{◌≡◌, ◌≢◌, length, ℕ, suc, ◌==◌, Bool, true, false, List, [], ◌∷◌, ◌++◌, slice_get, slice_set, Option, Some, None, if◌then◌else◌, refl, sym, ap, ap₂, subst, ◌∙◌, arith}
+use Rattle.std.specs.Prelude.{IfSome, option_to_list}
+use Rattle.std.proofs.lemmas.Bool.{eq-eqb}
 use Rattle.std.proofs.lemmas.List.{append-nil}
 use Rattle.fsoe_base.specs.declared.command.End.TheVariants as side
 use Rattle.end_model.specs.Runs.{IsProper}
-use Rattle.param_load.specs.Profile.{allows_id}
-use Rattle.param_load.specs.declared.profile.Profile.{Profile}
-use Rattle.param_load.specs.declared.profile.Profile.TheVariants as profile
 use Rattle.param_load.specs.declared.entry.Move.TheVariants as move
 use Rattle.multi_master.specs.Standing as multi
 use Rattle.plant_model.specs.declared.event.PlantEvent.{PlantEvent}
 use Rattle.plant_model.specs.declared.event.PlantEvent.TheVariants as event
 use Rattle.plant_model.specs.declared.journal.JournalStep.TheVariants as step
+use Rattle.plant_model.proofs.Proper.{allowed}
 use Rattle.plant_core.proofs.Acting.{kept_fits}
 use Rattle.plant_core.proofs.Linking.{from_one, each_at, each_map, each_set}
 
@@ -146,11 +144,6 @@ slave_acted b act done old new s n what before after a c h =
     (one_pushes b.links cut steps s n side.Slave what c.place beside.link a.one beside.is c.placed.number ∙ ap (next_uses n side.Slave what beside.link (pair beside.link n steps)) (a.cuts n done ∙ sym beside.holds.cut))
     (c.acts.acts beside.link (pair beside.link n steps) beside.holds.stands).channel
 
--- each profile allows a session id of 16 bits
-short_id : (profile : Profile) (id : ℕ) → id ≤ 65535 → IsTrue (allows_id profile id)
-short_id profile.One id le = le-leb id 65535 le
-short_id (profile.Two word) id le = refl
-
 -- an event of the script at a slave
 record SlaveEvent (e : PlantEvent) (n : ℕ) (what : Move) : Type 0 where
   pub call : event_call e ≡ None
@@ -170,7 +163,7 @@ proper_moves : (vs : List LinkView) (place : ℕ) (v : LinkView) (e : PlantEvent
 proper_moves vs place v (event.Put link load) fits = λ p. kept_fits vs link place v (length load) p fits
 proper_moves vs place v (event.Hold link failsafe) fits = λ p. tt
 proper_moves vs place v (event.Local link) fits = λ p. tt
-proper_moves vs place v (event.Nonce link side.Slave id) fits = λ p. short_id v.slave.kit.settings.profile id fits.1
+proper_moves vs place v (event.Nonce link side.Slave id) fits = λ p. allowed v.slave.kit.settings.profile id fits.1
 proper_moves vs place v _ fits = tt
 
 pub proper_move : (vs : List LinkView) (place : ℕ) (v : LinkView) (e : PlantEvent) (n : ℕ) (what : Move) → slave_move e ≡ Some (n, what) → Fits (lengths_kept vs) e → Placed vs n place v → IsProper (OfSlave v.slave.kit.settings) what

@@ -7,7 +7,7 @@ pub mod Growing
 pub mod KeptOff
 pub mod Lines
 pub mod Masters
-mod Proper
+pub mod Proper
 pub mod Reacting
 mod Sends
 mod Since

@@ -48,7 +48,7 @@ of_link P links k link e h =
     subst (λ (z : Option Lengths). IsSomeAnd z P) (lengths_of_link links k ∙ ap (option_map lengths_in) e) h
 
 -- a session id of 16 bits is one of both profiles
-allowed : (p : Profile) (id : ℕ) → id ≤ 65535 → IsTrue (allows_id p id)
+pub allowed : (p : Profile) (id : ℕ) → id ≤ 65535 → IsTrue (allows_id p id)
 allowed profile.One id le = le-leb id 65535 le
 allowed (profile.Two word) id le = refl
 
