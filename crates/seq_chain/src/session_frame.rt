@@ -65,7 +65,7 @@ impl<'a> UnreadFrame<'a> {
     #[cold]
     #[inline(never)]
     fn make_room(&self, did: &mut Did)
-        ensures { did.new.took ≡ Some (record { command = self.now.command; load = [] }) }
+        ensures { did.new ≡ record did.old { took = Some (record { command = self.now.command; load = [] }) } }
     {
         did.took = Some(Took {
             command: self.command,
@@ -76,7 +76,7 @@ impl<'a> UnreadFrame<'a> {
     /// Writes the command and the safe data to `did.took`, whose old contents are lost, and changes no other field.
     #[inline(always)]
     pub fn took_into(&self, did: &mut Did)
-        ensures value { did.new.took ≡ Some (record { command = self.now.command; load = self.now.frame.load }) }
+        ensures value { did.new ≡ record did.old { took = Some (record { command = self.now.command; load = self.now.frame.load }) } }
         ensures valid { IsTrue (is_length (length self.now.frame.load)) }
         ensures groups { length self.now.frame.crcs ≡ group_count (length self.now.frame.load) }
     {
