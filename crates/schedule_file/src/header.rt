@@ -141,6 +141,7 @@ impl Header {
     pub fn node_line(&mut self, line: &[u8]) -> Result<bool, LineCause>
         ensures next { Becomes result self.new (node_heading_after self.old line.now) }
         ensures done { IfOk result (λ done. done ≡ heading_is_whole self.new) }
+        ensures refused { OnErr result (self.new.place ≡ Place.Refused) }
         ensures fewer { OnOk result (lines_left self.new < lines_left self.old) }
     {
         self.kind = self.kind_after(line);
