@@ -1,5 +1,5 @@
 //! The header of images, line by line.
-ghost use Rattle.std.specs.Prelude.{◌≡◌, ◌≤◌, ◌<◌, ◌⊎◌, [], ◌∷◌, ◌++◌, IsTrue, IfOk, OnOk, None, length, map};
+ghost use Rattle.std.specs.Prelude.{◌≡◌, ◌≤◌, ◌<◌, ◌⊎◌, [], ◌∷◌, ◌++◌, IsTrue, IfOk, OnErr, OnOk, None, length, map};
 ghost use Rattle.std.specs.List.{AllZip, list_any};
 ghost use Rattle.schedule_file.specs.FieldsRead.{fields_after, Becomes};
 ghost use Rattle.schedule_file.specs.NodeHeader.{may_end};
@@ -38,7 +38,7 @@ pub enum Stage {
     Slots,
     /// `go`.
     Done,
-    /// A line of the last slot that was refused.
+    /// A line that was refused.
     Refused,
 }
 
@@ -242,14 +242,20 @@ impl ImageHeader {
     /// Reads the next line. Returns true if and only if it is `go`, the last one. An error is the first of these causes
     /// that applies: `Header` if its first word isn't allowed here, `Fields`, `Number`, `Hex`, `Length`, `Range`.
     /// `Range` also if the slot of a `master` or `slave` line isn't inside both images or shares a byte with one
-    /// before. Read no line after an error.
+    /// before. Every line after a refused one, and after `go`, is refused as `Header`.
     pub fn line(&mut self, line: &[u8]) -> Result<bool, LineCause>
         ensures next { Becomes result self.new (image_heading_after self.old line.now) }
         ensures done { IfOk result (λ done. done ≡ image_heading_is_whole self.new) }
+        ensures refused { OnErr result (self.new.stage ≡ Stage.Refused) }
         ensures fewer { OnOk result (image_lines_left self.new < image_lines_left self.old) }
     {
-        self.read(line)?;
-        Ok(self.is_done())
+        match self.read(line) {
+            Ok(()) => Ok(self.is_done()),
+            Err(cause) => {
+                self.stage = Stage::Refused;
+                Err(cause)
+            }
+        }
     }
 
     fn read(&mut self, line: &[u8]) -> Result<(), LineCause>
