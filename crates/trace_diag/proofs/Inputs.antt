@@ -82,7 +82,7 @@ line-holds stage.Title h text word fields k =
 line-holds stage.Lengths h text word fields k =
     if-holds HasLengths (bytes_eq word (codes "go")) (map_ok (λ none. record h { stage = stage.Done }) (no_field fields)) (Err cause.Header)
     (map-holds (λ x. Unit {0}) HasLengths (λ none. record h { stage = stage.Done }) (no_field fields) (any-holds (no_field fields)) (λ x u. k)) tt
-line-holds stage.Done h text word fields k = tt
+line-holds _ h text word fields k = tt
 
 fields-hold : (h : TraceHeading) (text : List ℕ) (fields : List (List ℕ)) → HasLengths h → HoldsOf HasLengths (by_word cause.Header (line_taken h.stage h text) fields)
 fields-hold h text [] k = tt

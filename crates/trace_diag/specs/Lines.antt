@@ -48,7 +48,7 @@ abbrev pub line_taken : Stage → TraceHeading → List ℕ → List ℕ → Lis
 line_taken stage.Start h text word fields = if bytes_eq text (codes "fsoe 1 trace") then Ok (record h { stage = stage.Title }) else Err cause.Header
 line_taken stage.Title h text word fields = if bytes_eq word (codes "lengths") then map_ok lengths_taken (lengths_line fields) else Err cause.Header
 line_taken stage.Lengths h text word fields = if bytes_eq word (codes "go") then map_ok (λ none. record h { stage = stage.Done }) (no_field fields) else Err cause.Header
-line_taken stage.Done h text word fields = Err cause.Header
+line_taken _ h text word fields = Err cause.Header
 
 -- a header after its next line, or why that line is refused
 abbrev pub trace_heading_after : TraceHeading → List ℕ → Result TraceHeading LineCause

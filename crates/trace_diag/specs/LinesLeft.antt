@@ -9,7 +9,7 @@ abbrev pub lines_from : Stage → ℕ
 lines_from stage.Start = 3
 lines_from stage.Title = 2
 lines_from stage.Lengths = 1
-lines_from stage.Done = 0
+lines_from _ = 0
 
 abbrev pub trace_lines_left : TraceHeading → ℕ
 trace_lines_left h = lines_from h.stage

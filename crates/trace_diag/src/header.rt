@@ -1,5 +1,5 @@
 //! The header of a recorded trace, line by line.
-ghost use Rattle.std.specs.Prelude.{◌≡◌, ◌<◌, IfOk, MatchResult, OnOk, Ok, Err};
+ghost use Rattle.std.specs.Prelude.{◌≡◌, ◌<◌, IfOk, MatchResult, OnErr, OnOk, Ok, Err};
 ghost use Rattle.schedule_file.specs.FieldsRead.{fields_after, Becomes};
 ghost use Rattle.schedule_file.specs.HeaderLine.{lengths_line};
 ghost use Rattle.trace_diag.specs.Lines.{heading_new, trace_heading_after, trace_is_whole};
@@ -21,6 +21,8 @@ pub enum Stage {
     Lengths,
     /// `go`.
     Done,
+    /// A line that was refused.
+    Refused,
 }
 
 /// A header that is read line by line, without newlines: `fsoe 1 trace`, `lengths <master> <slave>` and `go`. The
@@ -82,15 +84,21 @@ impl TraceHeader {
     }
 
     /// Reads the next line. Returns true if and only if it is `go`, which ends the header. An error is the first of
-    /// these causes that applies: `Header` if its first word isn't allowed here, `Fields`, `Number`, `Length`. Read no
-    /// line after an error.
+    /// these causes that applies: `Header` if its first word isn't allowed here, `Fields`, `Number`, `Length`. Every
+    /// line after a refused one, and after `go`, is refused as `Header`.
     pub fn line(&mut self, line: &[u8]) -> Result<bool, LineCause>
         ensures next { Becomes result self.new (trace_heading_after self.old line.now) }
         ensures done { IfOk result (λ done. done ≡ trace_is_whole self.new) }
+        ensures refused { OnErr result (self.new.stage ≡ Stage.Refused) }
         ensures fewer { OnOk result (trace_lines_left self.new < trace_lines_left self.old) }
     {
-        self.read(line)?;
-        Ok(self.is_done())
+        match self.read(line) {
+            Ok(()) => Ok(self.is_done()),
+            Err(cause) => {
+                self.stage = Stage::Refused;
+                Err(cause)
+            }
+        }
     }
 
     fn read(&mut self, line: &[u8]) -> Result<(), LineCause>

@@ -1,5 +1,4 @@
 use fsoe_base::{BadLength, End, Image, Lengths};
-use std::test::Fail;
 
 /// The piece of these lengths, and the lengths of the frames of both ends.
 fn sizes(master: usize, slave: usize) -> Result<(usize, [usize; 2]), BadLength> {
@@ -36,14 +35,4 @@ fn with_two_bits() -> Image {
 #[test]
 fn bits_count_from_the_lowest(rt: HostRuntime) {
     assert_eq!(rt; with_two_bits().bytes(), [0x01, 0x80].as_slice());
-}
-
-#[test]
-fn messages_name_the_rule(rt: HostRuntime) -> Result<(), Fail> {
-    let text = format!(in rt.alloc(); "{}", BadLength)?;
-    assert_eq!(rt;
-        text.as_str(),
-        "a length is 1 or an even number from 2 to 126"
-    );
-    Ok(())
 }

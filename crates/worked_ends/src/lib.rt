@@ -1,7 +1,10 @@
-//! Tests of `slave_core` and `master_core`, and of crates that run or judge ends, with one module for each crate. The
-//! expected values were found without this code. Tests of lower crates are in `worked_cases`.
+//! Tests of `slave_core` and `master_core`, and of crates that run or judge ends, with one module for each crate; one
+//! module is for what errors say. The expected values were found without this code. Tests of lower crates are in
+//! `worked_cases`.
 #![tactic(auto)]
 
+#[cfg(test)]
+mod error_texts;
 #[cfg(test)]
 mod of_master_core;
 #[cfg(test)]
