@@ -9,6 +9,7 @@
 //! let mut channel = black_channel::PerfectChannel::new(rt.alloc())?;
 //! let mut plant = plant_core::Plant::new(rt.alloc(), &conf, KindOf::Handed(Zeros), &mut channel)?;
 //! plant.step(&plant_model::PlantEvent::Tick, &mut channel)?;
+//! plant.change_app(KindOf::Handed(Zeros))?;
 //! assert_eq!(rt; plant.slave_state(1).name(), "Data");
 //! ```
 #![tactic(auto)]
