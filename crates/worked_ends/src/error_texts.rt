@@ -9,8 +9,14 @@ use std::test::Fail;
 
 #[test]
 fn settings_name_the_number(rt: HostRuntime) -> Result<(), Fail> {
-    let said = format!(in rt.alloc(); "{BadLength}; {}; {}; {}; {}; {}",
-        BadSetting::Conn, BadSetting::Watchdog, BadSetting::Hand, BadSetting::Most, BadSetting::Rule)?;
+    let said = format!(in rt.alloc();
+        "{BadLength}; {}; {}; {}; {}; {}",
+        BadSetting::Conn,
+        BadSetting::Watchdog,
+        BadSetting::Hand,
+        BadSetting::Most,
+        BadSetting::Rule
+    )?;
     assert_eq!(rt;
         said.as_str(),
         "a length is 1 or an even number from 2 to 126; the connection id is 0; the watchdog is 0; \
@@ -22,9 +28,16 @@ fn settings_name_the_number(rt: HostRuntime) -> Result<(), Fail> {
 
 #[test]
 fn faults_name_connections_and_slots(rt: HostRuntime) -> Result<(), Fail> {
-    let said = format!(in rt.alloc(); "{}; {}; {}; {}; {}; {}; {}",
-        NewFault::TooMany, NewFault::SameConn { a: 3, b: 5 }, NewFault::Memory,
-        SlotFault::TooMany, SlotFault::Bounds { slot: 7 }, SlotFault::Overlap { a: 2, b: 9 }, SlotFault::Memory)?;
+    let said = format!(in rt.alloc();
+        "{}; {}; {}; {}; {}; {}; {}",
+        NewFault::TooMany,
+        NewFault::SameConn { a: 3, b: 5 },
+        NewFault::Memory,
+        SlotFault::TooMany,
+        SlotFault::Bounds { slot: 7 },
+        SlotFault::Overlap { a: 2, b: 9 },
+        SlotFault::Memory
+    )?;
     assert_eq!(rt;
         said.as_str(),
         "there are more than 64 connections; connections 3 and 5 have the same connection id; there was no memory; \
@@ -36,9 +49,19 @@ fn faults_name_connections_and_slots(rt: HostRuntime) -> Result<(), Fail> {
 
 #[test]
 fn causes_name_what_is_wrong_in_a_line(rt: HostRuntime) -> Result<(), Fail> {
-    let said = format!(in rt.alloc(); "{}; {}; {}; {}; {}; {}; {}; {}; {}; {}",
-        LineCause::Header, LineCause::Word, LineCause::Fields, LineCause::Number, LineCause::NoLink,
-        LineCause::Reference, LineCause::Hex, LineCause::Length, LineCause::Range, LineCause::Position)?;
+    let said = format!(in rt.alloc();
+        "{}; {}; {}; {}; {}; {}; {}; {}; {}; {}",
+        LineCause::Header,
+        LineCause::Word,
+        LineCause::Fields,
+        LineCause::Number,
+        LineCause::NoLink,
+        LineCause::Reference,
+        LineCause::Hex,
+        LineCause::Length,
+        LineCause::Range,
+        LineCause::Position
+    )?;
     assert_eq!(rt;
         said.as_str(),
         "the line may not stand here; the first word is not that of an event; \

@@ -15,6 +15,8 @@ mod of_duo_run;
 #[cfg(test)]
 mod of_plant_conf;
 #[cfg(test)]
+mod of_plant_core;
+#[cfg(test)]
 mod of_plant_run;
 #[cfg(test)]
 mod of_schedule_file;
