@@ -5,9 +5,6 @@ use Rattle.std.proofs.lemmas.Option.{slice_get-get_or, slice_get_read}
 use Rattle.duo_run.proofs.Pairs.Noted.{noted_all, noted_more, noted_none}
 use Rattle.duo_run.proofs.telling.note_others.Goals as goal
 
-pub loop-i-init : goal.loop-i-init
-loop-i-init c = noted_none _ _ _
-
 pub returns : goal.returns
 returns c = noted_all _ c.loop-i.i _ _ _ (omega arith) c.loop-i.invariant
 

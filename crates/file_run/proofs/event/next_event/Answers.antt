@@ -8,10 +8,6 @@ returns-in-Err-read_after-clause-finds g c = λ k.
     let line = c.in-Ok.ensures.finds in
     refused_event_line (g.F.Format.format k).event (g.F.Format.says c.args.grammar.now) c.args.full _ _ c.next_line.new.reader.line c.in-Err-read_after.cause line.0 line.1 (sym (rw c.line.ensures at c.in-Err-read_after.ensures k))
 
-pub returns-in-Err-clause-finds : goal.returns-in-Err-clause-finds
-returns-in-Err-clause-finds g c = λ k.
-    no_event_line (g.F.Format.format k).event (g.F.Format.says c.args.grammar.now) c.args.full c.in-Err.why _ _ _ c.in-Err.ensures.finds
-
 pub returns-in-Err-read_after-clause-goes : goal.returns-in-Err-read_after-clause-goes
 returns-in-Err-read_after-clause-goes g c =
     let line = c.in-Ok.ensures.finds in

@@ -45,16 +45,6 @@ loop-why-init g c =
           (sym c.in-Ok-false.ensures.done ∙ c.in-Ok-false.field-0-test) (omega (arith, c.requires.lines)),
     )
 
-pub returns-in-Ok-true-next_header_line-clause-kind : goal.returns-in-Ok-true-next_header_line-clause-kind
-returns-in-Ok-true-next_header_line-clause-kind g c = c.next_header_line.ensures.kind ∙ c.loop-why.invariant.2
-
-pub returns-in-Ok-true-next_header_line-clause-cause : goal.returns-in-Ok-true-next_header_line-clause-cause
-returns-in-Ok-true-next_header_line-clause-cause g c = c.in-Ok-true-next_header_line.ensures.cause ∙ c.loop-why.invariant.3
-
-pub returns-in-Err-next_header_line-clause-cause : goal.returns-in-Err-next_header_line-clause-cause
-returns-in-Err-next_header_line-clause-cause g c =
-    blames_since Bool (Unit {0}) c.in-Err-next_header_line.why _ _ _ c.loop-why.invariant.3 c.in-Err-next_header_line.ensures.cause
-
 pub returns-in-Ok-true-next_header_line-clause-took : goal.returns-in-Ok-true-next_header_line-clause-took
 returns-in-Ok-true-next_header_line-clause-took g c =
     let finds = c.in-Ok-true-next_header_line.ensures.finds in

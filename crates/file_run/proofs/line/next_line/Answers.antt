@@ -10,8 +10,3 @@ returns-in-Err-clause-finds g c =
 pub returns-in-Err-clause-goes : goal.returns-in-Err-clause-goes
 returns-in-Err-clause-goes g c =
     rw c.halt_of.ensures (none_goes c.in-Err.fault c.lines-before.result c.args.reader.now.lines c.advance.new.self.lines _ _ c.lines-before.ensures c.in-Err.ensures.bytes)
-
-pub returns-in-Ok-false-clause-goes : goal.returns-in-Ok-false-clause-goes
-returns-in-Ok-false-clause-goes g c =
-    let read = rw c.in-Ok-false.field-0-test at c.in-Ok-false.ensures.bytes in
-    (ap (λ (n : ℕ). n + 1) c.lines-before.ensures, took_nothing _ _ read.1)

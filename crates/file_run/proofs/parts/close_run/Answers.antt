@@ -4,7 +4,3 @@ use Rattle.file_run.proofs.parts.close_run.Goals as goal
 pub returns-in-Ok-clause-writes : goal.returns-in-Ok-clause-writes
 returns-in-Ok-clause-writes g c =
     writes_after c.args.output.now c.put_text.new.output _ _ _ _ _ _ _ c.args.ended c.close.result c.in-Ok.ensures.puts c.in-Ok.ensures.cause.stayed c.close.ensures.writes
-
-pub returns-in-Err-clause-writes : goal.returns-in-Err-clause-writes
-returns-in-Err-clause-writes g c =
-    writes_cut c.in-Err.field-0 c.args.output.now c.put_text.new.output _ _ _ _ _ c.args.ended c.write_failed.result c.in-Err.ensures.puts c.in-Err.ensures.cause.failed c.write_failed.ensures.status c.write_failed.ensures.place

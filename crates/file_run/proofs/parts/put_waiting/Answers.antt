@@ -13,33 +13,6 @@ loop-part-init g c = record {
   stays = refl;
 }
 
-pub more-requires : goal.more-requires
-more-requires g c =
-    let first = c.requires.stands.0 in
-    (first, still_stands _ _ (c.loop-part.invariant.kept first) c.requires.stands.1)
-
-pub returns-then-is_empty-clause-puts : goal.returns-then-is_empty-clause-puts
-returns-then-is_empty-clause-puts g c =
-    putting_all _ _ _ _ _ _ c.loop-part.invariant.putting (c.more.ensures.some (sym c.bytes-part.ensures.value ∙ is_none c.bytes-part.result.now (sym c.if-is_empty.true ∙ c.is_empty.ensures)))
-
-pub returns-then-is_empty-clause-count : goal.returns-then-is_empty-clause-count
-returns-then-is_empty-clause-count g c = omega (arith, c.loop-part.invariant.room)
-
-pub returns-then-is_empty-clause-most : goal.returns-then-is_empty-clause-most
-returns-then-is_empty-clause-most g c = c.loop-part.invariant.most
-
-pub returns-then-is_empty-clause-kept : goal.returns-then-is_empty-clause-kept
-returns-then-is_empty-clause-kept g c = λ first h log text stood. c.more.ensures.kept first h log text (c.loop-part.invariant.kept first h log text stood)
-
-pub returns-then-is_empty-clause-cause : goal.returns-then-is_empty-clause-cause
-returns-then-is_empty-clause-cause g c = record { later = omega (arith, c.loop-part.invariant.stays); failed = tt; stayed = c.loop-part.invariant.stays }
-
-pub put-requires-clause-count : goal.put-requires-clause-count
-put-requires-clause-count g c = omega (arith, c.loop-part.invariant.room, c.requires.room)
-
-pub loop-part-smaller : goal.loop-part-smaller
-loop-part-smaller g c = c.more.ensures.fewer (not_none c.more.new.text c.bytes-part.result.now c.bytes-part.ensures.value (sym c.if-is_empty.false ∙ c.is_empty.ensures))
-
 pub loop-part-preserved : goal.loop-part-preserved
 loop-part-preserved g c = record {
   putting = putting_more _ _ _ _ _ _ _ _ c.bytes-part.result.now _ c.loop-part.invariant.putting (rw c.bytes-part.ensures.value c.more.ensures.part) c.in_default.ensures.puts;
@@ -55,13 +28,3 @@ pub returns-in-Err-clause-puts : goal.returns-in-Err-clause-puts
 returns-in-Err-clause-puts g c =
     putting_lost c.in-Err.failed c.args.output.now c.loop-part.output c.put.new.self (g.K.Sink.written c.args.sink.now) (g.K.Sink.written c.loop-part.sink) (g.K.Sink.written c.put.new.sink) _ _ c.bytes-part.result.now
     (g.M.Machine.waits c.more.new.self c.args.handed.now) c.loop-part.invariant.putting (rw c.bytes-part.ensures.value c.more.ensures.part) c.in-Err.ensures.puts
-
-pub returns-in-Err-clause-kept : goal.returns-in-Err-clause-kept
-returns-in-Err-clause-kept g c = λ first h log text stood. c.more.ensures.kept first h log text (c.loop-part.invariant.kept first h log text stood)
-
-pub returns-in-Err-clause-cause : goal.returns-in-Err-clause-cause
-returns-in-Err-clause-cause g c = record {
-  later = omega (arith, c.loop-part.invariant.stays, c.in-Err.ensures.cause.later);
-  failed = rose_since _ _ _ c.loop-part.invariant.stays c.in-Err.ensures.cause.failed;
-  stayed = tt;
-}

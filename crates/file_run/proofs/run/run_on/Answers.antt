@@ -38,8 +38,3 @@ returns-in-Some-take_line g c =
     let k = c.in-Ok.ensures.kind in
     let ends = c.in-Some-take_line.ensures c.args.handed.now k.0 _ _ _ k.1 (c.in_default.ensures c.args.handed.now k.0 _ k.1 c.loop-ended.invariant) in
     (ends.0, inr ends.1)
-
-pub loop-ended-preserved : goal.loop-ended-preserved
-loop-ended-preserved g c =
-    let k = c.in-Ok.ensures.kind in
-    c.in_default-take_line.ensures c.args.handed.now k.0 _ _ _ k.1 (c.in_default.ensures c.args.handed.now k.0 _ k.1 c.loop-ended.invariant)

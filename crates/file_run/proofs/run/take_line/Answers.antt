@@ -7,15 +7,6 @@ use Rattle.file_run.proofs.Running.{ends_at_end, ends_lost, ends_stopped, event_
 use Rattle.file_run.proofs.Sending.{rose_since}
 use Rattle.file_run.proofs.run.take_line.Goals as goal
 
-pub report-requires : goal.report-requires
-report-requires g c =
-    let first = c.requires.0 in
-    let k = c.requires.1 in
-    let same = c.requires.5 in
-    let read = c.requires.6 in
-    let finds = finds_event (g.M.Format.Format.format k) (g.M.Machine.reporting first).format _ _ _ (Some c.in-Some.event.now) _ _ same (c.in-Some.ensures k) read.finds in
-    (first, event_may_come (g.M.Machine.reporting first) _ _ _ _ _ _ _ _ _ _ _ c.in-Some.event.now read.running finds read.few)
-
 pub returns-in_default : goal.returns-in_default
 returns-in_default g c =
     λ first k s left faults same read.

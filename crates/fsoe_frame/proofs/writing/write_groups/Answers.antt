@@ -26,8 +26,3 @@ loop-group-preserved c =
     (number_taken (4 * i + 2) (4 * (i + 1)) crc begun c.write_u16-in-loop-group.new.buf _ _ c.write_u16-in-loop-group.ensures
     (let fits = c.type_inv.crcs i in omega arith) (omega (arith, same, pair)) (omega arith)
     ∙ ap (λ xs. xs ++ low_high crc) (put_taken (4 * i) (4 * i + 2) c.loop-group.out c.copy_from_slice.new.self _ _ (omega (arith, pair)) (omega arith) c.copy_from_slice.ensures.after))
-
-pub returns : goal.returns
-returns c =
-    all_written c.args.load.now c.args.crcs.now c.loop-group.out (with_crcs (groups c.args.load.now) c.args.crcs.now) c.loop-group.group
-    c.requires.valid c.if-load-eq1.false c.requires.one_each c.loop-group-test.false (omega arith) c.loop-group.invariant

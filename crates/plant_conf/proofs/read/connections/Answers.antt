@@ -23,19 +23,8 @@ returns-else-is_empty-clause-count c = ok-then c.read_each.result _ _ c.read_eac
     c.in-Some.ensures c.in-Some-tables_in.ensures.0 c.in-Some-tables_in.ensures.1 in
     omega (arith, counted, as_many))
 
-pub returns-else-is_empty-clause-some : goal.returns-else-is_empty-clause-some
-returns-else-is_empty-clause-some c = ok-then c.read_each.result _ _ c.read_each.ensures.count (λ all as_many.
-    let long : 0 < length c.in-Some-tables_in.array.now.items = grind (arith, nat_tests) in
-    omega (arith, long, as_many))
-
 pub returns-else-is_empty-clause-refuses : goal.returns-else-is_empty-clause-refuses
 returns-else-is_empty-clause-refuses c = err-then c.read_each.result _ _ c.read_each.ensures.refuses (λ e said other.
     let long : 0 < length c.in-Some-tables_in.array.now.items = grind (arith, nat_tests) in
     connections-read (table_view c.args.document.now) c.whole-key.result (view c.in-Some.value.now) c.in-Some-tables_in.array.now.items _ c.whole-key.ensures
     c.in-Some.ensures c.in-Some-tables_in.ensures.0 c.in-Some-tables_in.ensures.1 long (said other))
-
-pub returns-else-is_empty-clause-same_lengths : goal.returns-else-is_empty-clause-same_lengths
-returns-else-is_empty-clause-same_lengths c = ok-then c.read_each.result _ _ c.read_each.ensures.holds (λ all holds k d lt. (holds k d lt).0)
-
-pub returns-else-is_empty-clause-profile_one : goal.returns-else-is_empty-clause-profile_one
-returns-else-is_empty-clause-profile_one c = ok-then c.read_each.result _ _ c.read_each.ensures.holds (λ all holds k d lt. (holds k d lt).1)

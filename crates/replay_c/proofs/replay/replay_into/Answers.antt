@@ -12,9 +12,6 @@ leaves c =
     (leaves_memory c.new.result.left.now c.run_pair.result (Some c.run_pair.new.source.left.now) old.memory.ghost_name old.before.bytes (take old.len old.memory.now)
     new.memory.ghost_name new.before.bytes written old.refusals new.refusals (ap (λ (n : ℕ). take n old.memory.now) c.requires.empty) c.run_pair.ensures)
 
-pub returns-clause-same_memory : goal.returns-clause-same_memory
-returns-clause-same_memory c = (leaves c).name_is
-
 pub returns-clause-same_before : goal.returns-clause-same_before
 returns-clause-same_before c = (leaves c).before_is
 

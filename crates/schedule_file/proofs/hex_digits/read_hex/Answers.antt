@@ -27,6 +27,3 @@ returns-then-seen-lt256-clause-value c =
     let at : c.loop-i.i ≡ length text / 2 = omega arith in
     subst (λ (n : ℕ). Some (take n c.loop-i.out) ≡ bytes_said most text) at
     (all_read most c.loop-i.i text c.loop-i.out (omega arith) (omega arith) (omega arith) (omega arith) (c.loop-i.invariant.0 c.if-seen-lt256.true))
-
-pub returns-else-seen-lt256-clause-value : goal.returns-else-seen-lt256-clause-value
-returns-else-seen-lt256-clause-value c = sym (c.loop-i.invariant.1 (omega arith) (length c.args.out.now))

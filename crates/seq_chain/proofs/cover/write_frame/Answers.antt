@@ -3,13 +3,6 @@ use Rattle.std.proofs.Common.{◌∷◌, [], sym, arith, append_assoc}
 use Rattle.seq_chain.proofs.NextGroup.{first_crc, next_crc}
 use Rattle.seq_chain.proofs.cover.write_frame.Goals as goal
 
-pub loop-group-init : goal.loop-group-init
-loop-group-init c = record {
-  whole = λ last conn cmd is.
-      rw (c.push.ensures.items, c.new-crcs.ensures) (sym (first_crc last conn c.args.frame.now.number cmd c.args.frame.now.first c.args.load.now (grind (arith, c.requires)) is.first_is));
-  len = grind (arith, c.push.ensures.len, c.new-crcs.ensures);
-}
-
 pub loop-group-preserved : goal.loop-group-preserved
 loop-group-preserved c = record {
   whole = λ last conn cmd is.

@@ -5,9 +5,6 @@ use Rattle.node_runner.proofs.node.NodeMachine.report.Goals as goal
 pub step-requires-clause-fits : goal.step-requires-clause-fits
 step-requires-clause-fits c = node_fits c.requires.0 c.args.self.now.core c.args.event.now c.args.number c.requires.1
 
-pub step-requires-clause-rest : goal.step-requires-clause-rest
-step-requires-clause-rest c = node_rests c.requires.0 c.args.self.now.core c.args.event.now c.args.number c.requires.1
-
 pub returns-clause-takes_event : goal.returns-clause-takes_event
 returns-clause-takes_event c = λ end.
     takes_one _ _ c.args.event.now c.args.number c.write_entry.new.text

@@ -27,7 +27,3 @@ returns-clause-starts g c =
       offers = offers;
       begins = begins;
     }))
-
-pub returns-clause-fixed : goal.returns-clause-fixed
-returns-clause-fixed g c =
-    c.start.ensures.fixed ∙ ap fixed_in (c.in_ok-connect.ensures.links ∙ ap₂ (links_made 1) c.bounds.ensures.value c.links-links.ensures.value)
