@@ -1,4 +1,5 @@
--- The names that most proofs of this crate cite, passed on from one place. Declares nothing.
+-- The names that more than one file of these proofs cites, passed on from one place. Declares nothing.
+pub use Rattle.black_channel.specs.Altered.{altered, back_th}
 pub use Rattle.black_channel.specs.Window.{Pushes, WindowView, window_of}
 pub use Rattle.duo_run.specs.Acts.{Acts, Comes, Happens, Hears, MasterActs, SlaveActs, heard_at, move_at}
 pub use Rattle.duo_run.specs.Bulk.{entries_of, number_line, report_of, summary_lines}
@@ -14,35 +15,52 @@ pub use Rattle.duo_run.specs.declared.summary.Summary.{Summary}
 pub use Rattle.end_model.specs.Deed.{Deed, delivered, is_empty}
 pub use Rattle.end_model.specs.Runs.{IsProper, IsRun, entries}
 pub use Rattle.end_model.specs.Setup.{OfMaster, OfSlave, Setup}
+pub use Rattle.end_model.specs.Step.{run, step}
 pub use Rattle.exchange_model.proofs.Fairness.Headline.{fair_before, fair_world}
 pub use Rattle.exchange_model.proofs.Honest.ServingRuns.{honest_fair, honest_serves}
 pub use Rattle.exchange_model.proofs.Worlds.Longer.{world_missed, world_next, world_on}
 pub use Rattle.exchange_model.proofs.Worlds.Others.{before_is_clean, before_is_world, number_of_first}
 pub use Rattle.exchange_model.specs.Ends.{of_end, peer, same_end}
 pub use Rattle.exchange_model.specs.Fair.{Fair, data_taken, takes_data}
+pub use Rattle.exchange_model.specs.Honest.{IsHonest, Match, if_on, in_turn, is_plain, keeps_time}
 pub use Rattle.exchange_model.specs.Monitor.{MonitorView, NotesParts}
 pub use Rattle.exchange_model.specs.Other.{before_other, first_of_both, first_other}
 pub use Rattle.exchange_model.specs.Schedules.{IsNextEntry, IsProperEvent, IsWorld, moves}
 pub use Rattle.exchange_model.specs.Serving.{HasNoReset, Serves, TakesDelivery, state_told}
 pub use Rattle.exchange_model.specs.World.{SameLengths, altered_delivery, deed_in, deeds, delivery, end_of_event, entry_at, entry_on, frames_of, going_on, move_from, next_entry, setup_of, world, world_after}
+pub use Rattle.file_run.proofs.EndedWith.{ended_whole}
+pub use Rattle.file_run.proofs.Lines.{by_line, lines_whole}
+pub use Rattle.file_run.proofs.Sending.{Sent, cut_part, grew_written, piece_part, rose_since, sent_flushed, sent_none, sent_piece, text_part}
+pub use Rattle.file_run.proofs.Taken.{halts_after, took_line, took_none, took_one}
+pub use Rattle.file_run.specs.ByTitle.{ByTitle, IsTitled, first_line}
+pub use Rattle.file_run.specs.Ending.{AppendedPart, Writes}
 pub use Rattle.file_run.specs.Machine.{EndsReport, EndsUnmet, IsSaid, MayCome, TakesEvent}
 pub use Rattle.file_run.specs.Outside.{CountsFaults, Outside, Told, Wrote}
 pub use Rattle.file_run.specs.Ran.{EndsWhole, RanOver, line_of_end}
+pub use Rattle.file_run.specs.Refusal.{input_cause}
 pub use Rattle.file_run.specs.Report.{ended_with, events_line, other_line, refused_line}
 pub use Rattle.file_run.specs.Reporting.{IsPrefix, ReportsSoFar, input_stopped, refused_at}
+pub use Rattle.file_run.specs.Waiting.{WaitingText}
 pub use Rattle.fsoe_base.specs.LengthsOf.{length_of}
 pub use Rattle.fsoe_base.specs.declared.command.End.{End}
 pub use Rattle.fsoe_base.specs.declared.command.State.{State}
 pub use Rattle.fsoe_base.specs.declared.did.Did.{Did}
 pub use Rattle.fsoe_base.specs.declared.lengths.Lengths.{Lengths}
+pub use Rattle.fsoe_io.specs.Line.{HasNoNewline, IsLine, is_newline, most_held}
 pub use Rattle.fsoe_io.specs.declared.status.Ended.{Ended}
 pub use Rattle.master_core.specs.Standing.{MasterIsAfter}
 pub use Rattle.param_load.specs.Profile.{allows_id}
 pub use Rattle.param_load.specs.declared.entry.Entry.{Entry}
+pub use Rattle.param_load.specs.declared.entry.Move.{Move}
 pub use Rattle.param_load.specs.declared.master_settings.MasterSettings.{MasterSettings}
 pub use Rattle.param_load.specs.declared.profile.Profile.{Profile}
 pub use Rattle.param_load.specs.declared.profile.Profiles.{Profiles}
 pub use Rattle.param_load.specs.declared.slave_settings.SlaveSettings.{SlaveSettings}
+pub use Rattle.param_load.specs.declared.terms.Terms.{Terms}
+pub use Rattle.schedule_file.proofs.Fitting.{events_fit, pair_event_fits}
+pub use Rattle.schedule_file.proofs.OneSetting.{one_master, one_slave}
+pub use Rattle.schedule_file.proofs.Pairs.{numbered_map, same_ends}
+pub use Rattle.schedule_file.proofs.PairsFitting.{pairs_event_fits, pairs_events_fit}
 pub use Rattle.schedule_file.proofs.Sound.{IfOk-every, IfOk-map, Sound, after_sound, each, gives_master, gives_slave, known, master_settings, new_sound, slave_settings}
 pub use Rattle.schedule_file.specs.Event.{Fits, FitsMade, IsWritable, made_profiles, profile_of}
 pub use Rattle.schedule_file.specs.Field.{bytes_said, fields_of, is_number, number_said}
@@ -50,13 +68,17 @@ pub use Rattle.schedule_file.specs.Fields.{by_word, one_field, one_hex_field, va
 pub use Rattle.schedule_file.specs.Header.{Heading, IsMasterOf, IsSlaveOf, fields_taken, heading_after, heading_is_whole, heading_new, heading_with, profile_given, profile_taken, rule_place, title_taken}
 pub use Rattle.schedule_file.specs.Input.{AtEnd, Input, InputCause, InputOf, Line, Long, NoFrame, NoLine, Refused, Stop, TooMany, WholeHeader, WholeHeaderOf, event_of, header_in, header_of, header_step, heading_profile, input_after, input_by, input_of, input_read, is_full, lines_in, lines_of, open_line, own_length, said_after, schedule_format, steps, stop_at, stop_by, stop_full, texts, with_room}
 pub use Rattle.schedule_file.specs.Made.{event_at, event_by, event_in_turn, is_switch_on, load_of, made, made_lengths, made_master, made_slave, mask_of, place_of, word_after}
+pub use Rattle.schedule_file.specs.NodeHeader.{may_end}
+pub use Rattle.schedule_file.specs.PairEvent.{pair_said, pair_said_by, pair_word_of}
 pub use Rattle.schedule_file.specs.PairsEvent.{numbered, pairs_line}
 pub use Rattle.schedule_file.specs.PairsFit.{FitsEnds, FitsPair, PairsLineFits, line_of_event, with_pair}
 pub use Rattle.schedule_file.specs.PairsHeader.{PairsHeading, is_done, last_taken, next_pair, pair_begun, pair_taken, pairs_begun, pairs_heading_after, pairs_heading_is_whole, pairs_heading_new, pairs_line_taken, pairs_of, stage_after}
 pub use Rattle.schedule_file.specs.PairsInput.{entries_by, pairs_are_full, pairs_format, pairs_input, pairs_said_after}
+pub use Rattle.schedule_file.specs.Place.{admitted, header_word_of, is_start}
 pub use Rattle.schedule_file.specs.declared.event.Event.{Event}
 pub use Rattle.schedule_file.specs.declared.event.ScheduleLine.{ScheduleLine}
 pub use Rattle.schedule_file.specs.declared.line_cause.LineCause.{LineCause}
 pub use Rattle.schedule_file.specs.declared.pairs_header.PairsStage.{PairsStage}
 pub use Rattle.schedule_file.specs.declared.pairs_line.PairsEvent.{PairsEvent}
+pub use Rattle.slave_core.specs.SlaveView.{SlaveView}
 pub use Rattle.slave_core.specs.Standing.{SlaveIsAfter}

@@ -1,5 +1,5 @@
 -- The codes that an end finds and sends are at most 0Bh.
-use Rattle.end_model.proofs.Common.{Answers, Cause, Code, Command, Deed, Did, Expires, Fails, Frame, IsProper, IsRun, MasterSettings, Move, OfMaster, OfSlave, PeerResets, Profile, Reaction, Refuses, ResetsItself, SendsAgain, Setup, SlaveSettings, State, Taking, WrongContents, WrongReset, code, contents, data_fault, first_of, has_command, id_len, master_fault, number_at, parts, piece_len, rule_len, slave_fault, slave_upload_fault, step, uploaded}
+use Rattle.end_model.proofs.Common.{Answers, AppRule, Cause, Code, Command, Deed, Did, Expires, Fails, Frame, IsProper, IsRun, MasterSettings, Move, OfMaster, OfSlave, PeerResets, Profile, Reaction, Refuses, ResetsItself, SendsAgain, Setup, SlaveSettings, State, Taking, WrongContents, WrongReset, code, communication_fault, contents, data_fault, fails, field_fault, first_of, has_command, id_len, master_fault, number_at, parts, piece_len, rule_len, slave_fault, slave_upload_fault, step, uploaded, word_is}
 use Rattle.std.proofs.Common.{◌≡◌, ◌==◌, ◌≤◌, ◌+◌, ℕ, nat_eq, nat_le, nat_lt, Bool, true, false, ◌&&◌, not, List, ◌++◌, length, take, Option, Some, None, IfSome, IfErr, Result, Ok, Err, if◌then◌else◌, refl, subst, arith}
 use Rattle.std.specs.Option.{option_or}
 use Rattle.std.specs.Cmp.Lexicographic.{pointwise}
@@ -7,10 +7,8 @@ use Rattle.fsoe_base.specs.declared.command.State.TheVariants as state
 use Rattle.fsoe_base.specs.declared.command.Command.TheVariants as command
 use Rattle.fsoe_base.specs.declared.did.Cause.TheVariants as cause
 use Rattle.seq_chain.specs.Reset.{reset_crcs, zeros_follow, reset_view}
-use Rattle.param_load.specs.declared.app_rule.AppRule.{AppRule}
 use Rattle.param_load.specs.declared.contents.Expected.{Expected}
 use Rattle.param_load.specs.declared.contents.Expected.TheVariants as expected
-use Rattle.param_load.specs.Contents.{fails, word_is, communication_fault, field_fault}
 use Rattle.end_model.specs.Codes.{IsOwnReset}
 use Rattle.end_model.proofs.SoundRuns.{reacts}
 use Rattle.end_model.proofs.Taken.{exchange_of, answer_is, master_answers}

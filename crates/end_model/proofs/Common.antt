@@ -1,6 +1,7 @@
--- The names that most proofs of this crate cite, passed on from one place. Declares nothing.
+-- The names that more than one file of these proofs cites, passed on from one place. Declares nothing.
 pub use Rattle.end_model.specs.Chain.{fits, kept, newest_crc, own, own_link, seal, since, taken, taken_link}
 pub use Rattle.end_model.specs.Deed.{Deed, delivered, is_empty, of_session}
+pub use Rattle.end_model.specs.FreshIds.{DifferInFront, EndsByCrcs, NotByStep, id_front}
 pub use Rattle.end_model.specs.Outputs.{out, out_after, outputs, zeros}
 pub use Rattle.end_model.specs.Payloads.{conn_id, count_in, first_conn, has_all, id_sent, joined, joined_with, nonce, pay, piece, pieces, session_id, uploaded, whole}
 pub use Rattle.end_model.specs.Phases.{command_in, has_command, is_guarded, is_reset, phase_of, phase_of_frame, phase_of_known, same_phase}
@@ -10,6 +11,7 @@ pub use Rattle.end_model.specs.Runs.{IsProper, IsRun, IsSetting, events_of}
 pub use Rattle.end_model.specs.Setup.{OfMaster, OfSlave, Setup, piece_len, receives, sends}
 pub use Rattle.end_model.specs.Step.{after_phase, after_pieces, answer, begun, continued, deed_of, download_frame, id_piece, master_answer, on_expiry, on_fault, on_reset_frame, on_verdict, run, sealed, slave_answer, step, takes_frame, with_data, with_piece}
 pub use Rattle.end_model.specs.Verdict.{Drop, Refused, Valid, Verdict, Wrong, contents, data_fault, has_conn, is_repeat, is_slave_conn, judged, judged_contents, judged_session, master_fault, session_fault, slave_fault, slave_upload_fault, verdict}
+pub use Rattle.fsoe_base.specs.Codes.{wrong_crc}
 pub use Rattle.fsoe_base.specs.Command.{code, command_byte, command_of}
 pub use Rattle.fsoe_base.specs.Data.{is_data}
 pub use Rattle.fsoe_base.specs.Did.{at_most_one, dropped, nothing}
@@ -22,12 +24,17 @@ pub use Rattle.fsoe_base.specs.declared.did.Did.{Did}
 pub use Rattle.fsoe_base.specs.declared.did.Dropped.{Dropped}
 pub use Rattle.fsoe_frame.proofs.Places.{FrameAt, frame_at, frame_layout}
 pub use Rattle.fsoe_frame.specs.Parts.{AreBytes, Frame, bytes_of, frame_of}
+pub use Rattle.param_load.proofs.Watchdog.{first, joined_watchdog}
 pub use Rattle.param_load.specs.AppRule.{rule_len}
+pub use Rattle.param_load.specs.Contents.{app_fault, app_part, communication_fault, contents_fault, fails, field_fault, padding_fault, word_is}
 pub use Rattle.param_load.specs.Payload.{number_at, padded, session_payload}
 pub use Rattle.param_load.specs.Profile.{id_len}
+pub use Rattle.param_load.specs.declared.app_rule.AppRule.{AppRule}
 pub use Rattle.param_load.specs.declared.entry.Move.{Move}
 pub use Rattle.param_load.specs.declared.master_settings.MasterSettings.{MasterSettings}
 pub use Rattle.param_load.specs.declared.profile.Profile.{Profile}
 pub use Rattle.param_load.specs.declared.slave_settings.SlaveSettings.{SlaveSettings}
 pub use Rattle.seq_chain.specs.Cover.{crc_0, crcs_from, first_of}
+pub use Rattle.seq_chain.specs.FreshIds.{first_number, step_in_last}
 pub use Rattle.seq_chain.specs.declared.link.Link.{Link}
+pub use Rattle.seq_chain.specs.declared.opened.Opened.{Opened}

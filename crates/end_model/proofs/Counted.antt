@@ -1,13 +1,10 @@
 -- The number of application parameters in an upload is that of the slave's rule.
-use Rattle.end_model.proofs.Common.{Code, Profile, code, id_len, number_at}
+use Rattle.end_model.proofs.Common.{AppRule, Code, Profile, app_fault, app_part, code, communication_fault, contents_fault, fails, field_fault, first, id_len, number_at, padding_fault, word_is}
 use Rattle.std.proofs.Common.{◌≡◌, ◌==◌, ℕ, ◌+◌, ◌≤◌, ◌<◌, nat_le, nat_lt, Bool, true, false, ◌&&◌, not, List, ◌++◌, length, Some, None, if◌then◌else◌, refl, ◌∙◌, inl, inr, arith}
 use Rattle.std.proofs.lemmas.List.{get_or_append_left}
 use Rattle.std.proofs.lemmas.Bool.{eqb-true}
 use Rattle.std.proofs.lemmas.Bool.Decides.{leb_tells}
-use Rattle.param_load.specs.declared.app_rule.AppRule.{AppRule}
 use Rattle.param_load.specs.declared.contents.Expected.TheVariants as expected
-use Rattle.param_load.specs.Contents.{fails, word_is, communication_fault, app_fault, app_part, field_fault, padding_fault, contents_fault}
-use Rattle.param_load.proofs.Watchdog.{first}
 
 fourth : (t t' t'' t''' : Bool) (x y z w : Code) → (if t then Some x else if t' then Some y else if t'' then Some z else if t''' then Some w else None) ≡ None → t''' ≡ false
 fourth false false false false x y z w e = refl

@@ -1,18 +1,15 @@
 -- What a fresh session id excludes for certain, at a slave and at a master.
-use Rattle.end_model.proofs.Common.{Command, Deed, Frame, IsRun, IsValid, Link, MasterSettings, OfMaster, OfSlave, Profile, Refused, Setup, SlaveSettings, Valid, allowed, command_of, crc_0, first_conn, first_of, fits, frame_of, has_conn, id_len, is_guarded, is_slave_conn, kept, master_allows, newest_crc, nonce, on_fault, on_verdict, own, parts, piece_len, receives, sends, session_id, since, slave_allows, state_of, taken, taken_link, upload_is_whole, verdict, whole}
+use Rattle.end_model.proofs.Common.{Command, Deed, DifferInFront, EndsByCrcs, Frame, IsRun, IsValid, Link, MasterSettings, NotByStep, OfMaster, OfSlave, Profile, Refused, Setup, SlaveSettings, Valid, allowed, command_of, crc_0, first_conn, first_number, first_of, fits, frame_of, has_conn, id_front, id_len, is_guarded, is_slave_conn, kept, master_allows, newest_crc, nonce, on_fault, on_verdict, own, parts, piece_len, receives, sends, session_id, since, slave_allows, state_of, step_in_last, taken, taken_link, upload_is_whole, verdict, whole, wrong_crc}
 use Rattle.std.proofs.Common.{◌≡◌, ◌≢◌, ℕ, ◌<◌, ◌≤◌, ◌==◌, nat_le, List, [], ◌∷◌, length, take, bit_xor, true, false, Option, Some, None, IsTrue, if◌then◌else◌, unwrap_or, refl, sym, ap, ◌∙◌, arith}
 use Rattle.std.proofs.lemmas.Bool.Decides.{nat_tests}
 use Rattle.std.proofs.lemmas.List.{length-take}
 use Rattle.fsoe_base.specs.declared.command.State.TheVariants as state
 use Rattle.fsoe_base.specs.declared.command.Command.TheVariants as command
-use Rattle.fsoe_base.specs.Codes.{wrong_crc}
 use Rattle.fsoe_frame.proofs.Places as places
 use Rattle.seq_chain.specs.Sealing as sealing
-use Rattle.seq_chain.specs.FreshIds.{first_number, step_in_last}
 use Rattle.seq_chain.proofs.AnotherLast.{first_refused, second_refused}
 use Rattle.seq_chain.proofs.FirstGroups.{first_told, differ_in_load, crc_0_within}
 use Rattle.seq_chain.proofs.Received.{received_some}
-use Rattle.end_model.specs.FreshIds.{id_front, DifferInFront, NotByStep, EndsByCrcs}
 use Rattle.end_model.proofs.CrcTest.{ComesToCrcs, valid_is, crc_refused}
 use Rattle.end_model.proofs.IdFront.{first_load, load_bytes, load_len, front_is}
 use Rattle.end_model.proofs.NoneYet.{none_taken_link, valid_received}

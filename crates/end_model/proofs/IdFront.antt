@@ -1,11 +1,9 @@
 -- The first piece of a session id, as a frame carries it.
-use Rattle.end_model.proofs.Common.{AreBytes, OfMaster, OfSlave, Profile, Setup, is_length, padded, piece, piece_len, sends, session_payload}
+use Rattle.end_model.proofs.Common.{AreBytes, NotByStep, OfMaster, OfSlave, Profile, Setup, first_number, id_front, is_length, padded, piece, piece_len, sends, session_payload}
 use Rattle.std.proofs.Common.{◌≡◌, ℕ, zero, suc, ◌+◌, ◌-◌, ◌*◌, ◌/◌, ◌%◌, ◌==◌, ◌<◌, List, [], ◌∷◌, ◌++◌, length, take, drop, replicate, Bool, true, false, bit_xor, if◌then◌else◌, IsTrue, refl, sym, ap, ◌∙◌, lit<, arith}
 use Rattle.std.specs.Int.Bits.{xor_self, xor_mod, xor_lt}
 use Rattle.std.proofs.lemmas.Bool.Decides.{nat_tests}
 use Rattle.param_load.specs.declared.profile.Profile.TheVariants as profile
-use Rattle.seq_chain.specs.FreshIds.{first_number}
-use Rattle.end_model.specs.FreshIds.{id_front, NotByStep}
 use Rattle.end_model.proofs.SealedFrames.{padded_len, piece_place, taken_len}
 
 -- the load with the first piece of a session id

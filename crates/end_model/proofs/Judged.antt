@@ -1,10 +1,9 @@
 -- What each verdict says of the frame that it is on.
-use Rattle.end_model.proofs.Common.{Code, Command, Deed, Drop, Fails, IsRead, IsResetFrame, IsValid, NotAllowed, Refused, Setup, UnknownCommand, Valid, Verdict, Wrong, WrongConnection, WrongContents, WrongCrc, WrongReset, allowed, code, contents, fits, frame_len, has_conn, is_repeat, judged, judged_contents, judged_session, kept, parts, receives, session_fault, since, verdict}
+use Rattle.end_model.proofs.Common.{Code, Command, Deed, Drop, Fails, IsRead, IsResetFrame, IsValid, NotAllowed, Opened, Refused, Setup, UnknownCommand, Valid, Verdict, Wrong, WrongConnection, WrongContents, WrongCrc, WrongReset, allowed, code, contents, fits, frame_len, has_conn, is_repeat, judged, judged_contents, judged_session, kept, parts, receives, session_fault, since, verdict}
 use Rattle.std.proofs.Common.{◌≡◌, ◌≢◌, ℕ, List, length, Bool, true, false, Option, Some, None, Ok, refl, ap, sym, ◌∙◌}
 use Rattle.std.specs.Cmp.Lexicographic.{same_text, other_text}
 use Rattle.fsoe_base.specs.declared.command.Command.TheVariants as command
 use Rattle.fsoe_base.specs.declared.did.Dropped.TheVariants as why
-use Rattle.seq_chain.specs.declared.opened.Opened.{Opened}
 use Rattle.seq_chain.proofs.OpenedFrame as opens
 use Rattle.seq_chain.proofs.OpenedFrame.{ComesToCommand, Tested, tested}
 

@@ -1,10 +1,9 @@
 -- A frame that is kept as the one taken last is not taken again.
-use Rattle.end_model.proofs.Common.{Deed, Setup, State, command_of, dropped, frame_len, frame_of, is_repeat, judged, kept, on_verdict, receives, since, state_of, step}
+use Rattle.end_model.proofs.Common.{Deed, Opened, Setup, State, command_of, dropped, frame_len, frame_of, is_repeat, judged, kept, on_verdict, receives, since, state_of, step}
 use Rattle.std.proofs.Common.{◌≡◌, ℕ, List, length, Bool, true, false, Option, Some, None, ◌==◌, if◌then◌else◌, refl, ap, ◌∙◌}
 use Rattle.std.specs.Cmp.Lexicographic.{bytes_decides}
 use Rattle.std.proofs.lemmas.Bool.{eq-eqb}
 use Rattle.fsoe_base.specs.declared.did.Dropped.TheVariants as why
-use Rattle.seq_chain.specs.declared.opened.Opened.{Opened}
 use Rattle.seq_chain.specs.declared.opened.Opened.TheVariants as opened_as
 use Rattle.seq_chain.specs.Opened.{command_opened}
 use Rattle.param_load.specs.declared.entry.Move.TheVariants as move

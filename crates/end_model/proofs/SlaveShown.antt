@@ -1,12 +1,11 @@
 -- The outputs of a slave are those that looking back gives.
-use Rattle.end_model.proofs.Common.{Ages, Answers, Command, Deed, Did, DropsReset, Expires, IsInSession, IsValid, Move, OfSlave, PeerResets, Profile, Reaction, Refuses, ResetsItself, Rests, SendsAgain, SlaveFirstData, SlaveGoesOn, SlaveMoreData, SlaveNextPhase, SlaveRejoins, SlaveSettings, SlaveStarts, Taking, has_all, id_len, number_at, out_after, outputs, parts, phase_of, piece_len, rule_len, slave_limit, state_of, takes_frame, ticks, upload_is_whole, uploaded, whole, zeros}
+use Rattle.end_model.proofs.Common.{Ages, Answers, Command, Deed, Did, DropsReset, Expires, IsInSession, IsValid, Move, OfSlave, PeerResets, Profile, Reaction, Refuses, ResetsItself, Rests, SendsAgain, SlaveFirstData, SlaveGoesOn, SlaveMoreData, SlaveNextPhase, SlaveRejoins, SlaveSettings, SlaveStarts, Taking, has_all, id_len, joined_watchdog, number_at, out_after, outputs, parts, phase_of, piece_len, rule_len, slave_limit, state_of, takes_frame, ticks, upload_is_whole, uploaded, whole, zeros}
 use Rattle.std.proofs.Common.{◌≡◌, ◌≢◌, ℕ, suc, ◌+◌, ◌<◌, ◌≤◌, List, [], ◌∷◌, ◌++◌, length, take, drop, Bool, true, false, Some, None, nat_lt, nat_le, if◌then◌else◌, refl, sym, subst, ◌∙◌, arith}
 use Rattle.std.proofs.lemmas.Bool.{leb-true}
 use Rattle.fsoe_base.specs.declared.command.State.TheVariants as state
 use Rattle.fsoe_base.specs.declared.command.Command.TheVariants as command
 use Rattle.param_load.specs.declared.contents.Expected.TheVariants as expected
 use Rattle.param_load.specs.declared.entry.Move.TheVariants as move
-use Rattle.param_load.proofs.Watchdog.{joined_watchdog}
 use Rattle.end_model.proofs.Runs.{deed}
 use Rattle.end_model.proofs.Counted.{joined_count}
 use Rattle.end_model.proofs.SoundRuns.{handshake-on, handshake-data, next-on, next-data, data-on}

@@ -1,7 +1,6 @@
 -- A net over a list of calls.
-use Rattle.fb_net.proofs.Common.{Drive, NetBlock, NetStands, NetView, block_values, driven_images, plan}
+use Rattle.fb_net.proofs.Common.{Call, Called, Drive, NetBlock, NetStands, NetView, all_outputs, block_values, cycles_of, driven_images, plan}
 use Rattle.std.proofs.Common.{◌≡◌, ℕ, List, [], ◌∷◌, refl, sym, ap, ap₂, subst, ◌∙◌}
-use Rattle.fb_net.specs.Calls.{Call, Called, cycles_of, all_outputs}
 
 pub stands : (first last : NetView) (e : List Call) (outputs : List (List (List ℕ))) → NetStands first [] → Called first e outputs last → NetStands last (cycles_of e)
 stands first last [] [] new done = let P : NetView → Type 0 = λ v. NetStands v [] in subst P done new

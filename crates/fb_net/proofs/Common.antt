@@ -1,12 +1,16 @@
--- The names that most proofs of this crate cite, passed on from one place. Declares nothing.
+-- The names that more than one file of these proofs cites, passed on from one place. Declares nothing.
 pub use Rattle.failsafe_io.specs.Bits.{at_number, bit_at, has_bit, is_same_bit}
 pub use Rattle.failsafe_io.specs.declared.bit.Bit.{Bit}
+pub use Rattle.fb_lib.proofs.Looking.{follows_by, gives_by}
 pub use Rattle.fb_lib.specs.Cycle.{Cycle, second}
+pub use Rattle.fb_lib.specs.Kind.{takes}
 pub use Rattle.fb_lib.specs.Standing.{AreOff, BlockFollows, BlockGives, BlockStands, kind_of}
 pub use Rattle.fb_lib.specs.Steps.{BlockView, next_block, next_held, told}
 pub use Rattle.fb_lib.specs.declared.kind.BlockKind.{BlockKind}
+pub use Rattle.fb_net.specs.Calls.{Call, Called, all_outputs, cycles_of, held_after}
 pub use Rattle.fb_net.specs.Fault.{block_fault, blocks_fault, drives_fault, first_fault, wires_fault}
 pub use Rattle.fb_net.specs.Guarded.{guarded_blocks, guarded_from, is_output_guarded, is_wire_guarded}
+pub use Rattle.fb_net.specs.Meaning.{guards_of, net_holds, rule_of}
 pub use Rattle.fb_net.specs.Mirror.{mirror_images, mirrored}
 pub use Rattle.fb_net.specs.NetView.{NetView, net_block, plan}
 pub use Rattle.fb_net.specs.Outputs.{bits_on, driven_images, images_with, net_outputs, with_on, zero_images}

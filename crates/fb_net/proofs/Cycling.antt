@@ -1,8 +1,7 @@
 -- A cycle of a net.
-use Rattle.fb_net.proofs.Common.{BlockSpec, BlocksStand, Drive, KeepsPlan, NetBlock, NetCycle, NetFollows, NetGives, NetView, bit_at, bits_on, driven_images, holds_of, is_output_guarded, net_rule, plan, run_blocks, run_values}
+use Rattle.fb_net.proofs.Common.{BlockSpec, BlocksStand, Drive, KeepsPlan, NetBlock, NetCycle, NetFollows, NetGives, NetView, bit_at, bits_on, driven_images, guards_of, holds_of, is_output_guarded, net_holds, net_rule, plan, rule_of, run_blocks, run_values}
 use Rattle.std.proofs.Common.{◌≡◌, ℕ, Bool, List, [], ◌∷◌, map, length, sym, ap, ap₂, subst, ◌∙◌}
 use Rattle.failsafe_io.specs.Application.{GuardsBy}
-use Rattle.fb_net.specs.Meaning.{net_holds, rule_of, guards_of}
 use Rattle.fb_net.specs.Ran.{net_answer, Ran}
 use Rattle.fb_net.proofs.Looking.{values_are, blocks_stand}
 use Rattle.fb_net.proofs.Holding.{all_restored-back, plan_stays}

@@ -1,9 +1,8 @@
 -- A net without a fault can be stepped.
-use Rattle.fb_net.proofs.Common.{AllReady, BlockSpec, BlocksStand, Drive, NetCycle, NetStands, block_fault, blocks_fault, drives_fault, first_fault, net_block, with_block}
+use Rattle.fb_net.proofs.Common.{AllReady, BlockSpec, BlocksStand, Drive, NetCycle, NetStands, block_fault, blocks_fault, drives_fault, first_fault, net_block, takes, with_block}
 use Rattle.std.proofs.Common.{◌≡◌, ℕ, suc, ◌+◌, IsTrue, Bool, true, false, List, [], ◌∷◌, length, Option, Some, None, refl, if◌then◌else◌, arith, rules}
 use Rattle.std.specs.List.{All}
 use Rattle.std.specs.Option.{option_or}
-use Rattle.fb_lib.specs.Kind.{takes}
 use Rattle.fb_net.specs.declared.fault.NetFault.{NetFault}
 use Rattle.fb_net.specs.New.{IsNew}
 

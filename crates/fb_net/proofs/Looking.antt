@@ -1,8 +1,7 @@
 -- The values of the blocks that are stepped in order are what looking back over the net's cycles says.
-use Rattle.fb_net.proofs.Common.{AllReady, BlockSpec, BlockStands, BlocksStand, Cycle, IsReady, NetCycle, block_cycles, cycle_of, given, net_block, next_block, next_held, plan, run_blocks, run_values, told, values_from, with_block}
+use Rattle.fb_net.proofs.Common.{AllReady, BlockSpec, BlockStands, BlocksStand, Cycle, IsReady, NetCycle, block_cycles, cycle_of, given, gives_by, net_block, next_block, next_held, plan, run_blocks, run_values, told, values_from, with_block}
 use Rattle.std.proofs.Common.{◌≡◌, Bool, List, [], ◌∷◌, ◌++◌, refl, sym, ap, subst, ◌∙◌}
 use Rattle.fb_lib.specs.Value.{value}
-use Rattle.fb_lib.proofs.Looking.{gives_by}
 use Rattle.fb_net.proofs.Stepping.{next_stands}
 
 -- what a block gives in the net

@@ -1,8 +1,6 @@
 -- The rule of a net over a list of calls.
-use Rattle.fb_net.proofs.Common.{AllReady, BlockSpec, BlocksStand, IsNewNet, NetBlock, NetCycle, NetView, all_restored, block_values, cycle_of, driven_images, given, holds_of, net_outputs, plan, run_blocks, run_values}
+use Rattle.fb_net.proofs.Common.{AllReady, BlockSpec, BlocksStand, Call, IsNewNet, NetBlock, NetCycle, NetView, all_restored, block_values, cycle_of, cycles_of, driven_images, given, held_after, holds_of, net_holds, net_outputs, plan, rule_of, run_blocks, run_values}
 use Rattle.std.proofs.Common.{◌≡◌, ℕ, Bool, List, [], ◌∷◌, ◌++◌, refl, sym, ap, ◌∙◌}
-use Rattle.fb_net.specs.Meaning.{rule_of, net_holds}
-use Rattle.fb_net.specs.Calls.{Call, cycles_of, held_after}
 use Rattle.fb_net.proofs.Stepping.{next_ready}
 use Rattle.fb_net.proofs.Holding.{all_restored-back, plan_stays}
 use Rattle.fb_net.proofs.Looking.{values_are, blocks_stand}

@@ -1,11 +1,9 @@
 -- A block of a net that is stepped.
-use Rattle.fb_net.proofs.Common.{BlockFollows, BlockGives, BlockKind, BlockSpec, BlockStands, BlockView, Cycle, IsReady, NetCycle, cycle_of, given, next_block, next_held, stepped, told, wire_value}
+use Rattle.fb_net.proofs.Common.{BlockFollows, BlockGives, BlockKind, BlockSpec, BlockStands, BlockView, Cycle, IsReady, NetCycle, cycle_of, follows_by, given, gives_by, next_block, next_held, stepped, takes, told, wire_value}
 use Rattle.std.proofs.Common.{◌≡◌, ℕ, ◌<◌, ◌≤◌, IsTrue, Bool, List, ◌∷◌, length, map, refl, sym, ap, subst, ◌∙◌, arith}
 use Rattle.std.proofs.lemmas.Bool.Decides.{nat_tests}
 use Rattle.fb_lib.specs.declared.kind.BlockKind.TheVariants as kind
-use Rattle.fb_lib.specs.Kind.{takes}
 use Rattle.fb_lib.specs.declared.kind.TheConstants.{MOST_INPUTS}
-use Rattle.fb_lib.proofs.Looking.{follows_by, gives_by}
 
 -- no kind has more inputs
 most-inputs : (k : BlockKind) (n : ℕ) → IsTrue (takes k n) → n ≤ MOST_INPUTS

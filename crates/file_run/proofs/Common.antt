@@ -1,4 +1,4 @@
--- The names that most proofs of this crate cite, passed on from one place. Declares nothing.
+-- The names that more than one file of these proofs cites, passed on from one place. Declares nothing.
 pub use Rattle.file_run.specs.ByTitle.{ByTitle, IsTitled, first_line}
 pub use Rattle.file_run.specs.Ending.{AppendedPart, IsCutOff, LinesBefore, ReadLines, Writes}
 pub use Rattle.file_run.specs.Event.{FindsEvent, by_itself, in_input, says_after, says_by}
@@ -18,6 +18,9 @@ pub use Rattle.file_run.specs.Stop.{halted_by, last_of}
 pub use Rattle.file_run.specs.WholeLines.{ReadsTo, TookLines, joined}
 pub use Rattle.file_run.specs.declared.halt.Halt.{Halt}
 pub use Rattle.file_run.specs.declared.refusal.Refusal.{Refusal}
+pub use Rattle.file_run.specs.declared.stopped.Stopped.{Stopped}
+pub use Rattle.fsoe_io.proofs.Grown.{grew_then}
+pub use Rattle.fsoe_io.proofs.Passing.{grew_none, passes_none}
 pub use Rattle.fsoe_io.proofs.Taken.{consumes_then}
 pub use Rattle.fsoe_io.specs.Faults.{Rose}
 pub use Rattle.fsoe_io.specs.Line.{HasNoNewline, IsLine, is_newline, most_held}

@@ -1,12 +1,11 @@
 -- What a run leaves.
-use Rattle.file_run.proofs.Common.{AppendedPart, AtEnd, Done, Ended, EndsWhole, FindsEvent, Goes, Grew, Halt, InputCause, InputFormat, InputOf, IsBegun, IsFullness, IsOneAhead, IsPrefix, IsUnmet, LeavesAll, LeavesAs, LeavesDone, Loses, MayFailIn, NoApp, NoFrame, OutputView, Outside, Refusal, Refused, Reporting, Running, Saying, Seen, Sent, Standing, Status, Stop, StopsAfter, Writes, halt_stopped, halted_by, input_cause, input_stopped, last_of, line_after, refused_at, refused_line}
+use Rattle.file_run.proofs.Common.{AppendedPart, AtEnd, Done, Ended, EndsWhole, FindsEvent, Goes, Grew, Halt, InputCause, InputFormat, InputOf, IsBegun, IsFullness, IsOneAhead, IsPrefix, IsUnmet, LeavesAll, LeavesAs, LeavesDone, Loses, MayFailIn, NoApp, NoFrame, OutputView, Outside, Refusal, Refused, Reporting, Running, Saying, Seen, Sent, Standing, Status, Stop, Stopped, StopsAfter, Writes, halt_stopped, halted_by, input_cause, input_stopped, last_of, line_after, refused_at, refused_line}
 use Rattle.std.proofs.Common.{◌≡◌, ℕ, ◌+◌, ◌≤◌, Bool, List, [], ◌∷◌, ◌++◌, length, refl, arith, ap, sym, subst, inl, inr}
 use Rattle.std.specs.Prelude.{◌⊎◌, Ok, Err, None, Some}
 use Rattle.std.specs.declared.option.Option.{Option}
 use Rattle.std.proofs.lemmas.List.{append-nil, length-append}
 use Rattle.fsoe_io.specs.declared.status.Status.TheVariants as status
 use Rattle.file_run.specs.declared.halt.Halt.TheVariants as halt
-use Rattle.file_run.specs.declared.stopped.Stopped.{Stopped}
 use Rattle.file_run.specs.declared.stopped.Stopped.TheVariants as stopped
 use Rattle.file_run.proofs.Running.{Reports, by_seen, ended_next, event_seen, refused_after, stops_so}
 use Rattle.file_run.proofs.Sending.{cut_part, grew_written, piece_part, text_part}

@@ -1,12 +1,10 @@
 -- Texts that go through a buffer part by part.
-use Rattle.file_run.proofs.Common.{Ended, Loses, OutputView, Passes, Puts, Rose, Writes}
+use Rattle.file_run.proofs.Common.{Ended, Loses, OutputView, Passes, Puts, Rose, Writes, grew_then, passes_none}
 use Rattle.std.proofs.Common.{◌≡◌, ℕ, true, false, List, [], ◌∷◌, ◌++◌, length, refl, arith, ap, ◌∙◌, sym, append_assoc, inl, inr}
 use Rattle.std.specs.Prelude.{◌==◌, ◌≢◌, Result, Ok, Err}
 use Rattle.std.specs.declared.option.Option.{Option}
 use Rattle.std.proofs.lemmas.Bool.{eqb-true}
 use Rattle.std.proofs.lemmas.List.{append-nil, length-append}
-use Rattle.fsoe_io.proofs.Grown.{grew_then}
-use Rattle.fsoe_io.proofs.Passing.{passes_none}
 use Rattle.fsoe_io.specs.declared.status.Status.TheVariants as status
 use Rattle.file_run.proofs.Sending.{rose_since}
 

@@ -1,5 +1,5 @@
 -- A run over the events of an input, whatever they do: what was read of it and what was written.
-use Rattle.file_run.proofs.Common.{Always, AtEnd, BeforeEvents, BeginsReport, Blames, CameToEnd, Ended, EndsAs, EndsReport, EndsStopped, EndsUnmet, EndsWhole, FindsEvent, Goes, Grew, Halt, Halts, HaltsHeader, HasNoNewline, InputCause, InputFormat, InputOf, IsFullness, IsHeaderCutOff, Keeps, Loses, MayCome, MayWant, MemoryUse, Never, NoApp, NoFrame, NoLine, OutputView, Outside, Passes, ReadsWhole, Refusal, Refused, Reporting, ReportsReadLines, ReportsSoFar, Rose, Running, Saying, SaysSo, Seen, Sent, Stalls, Standing, Status, Stop, TakesEvent, TakesMemory, TookLines, Writes, Wrote, halt_stopped, halted_by, header_read, input_by, input_cause, input_headless, input_on, input_read, input_stopped, last_of, line_of_end, lines_of, more_on, most_held, most_parts, most_waiting, refused_at, refused_line}
+use Rattle.file_run.proofs.Common.{Always, AtEnd, BeforeEvents, BeginsReport, Blames, CameToEnd, Ended, EndsAs, EndsReport, EndsStopped, EndsUnmet, EndsWhole, FindsEvent, Goes, Grew, Halt, Halts, HaltsHeader, HasNoNewline, InputCause, InputFormat, InputOf, IsFullness, IsHeaderCutOff, Keeps, Loses, MayCome, MayWant, MemoryUse, Never, NoApp, NoFrame, NoLine, OutputView, Outside, Passes, ReadsWhole, Refusal, Refused, Reporting, ReportsReadLines, ReportsSoFar, Rose, Running, Saying, SaysSo, Seen, Sent, Stalls, Standing, Status, Stop, Stopped, TakesEvent, TakesMemory, TookLines, Writes, Wrote, halt_stopped, halted_by, header_read, input_by, input_cause, input_headless, input_on, input_read, input_stopped, last_of, line_of_end, lines_of, more_on, most_held, most_parts, most_waiting, refused_at, refused_line}
 use Rattle.std.proofs.Common.{◌≡◌, ℕ, ◌+◌, ◌*◌, ◌≤◌, ◌<◌, Bool, List, [], ◌∷◌, ◌++◌, length, refl, arith, ap, ◌∙◌, sym, subst}
 use Rattle.std.specs.Prelude.{false, Ok, Err, IfSome, Some, None}
 use Rattle.std.specs.declared.option.Option.{Option}
@@ -10,7 +10,6 @@ use Rattle.fsoe_io.specs.declared.status.Status.TheVariants as status
 use Rattle.schedule_file.specs.declared.event.TheConstants.{MAX_EVENTS}
 use Rattle.file_run.specs.Begun.{Begins}
 use Rattle.file_run.specs.declared.halt.Halt.TheVariants as halt
-use Rattle.file_run.specs.declared.stopped.Stopped.{Stopped}
 use Rattle.file_run.specs.declared.stopped.Stopped.TheVariants as stopped
 use Rattle.file_run.proofs.Lines.{by_line}
 use Rattle.file_run.proofs.Seen.{has_event, seen_none, seen_more, seen_same, input_refused, input_ended}

@@ -1,12 +1,10 @@
 -- What a run sent, and how it ends by that.
-use Rattle.file_run.proofs.Common.{AppendedPart, BeginsReport, CutsReport, Ended, EndsAs, FailedWrite, Grew, InputOf, IsCutOff, IsPrefix, Loses, OutputView, Outside, Passes, Reporting, Rose, Told, Writes, input_read}
+use Rattle.file_run.proofs.Common.{AppendedPart, BeginsReport, CutsReport, Ended, EndsAs, FailedWrite, Grew, InputOf, IsCutOff, IsPrefix, Loses, OutputView, Outside, Passes, Reporting, Rose, Told, Writes, grew_none, grew_then, input_read}
 use Rattle.std.proofs.Common.{◌≡◌, ℕ, ◌<◌, List, [], ◌++◌, length, arith, ap, ◌∙◌, sym, subst, append_assoc, inl, inr}
 use Rattle.std.specs.Prelude.{IfSome}
 use Rattle.std.specs.declared.option.Option.{Option}
 use Rattle.std.proofs.lemmas.List.{append-nil, length-append}
 use Rattle.std.proofs.lemmas.Option.{IfSome_then}
-use Rattle.fsoe_io.proofs.Grown.{grew_then}
-use Rattle.fsoe_io.proofs.Passing.{grew_none}
 use Rattle.fsoe_io.specs.declared.status.Status.TheVariants as status
 pub use Rattle.file_run.specs.Running.{Sent}
 

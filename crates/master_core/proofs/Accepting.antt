@@ -1,17 +1,13 @@
 -- What accepting a frame does to a master, whatever its offer and its nonce: the frame is dropped, or another one is
 -- due then.
-use Rattle.master_core.proofs.Common.{Accepted, Code, Did, Dropped, KitView, MasterView, OfMaster, Phase, SessionFrameView, accepted, accepted_by, bytes_of, code, drops, fault, is_due, is_repeat, kept_in, makes_due, next_phase, no_session, on_session, receives, refuses, resets, settles, takes}
+use Rattle.master_core.proofs.Common.{Accepted, Code, Did, Dropped, KitView, MasterView, OfMaster, OfferView, Opened, Phase, SessionFrameView, accepted, accepted_by, bytes_of, code, drops, fault, is_due, is_repeat, kept_in, makes_due, next_phase, no_session, on_session, opened, receives, refuses, resets, settles, takes, tells_due}
+use Rattle.master_core.specs.Phase.{is_reset}
 use Rattle.std.proofs.Common.{◌≡◌, ℕ, List, ◌==◌, Bool, true, false, ◌||◌, is_some, Option, Some, None, Result, Ok, Err, if◌then◌else◌, refl, sym, subst}
 use Rattle.fsoe_base.specs.declared.command.Command.TheVariants as command
 use Rattle.fsoe_base.specs.declared.did.Cause.TheVariants as cause
 use Rattle.fsoe_base.specs.declared.did.Dropped.TheVariants as dropped
-use Rattle.failsafe_io.specs.Offer.{OfferView}
-use Rattle.seq_chain.specs.declared.opened.Opened.{Opened}
 use Rattle.seq_chain.specs.declared.opened.Opened.TheVariants as opened_as
-use Rattle.seq_chain.specs.Opened.{opened}
 use Rattle.master_core.specs.declared.phase.Phase.TheVariants as phase
-use Rattle.master_core.specs.Calls.{tells_due}
-use Rattle.master_core.specs.Phase.{is_reset}
 
 -- a kit with another offer and another nonce
 abbrev with_both : KitView → OfferView → ℕ → KitView

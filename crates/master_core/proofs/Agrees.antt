@@ -1,9 +1,8 @@
 -- What an event leaves at the machine is what looking back gives: where no frame of a session is taken.
-use Rattle.master_core.proofs.Common.{AreBytes, Code, Deed, Did, Dropped, KitView, MasterSettings, MasterView, Move, OfMaster, Outcome, Phase, State, answered_by, at_limit, at_rest, code, code_sent, deed_of, dropped, drops, ends, falls, kit_of, notes_of, nothing, on_expiry, on_fault, phase_in, refuses, resets, state_of, tick_of, ticks, view_in, view_of, with_kit}
+use Rattle.master_core.proofs.Common.{AreBytes, Cause, Code, Deed, Did, Dropped, KitView, MasterSettings, MasterView, Move, OfMaster, Outcome, Phase, State, answered_by, at_limit, at_rest, code, code_sent, deed_of, dropped, drops, ends, falls, kit_of, notes_of, nothing, on_expiry, on_fault, phase_in, refuses, resets, state_of, tick_of, ticks, view_in, view_of, with_kit}
 use Rattle.std.proofs.Common.{◌≡◌, ℕ, suc, ◌+◌, ◌<◌, ◌==◌, nat_le, List, [], ◌∷◌, length, Bool, true, false, if◌then◌else◌, refl, sym, ap, subst, ◌∙◌, arith}
 use Rattle.std.proofs.lemmas.Bool.Decides.{nat_tests}
 use Rattle.fsoe_base.specs.declared.command.State.TheVariants as state
-use Rattle.fsoe_base.specs.declared.did.Cause.{Cause}
 use Rattle.fsoe_base.specs.declared.did.Cause.TheVariants as cause
 use Rattle.fsoe_base.specs.declared.did.Dropped.TheVariants as why
 use Rattle.seq_chain.specs.Reset.{reset_frame}

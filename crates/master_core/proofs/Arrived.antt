@@ -1,12 +1,11 @@
 -- What is known of a frame of a session that came, and how a master goes on by it and by the frame that follows.
-use Rattle.master_core.proofs.Common.{AreBytes, Chain, Command, Deed, MasterSettings, OfMaster, Setup, after_taken, begun, bytes_of, chain_sent, command_byte, first_of, frame_len, frame_of, frame_sent, is_empty, is_reset, notes_of, own_crc, own_link, padded, piece_from, receives, sends, taken_link, takes_frame}
+use Rattle.master_core.proofs.Common.{AreBytes, Chain, Command, Deed, MasterSettings, OfMaster, Setup, after_taken, begun, bytes_of, chain_sent, command_byte, first_of, frame_len, frame_of, frame_sent, is_empty, is_reset, notes_of, own_crc, own_link, padded, piece_from, read_back, receives, sends, taken_link, takes_frame}
 use Rattle.std.proofs.Common.{◌≡◌, ℕ, ◌≤◌, List, ◌∷◌, length, false, refl, arith}
 use Rattle.std.proofs.lemmas.Grind.{common_steps}
 use Rattle.fsoe_base.specs.declared.command.Command.TheVariants as command
 use Rattle.fsoe_frame.proofs.Places.{Whole, whole}
 use Rattle.seq_chain.specs.Sealing as sealing
 use Rattle.param_load.specs.declared.entry.Move.TheVariants as move
-use Rattle.end_model.proofs.ReadBack.{read_back}
 use Rattle.master_core.proofs.SameVerdict.{came}
 
 -- a frame of the slave's length

@@ -1,12 +1,10 @@
 -- The law over all calls of a master: after any list of them it is after their deeds, or waits after them while a frame
 -- is due.
-use Rattle.master_core.proofs.Common.{Deed, Delivery, Did, IsRun, MasterIsAfter, MasterSettings, MasterView, Move, OfMaster, Setup, Waits, begun, events_of, is_due, nothing, run, step}
+use Rattle.master_core.proofs.Common.{Accept, Call, Called, Deed, Delivery, Did, Event, IsRun, MadeAccept, MadeEvent, MadeReply, MadeSetting, MasterIsAfter, MasterSettings, MasterView, Move, OfMaster, Pending, Reply, Setting, Setup, Waits, begun, deed, deeds_of, delivery_after, events_of, is_due, left_by, nothing, pending, run, run_of_events, same_deed, set_deed, step, tells_due, with_reply}
 use Rattle.std.proofs.Common.{◌≡◌, ℕ, List, [], ◌∷◌, Bool, true, false, Option, Some, None, if◌then◌else◌, refl, sym, ap, subst, ◌∙◌}
 use Rattle.param_load.specs.declared.entry.Move.TheVariants as move
-use Rattle.end_model.proofs.Runs.{deed, same_deed, set_deed, run_of_events}
 use Rattle.end_model.specs.Reactions.{Reaction, Expires, SendsAgain, ResetsItself, Refuses, PeerResets, Answers}
 use Rattle.end_model.proofs.SoundRuns.{reacts}
-use Rattle.master_core.specs.Calls.{Call, Event, Setting, Accept, Reply, MadeEvent, MadeSetting, MadeAccept, MadeReply, Called, Pending, delivery_after, tells_due, left_by, pending, with_reply, deeds_of}
 
 -- where these deeds leave a master: it is after them, or waits after them in this delivery
 pub record AtRest (ms : MasterSettings) (v : MasterView) (e : List Deed) : Type 0 where

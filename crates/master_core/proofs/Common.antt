@@ -1,5 +1,7 @@
--- The names that most proofs of this crate cite, passed on from one place. Declares nothing.
+-- The names that more than one file of these proofs cites, passed on from one place. Declares nothing.
 pub use Rattle.end_model.proofs.Links.{own_crc, taken_crc}
+pub use Rattle.end_model.proofs.ReadBack.{read_back}
+pub use Rattle.end_model.proofs.Runs.{deed, run_of_events, same_deed, set_deed}
 pub use Rattle.end_model.specs.Chain.{fits, kept, newest_crc, own_link, seal, since, taken, taken_link}
 pub use Rattle.end_model.specs.Deed.{Deed, is_empty}
 pub use Rattle.end_model.specs.Outputs.{is_process, out, outputs, zeros}
@@ -10,16 +12,19 @@ pub use Rattle.end_model.specs.Runs.{IsProper, IsRun, IsSetting, events_of}
 pub use Rattle.end_model.specs.Setup.{OfMaster, Setup, piece_len, receives, sends}
 pub use Rattle.end_model.specs.Step.{begun, code_sent, deed_of, did_on, on_expiry, on_fault, on_reset_frame, on_verdict, run, step, takes_frame, with_data}
 pub use Rattle.end_model.specs.Verdict.{Valid, Wrong, contents, is_repeat, judged_contents, unless}
+pub use Rattle.failsafe_io.specs.Offer.{OfferView, data_command, data_load}
 pub use Rattle.fsoe_base.specs.Command.{code, command_byte}
 pub use Rattle.fsoe_base.specs.Did.{takes as accepts, dropped, nothing, resets, takes}
-pub use Rattle.fsoe_base.specs.Lengths.{frame_len, is_length}
+pub use Rattle.fsoe_base.specs.Lengths.{frame_len}
 pub use Rattle.fsoe_base.specs.declared.command.Code.{Code}
 pub use Rattle.fsoe_base.specs.declared.command.Command.{Command}
 pub use Rattle.fsoe_base.specs.declared.command.State.{State}
+pub use Rattle.fsoe_base.specs.declared.did.Cause.{Cause}
 pub use Rattle.fsoe_base.specs.declared.did.Did.{Did}
 pub use Rattle.fsoe_base.specs.declared.did.Dropped.{Dropped}
 pub use Rattle.fsoe_frame.specs.Parts.{AreBytes, Frame, bytes_of, frame_of}
 pub use Rattle.master_core.specs.After.{after, with_kit}
+pub use Rattle.master_core.specs.Calls.{Accept, Call, Called, Event, MadeAccept, MadeEvent, MadeReply, MadeSetting, Pending, Reply, Setting, deeds_of, delivery_after, left_by, pending, tells_due, with_reply}
 pub use Rattle.master_core.specs.Kit.{KitView, connection_download, parameter_download}
 pub use Rattle.master_core.specs.Master.{Accepted, Outcome, accepted, accepted_by, answered_by, at_limit, begins, drops, ends, falls, first_master, makes_due, on_reset_view, on_session, refuses, replies, settles, tick_of}
 pub use Rattle.master_core.specs.MasterView.{MasterView}
@@ -38,6 +43,8 @@ pub use Rattle.param_load.specs.declared.master_settings.MasterSettings.{MasterS
 pub use Rattle.param_load.specs.declared.terms.Terms.{Terms}
 pub use Rattle.seq_chain.specs.Chain.{after_taken, fresh}
 pub use Rattle.seq_chain.specs.Cover.{first_of}
+pub use Rattle.seq_chain.specs.Opened.{opened}
 pub use Rattle.seq_chain.specs.Session.{chain_sent, fits_next, frame_sent}
 pub use Rattle.seq_chain.specs.SessionFrame.{SessionFrameView}
 pub use Rattle.seq_chain.specs.declared.chain.Chain.{Chain}
+pub use Rattle.seq_chain.specs.declared.opened.Opened.{Opened}

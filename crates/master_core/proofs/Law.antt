@@ -1,9 +1,8 @@
 -- The law: a master that is after some deeds is, after an event, after these and the next one, and answers as that one
 -- does.
-use Rattle.master_core.proofs.Common.{Answers, Deed, Did, Follows, IsProper, IsRun, IsSetting, MasterIsAfter, MasterSettings, MasterView, Move, OfMaster, Phase, Shows, State, Terms, after, age, did_on, first_master, held, notes_of, nothing, offer, out, outputs, phase_in, state_of, terms, told_in, told_terms, view_of, zeros}
+use Rattle.master_core.proofs.Common.{Answers, Deed, Did, Follows, IsProper, IsRun, IsSetting, MasterIsAfter, MasterSettings, MasterView, Move, OfMaster, Phase, Shows, State, Terms, after, age, did_on, first_master, held, notes_of, nothing, offer, out, outputs, phase_in, set_deed, state_of, terms, told_in, told_terms, view_of, zeros}
 use Rattle.std.proofs.Common.{◌≡◌, ◌≢◌, ℕ, List, [], Bool, Option, refl, sym, ap, subst, ◌∙◌}
 use Rattle.fsoe_base.specs.declared.command.State.TheVariants as state
-use Rattle.end_model.proofs.Runs.{set_deed}
 use Rattle.end_model.proofs.Shown.{looking_back, fail_safe}
 use Rattle.master_core.specs.Phase as machine
 use Rattle.master_core.proofs.Agrees.{Agrees, AreRead}

@@ -1,12 +1,10 @@
 -- The tests of the machine end as those of looking back.
-use Rattle.master_core.proofs.Common.{Accepted, Code, Command, Deed, Dropped, Frame, MasterSettings, Notes, OfMaster, State, accepted, accepted_by, allowed, code, drops, first_of, fits, fits_next, frame_len, frame_of, kept, kit_of, master_allows, notes_of, on_reset_view, on_session, own_crc, phase_in, refuses, settles, since, state_of, taken_link, view_in}
+use Rattle.master_core.proofs.Common.{Accepted, Code, Command, Deed, Dropped, Frame, MasterSettings, Notes, OfMaster, Opened, State, accepted, accepted_by, allowed, code, drops, first_of, fits, fits_next, frame_len, frame_of, kept, kit_of, master_allows, notes_of, on_reset_view, on_session, opened, own_crc, phase_in, refuses, settles, since, state_of, taken_link, view_in}
 use Rattle.std.proofs.Common.{◌≡◌, ◌≢◌, ℕ, Bool, true, false, List, length, Option, refl, sym, ap, subst, ◌∙◌}
 use Rattle.fsoe_base.specs.declared.command.Command.TheVariants as command
 use Rattle.fsoe_base.specs.declared.command.State.TheVariants as state
 use Rattle.fsoe_base.specs.declared.did.Dropped.TheVariants as dropped
-use Rattle.seq_chain.specs.declared.opened.Opened.{Opened}
 use Rattle.seq_chain.specs.declared.opened.Opened.TheVariants as opened_as
-use Rattle.seq_chain.specs.Opened.{opened}
 use Rattle.seq_chain.specs.Sealing as sealing
 use Rattle.end_model.specs.Verdict as model
 use Rattle.seq_chain.proofs.OpenedFrame as opens

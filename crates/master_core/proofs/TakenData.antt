@@ -1,5 +1,5 @@
 -- A data frame that passed the tests of a master: what the machine does is what looking back gives.
-use Rattle.master_core.proofs.Common.{Chain, Command, Deed, MasterSettings, OfMaster, Outcome, SessionFrameView, Terms, answered_by, begun, bytes_of, code, data_answered, held, is_process, is_reset, judged_contents, kit_of, notes_of, offer, on_verdict, session_of, settles, since, takes_frame, terms_of, unless, view_in, with_data}
+use Rattle.master_core.proofs.Common.{Chain, Command, Deed, MasterSettings, OfMaster, Outcome, SessionFrameView, Terms, answered_by, begun, bytes_of, code, data_answered, data_command, data_load, held, is_process, is_reset, judged_contents, kit_of, notes_of, offer, on_verdict, session_of, settles, since, takes_frame, terms_of, unless, view_in, with_data}
 use Rattle.std.proofs.Common.{◌≡◌, ℕ, Bool, true, false, List, ◌∷◌, length, replicate, Ok, Err, if◌then◌else◌, refl, sym, ap, ◌∙◌}
 use Rattle.fsoe_base.specs.declared.command.Command.TheVariants as command
 use Rattle.fsoe_base.specs.declared.command.State.TheVariants as state
@@ -14,7 +14,6 @@ use Rattle.master_core.proofs.Agrees.{Agrees, master_at, same_master, resets-agr
 use Rattle.master_core.proofs.Arrived.{Arrived, next_frame, next_chain, chain_after}
 use Rattle.master_core.proofs.Taking.{After, takes-agree}
 use Rattle.std.proofs.lemmas.List.{length-replicate}
-use Rattle.failsafe_io.specs.Offer.{data_command, data_load}
 
 -- state Data by its parts
 pub same_data : (t : Terms) (c c' : Chain) (o o' l l' : List ℕ) → c ≡ c' → o ≡ o' → l ≡ l'

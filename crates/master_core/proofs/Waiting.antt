@@ -1,8 +1,7 @@
 -- A master that accepted a frame: what is put, held or set meanwhile counts as if it had come before, and the reply
 -- ends the delivery.
-use Rattle.master_core.proofs.Common.{Accepts, AreBytes, Deed, Delivery, Did, Dropped, IsProper, IsRun, Keeps, KitView, MasterSettings, MasterView, Move, Now, OfMaster, Replies, accepted, after, is_due, its_deed, kit_of, replied, replies, reply, view_of}
+use Rattle.master_core.proofs.Common.{Accepts, AreBytes, Cause, Deed, Delivery, Did, Dropped, IsProper, IsRun, Keeps, KitView, MasterSettings, MasterView, Move, Now, OfMaster, Replies, accepted, after, is_due, its_deed, kit_of, replied, replies, reply, view_of}
 use Rattle.std.proofs.Common.{◌≡◌, ℕ, List, Bool, false, Option, IsTrue, length, refl, sym, ap, subst, ◌∙◌}
-use Rattle.fsoe_base.specs.declared.did.Cause.{Cause}
 use Rattle.fsoe_base.specs.declared.did.Took.{Took}
 use Rattle.param_load.specs.declared.entry.Move.TheVariants as move
 use Rattle.param_load.specs.Profile.{allows_id}

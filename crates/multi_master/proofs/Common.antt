@@ -1,11 +1,15 @@
--- The names that most proofs of this crate cite, passed on from one place. Declares nothing.
+-- The names that more than one file of these proofs cites, passed on from one place. Declares nothing.
 pub use Rattle.end_model.proofs.Runs.{deed, run_append, same_deed}
 pub use Rattle.end_model.specs.Deed.{Deed}
 pub use Rattle.end_model.specs.Outputs.{held_up, out, out_after, outputs, zeros}
 pub use Rattle.end_model.specs.Readiness.{offer, state_of, told_terms}
+pub use Rattle.end_model.specs.Runs.{IsRun, events_of}
 pub use Rattle.end_model.specs.Setup.{OfMaster, Setup, receives}
+pub use Rattle.end_model.specs.Step.{run, step}
 pub use Rattle.failsafe_io.specs.Application.{Answer, GuardsBy}
+pub use Rattle.fsoe_base.specs.declared.did.Cause.{Cause}
 pub use Rattle.fsoe_base.specs.declared.did.Did.{Did}
+pub use Rattle.master_core.specs.Calls.{tells_due}
 pub use Rattle.master_core.specs.MasterView.{MasterView}
 pub use Rattle.master_core.specs.Now.{is_due}
 pub use Rattle.master_core.specs.Waiting.{Accepts, Delivery, Replies, ShowsDue, Waits}

@@ -1,11 +1,10 @@
 -- A delivery to one of many connections, by what its master and the application do.
-use Rattle.multi_master.proofs.Common.{Accepts, Answer, AnswersFrame, AppView, Call, Connection, Deed, Deliver, Did, Follows, IsWhere, MasterSettings, MasterView, Meant, MultiView, PutsEach, Replies, RunsCycle, ShowsDue, StandsFor, after, answer, changed_from, cycle_in, deed, event_at, is_due, is_heard, meant, newest_at, next_deed, numbers_of, offer_at, offer_len, out, outputs_at, own_len, same_deed, settings_in, setup, with_cycle, with_event, with_offers}
+use Rattle.multi_master.proofs.Common.{Accepts, Answer, AnswersFrame, AppView, Call, Connection, Deed, Deliver, Did, Follows, IsWhere, MasterSettings, MasterView, Meant, MultiView, PutsEach, Replies, RunsCycle, ShowsDue, StandsFor, after, answer, changed_from, cycle_in, deed, event_at, is_due, is_heard, meant, newest_at, next_deed, numbers_of, offer_at, offer_len, out, outputs_at, own_len, same_deed, settings_in, setup, tells_due, with_cycle, with_event, with_offers}
 use Rattle.std.proofs.Common.{◌≡◌, ℕ, suc, List, [], ◌∷◌, map, slice_get, slice_set, Option, Some, None, Bool, true, false, if◌then◌else◌, refl, sym, ap, ap₂, subst, ◌∙◌}
 use Rattle.std.specs.List.{AllZip}
 use Rattle.std.specs.Option.{option_map_or}
 use Rattle.std.proofs.lemmas.List.{map-set}
 use Rattle.param_load.specs.declared.entry.Move.TheVariants as move
-use Rattle.master_core.specs.Calls.{tells_due}
 use Rattle.multi_master.proofs.Following.{own_lens, cycle_answers, guards_alike}
 use Rattle.multi_master.proofs.Hearing.{replied}
 use Rattle.multi_master.proofs.Places.{at_place, map_set, set_there}

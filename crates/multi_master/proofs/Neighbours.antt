@@ -1,9 +1,7 @@
 -- Each connection's deeds are the run of its own events.
-use Rattle.multi_master.proofs.Common.{Answer, AppView, Call, ChangeApp, Connection, Deed, Deliver, MasterSettings, Meant, Move, Nonce, Tick, after, all_tick, connection, cycle_in, event_at, event_on, fresh, is_offer, meant, run_append, setup, with_cycle, with_event, with_offer, with_offers}
+use Rattle.multi_master.proofs.Common.{Answer, AppView, Call, ChangeApp, Connection, Deed, Deliver, MasterSettings, Meant, Move, Nonce, Tick, after, all_tick, connection, cycle_in, event_at, event_on, events_of, fresh, is_offer, meant, run, run_append, setup, step, with_cycle, with_event, with_offer, with_offers}
 use Rattle.std.proofs.Common.{◌≡◌, ℕ, zero, suc, ◌==◌, List, [], ◌∷◌, ◌++◌, map, slice_get, Option, Some, None, IfSome, Bool, true, false, if◌then◌else◌, refl, sym, ap, ap₂, subst, ◌∙◌, append_assoc, arith}
 use Rattle.param_load.specs.declared.entry.Move.TheVariants as move
-use Rattle.end_model.specs.Runs.{events_of}
-use Rattle.end_model.specs.Step.{step, run}
 use Rattle.multi_master.specs.Own.{own_part, own_events, is_no_put, without_puts}
 use lib.Dec.{compare_is_eq}
 use Prim.Native.Nat.compare

@@ -1,15 +1,11 @@
 -- Events that leave offers and outputs as they are.
-use Rattle.multi_master.proofs.Common.{Connection, Deed, Did, MasterSettings, Move, OfMaster, Setup, deed, held_up, next_deed, out, out_after, outputs, outputs_at, setup, with_event, zeros}
+use Rattle.multi_master.proofs.Common.{Cause, Connection, Deed, Did, IsRun, MasterSettings, Move, OfMaster, Setup, deed, held_up, next_deed, out, out_after, outputs, outputs_at, setup, step, tells_due, with_event, zeros}
 use Rattle.std.proofs.Common.{◌≡◌, ℕ, List, [], ◌∷◌, Option, Some, None, is_some, false, ◌||◌, if◌then◌else◌, refl, sym, ap, ap₂, ◌∙◌}
-use Rattle.fsoe_base.specs.declared.did.Cause.{Cause}
 use Rattle.fsoe_base.specs.declared.did.Took.{Took}
 use Rattle.param_load.specs.declared.entry.Move.TheVariants as move
 use Rattle.end_model.specs.Reactions.{Reaction, Rests, Ages, Expires, SendsAgain}
-use Rattle.end_model.specs.Step.{step}
-use Rattle.end_model.specs.Runs.{IsRun}
 use Rattle.end_model.proofs.Shown.{looking_back, fail_safe}
 use Rattle.end_model.proofs.SoundRuns.{reacts}
-use Rattle.master_core.specs.Calls.{tells_due}
 use Rattle.master_core.proofs.Calls.{quiet}
 
 -- a tick that ends no session

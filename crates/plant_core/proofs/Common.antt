@@ -1,15 +1,23 @@
--- The names that most proofs of this crate cite, passed on from one place. Declares nothing.
+-- The names that more than one file of these proofs cites, passed on from one place. Declares nothing.
 pub use Rattle.black_channel.specs.Told.{Begins, PullsParcel, PushesParcel, Told}
 pub use Rattle.black_channel.specs.declared.channel.Parcel.{Parcel}
 pub use Rattle.end_model.specs.Deed.{Deed, delivered}
 pub use Rattle.end_model.specs.Outputs.{out}
 pub use Rattle.end_model.specs.Readiness.{held, offer, reaches_limit, state_of, told_terms}
+pub use Rattle.end_model.specs.Runs.{IsProper, IsRun}
 pub use Rattle.end_model.specs.Setup.{OfMaster, OfSlave, Setup}
+pub use Rattle.end_model.specs.Step.{on_expiry, step}
 pub use Rattle.exchange_model.specs.Ends.{of_end, peer, same_end}
+pub use Rattle.exchange_model.specs.Fair.{offers_bit}
+pub use Rattle.exchange_model.specs.Items.{Unset, next_offered}
+pub use Rattle.exchange_model.specs.Monitor.{MonitorView, NotesParts, view_of}
 pub use Rattle.exchange_model.specs.World.{deed_in, deeds, frames_of, next_entry}
 pub use Rattle.fsoe_base.specs.Did.{nothing}
+pub use Rattle.fsoe_base.specs.Image.{bit_of}
 pub use Rattle.fsoe_base.specs.declared.command.End.{End}
+pub use Rattle.fsoe_base.specs.declared.command.State.{State}
 pub use Rattle.fsoe_base.specs.declared.did.Did.{Did}
+pub use Rattle.fsoe_base.specs.declared.did.Took.{Took}
 pub use Rattle.fsoe_base.specs.declared.lengths.Lengths.{Lengths}
 pub use Rattle.multi_master.proofs.Keeping.{written_back}
 pub use Rattle.multi_master.proofs.Places.{Placed, all_at, map_set, placed, same_length, some_at}
@@ -32,6 +40,8 @@ pub use Rattle.plant_model.specs.Fits.{Fits, lengths_at, lengths_in}
 pub use Rattle.plant_model.specs.Gifts.{each_uses, place_of, sent_uses}
 pub use Rattle.plant_model.specs.Pair.{has_other, is_tick, link_at, lowest_other, next_of, outputs_at, pair, pairs_by, pulls_after}
 pub use Rattle.plant_model.specs.Uses.{Trace, Use}
+pub use Rattle.plant_model.specs.declared.event.PlantEvent.{PlantEvent}
 pub use Rattle.plant_model.specs.declared.journal.JournalStep.{JournalStep}
 pub use Rattle.reaction_bound.specs.Ages.{AgesView, HasAgeParts, HasWatchdog, watchdog_in}
+pub use Rattle.slave_core.specs.SlaveView.{SlaveView}
 pub use Rattle.slave_core.specs.Standing.{Shows, SlaveIsAfter}

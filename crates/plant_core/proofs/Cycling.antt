@@ -1,17 +1,14 @@
 -- Acts that run a cycle: the offers that it changed are noted with them.
-use Rattle.plant_core.proofs.Common.{Act, AnswersFrame, AnswersTick, App, AppView, Beginning, Call, ChangeApp, Connection, Deed, Deliver, Delivers, Did, End, Entry, Event, GoesOn, Happen, HasAgeParts, HasWatchdog, HaveParts, IsOne, JournalStep, LinkConf, LinkIs, LinkStands, LinkView, LinksAre, MasterActs, MastersNoted, Meant, MultiView, OfMaster, OfSlave, OffersNoted, Parcel, Placed, PlantView, PullFrom, Setup, ShowsAt, SlavesTick, StandsFor, Tick, Told, Use, all_pushes, call_of, calls, changed, connection, deed_in, deeds, delivery_call, frames_of, frames_pushed, is_cut, journal, link_at, master_with, mastered, masters, meant, newer, newest_at, next_deed, next_entry, next_of, no_entry, nothing, offers_by, one_each, pair, pair_more, pair_own, pairs_by, peer, place_of, push_to, pushes_each, pushes_of, reaches_limit, sent_uses, settings, setup, state_of, told_terms, watchdog_in}
+use Rattle.plant_core.proofs.Common.{Act, AnswersFrame, AnswersTick, App, AppView, Beginning, Call, ChangeApp, Connection, Deed, Deliver, Delivers, Did, End, Entry, Event, GoesOn, Happen, HasAgeParts, HasWatchdog, HaveParts, IsOne, JournalStep, LinkConf, LinkIs, LinkStands, LinkView, LinksAre, MasterActs, MastersNoted, Meant, MultiView, OfMaster, OfSlave, OffersNoted, Parcel, Placed, PlantView, PullFrom, Setup, ShowsAt, SlavesTick, StandsFor, State, Tick, Told, Took, Use, all_pushes, call_of, calls, changed, connection, deed_in, deeds, delivery_call, frames_of, frames_pushed, is_cut, journal, link_at, master_with, mastered, masters, meant, newer, newest_at, next_deed, next_entry, next_of, no_entry, nothing, offers_by, on_expiry, one_each, pair, pair_more, pair_own, pairs_by, peer, place_of, push_to, pushes_each, pushes_of, reaches_limit, sent_uses, settings, setup, state_of, told_terms, watchdog_in}
 use Rattle.std.proofs.Common.{false, true, ◌≡◌, ℕ, suc, Bool, List, [], ◌∷◌, ◌++◌, map, slice_get, slice_set, Option, Some, None, option_map, if◌then◌else◌, refl, sym, ap, ap₂, subst, ◌∙◌, append_assoc}
 use Rattle.std.specs.Option.{option_map_or}
 use Rattle.std.specs.Prelude.{IfSome, option_to_list}
 use Rattle.std.proofs.lemmas.Option.{slice_get-map}
 use Rattle.fsoe_base.specs.declared.command.End.TheVariants as side
 use Rattle.fsoe_base.specs.declared.command.Command.TheVariants as command
-use Rattle.fsoe_base.specs.declared.command.State.{State}
 use Rattle.fsoe_base.specs.declared.command.State.TheVariants as state
-use Rattle.fsoe_base.specs.declared.did.Took.{Took}
 use Rattle.param_load.specs.declared.terms.Terms.{Terms}
 use Rattle.param_load.specs.declared.entry.Move.TheVariants as move
-use Rattle.end_model.specs.Step.{on_expiry}
 use Rattle.multi_master.specs.Standing as multi
 use Rattle.plant_model.specs.declared.event.PlantEvent.TheVariants as event
 use Rattle.plant_model.specs.declared.journal.JournalStep.TheVariants as step

@@ -1,15 +1,12 @@
 -- What a plant shows by the number of a connection, which may not exist.
-use Rattle.plant_core.proofs.Common.{Act, Beginning, BoundSpec, EachLink, End, Entry, LinkConf, LinkIs, LinkView, PlantStands, PlantView, Shows, ShowsApp, ShowsOn, ShowsWorst, TellsStill, calls, deeds, is_cut, is_guarded, journal, kept_at, link_at, of_end, out, outputs_at, pair, pairs_by, settings}
+use Rattle.plant_core.proofs.Common.{Act, Beginning, BoundSpec, EachLink, End, Entry, LinkConf, LinkIs, LinkView, PlantStands, PlantView, Shows, ShowsApp, ShowsOn, ShowsWorst, TellsStill, Unset, bit_of, calls, deeds, is_cut, is_guarded, journal, kept_at, link_at, next_offered, of_end, offers_bit, out, outputs_at, pair, pairs_by, settings}
 use Rattle.std.proofs.Common.{Bor, ◌≡◌, ◌≤◌, ◌<◌, ◌-◌, ◌&&◌, ℕ, zero, suc, Bool, false, not, List, [], ◌∷◌, length, slice_get, Option, Some, None, refl, sym, ap, ◌∙◌, arith}
 use Rattle.std.specs.Prelude.{IfSome, option_copied}
 use Rattle.std.specs.Slice.{IsItemAt}
 use Rattle.std.proofs.lemmas.Option.{slice_get_past, slice_get_read}
 use Rattle.std.specs.Option.{option_map_or}
-use Rattle.fsoe_base.specs.Image.{bit_of}
 use Rattle.fsoe_base.specs.declared.command.End.TheVariants as side
 use Rattle.failsafe_io.specs.declared.bit.Bit.{Bit}
-use Rattle.exchange_model.specs.Fair.{offers_bit}
-use Rattle.exchange_model.specs.Items.{Unset, next_offered}
 use Rattle.reaction_bound.specs.Age.{told_age, worst_of}
 use Rattle.reaction_bound.specs.Ages as ages
 use Rattle.plant_core.proofs.Linking.{each_at}

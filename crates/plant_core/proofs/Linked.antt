@@ -1,17 +1,13 @@
 -- The slave of a connection and what notes its pair, after a deed of either end.
-use Rattle.plant_core.proofs.Common.{AgesNote, AgesView, Deed, Did, End, Entry, Fixed, HasAgeParts, Lengths, LinkConf, LinkStands, LinkView, MasterNoted, Move, NotesOne, NotesSlave, OfSlave, SlaveGoesOn, SlaveIsAfter, deed_in, deeds, delivered, new_ages, new_link, next_entry, same_end, watchdog_in}
+use Rattle.plant_core.proofs.Common.{AgesNote, AgesView, Deed, Did, End, Entry, Fixed, HasAgeParts, Lengths, LinkConf, LinkStands, LinkView, MasterNoted, MonitorView, Move, NotesOne, NotesParts, NotesSlave, OfSlave, SlaveGoesOn, SlaveIsAfter, SlaveView, Took, deed_in, deeds, delivered, new_ages, new_link, next_entry, same_end, step, watchdog_in}
 use Rattle.std.proofs.Common.{◌≡◌, ℕ, ◌+◌, List, [], ◌∷◌, Bool, true, false, ap, ap₂, ◌∙◌, refl, sym, subst, Option, Some, None, if◌then◌else◌}
 use Rattle.std.specs.Prelude.{IfSome, is_some}
 use Rattle.fsoe_base.specs.declared.command.Command.TheVariants as command
 use Rattle.fsoe_base.specs.declared.command.End.TheVariants as side
-use Rattle.fsoe_base.specs.declared.did.Took.{Took}
 use Rattle.param_load.specs.declared.slave_settings.SlaveSettings.{SlaveSettings}
-use Rattle.end_model.specs.Step.{step}
 use Rattle.exchange_model.specs.Honest.{is_tick}
-use Rattle.exchange_model.specs.Monitor.{MonitorView, NotesParts}
 use Rattle.exchange_model.specs.Monitor as monitor
 use Rattle.reaction_bound.specs.Ages as ages
-use Rattle.slave_core.specs.SlaveView.{SlaveView}
 use Rattle.slave_core.specs.ViewOf.{view_of}
 use Rattle.slave_core.specs.Standing as slave_core
 

@@ -1,14 +1,12 @@
 -- Acts in which one end of one connection does something, and no cycle is run.
-use Rattle.plant_core.proofs.Common.{Act, Beginning, Call, Delivers, End, Entry, Event, Fits, GoesOn, Happen, HasDone, IsOne, JournalStep, LinkConf, LinkIs, LinkStands, LinkView, LinksAre, MasterNoted, Move, MultiView, Nonce, OfSlave, Parcel, Placed, PlantView, PullFrom, SlaveActs, StandsFor, Told, Trace, Use, all_pushes, call_of, calls, cut_after, delivery_call, each_none, each_one, event_call, frames_next, frames_of, is_cut, journal, lengths_kept, link_at, next_of, next_uses, no_entry, not_same, nothing, offers_by, pair, pair_one, pair_other, pair_own, pairs_by, peer, place_of, pushes_each, pushes_of, same_end, sent_in, sent_uses, settings, slave_move, steps_of, with_frame}
+use Rattle.plant_core.proofs.Common.{Act, Beginning, Call, Delivers, End, Entry, Event, Fits, GoesOn, Happen, HasDone, IsOne, IsProper, JournalStep, LinkConf, LinkIs, LinkStands, LinkView, LinksAre, MasterNoted, Move, MultiView, Nonce, OfSlave, Parcel, Placed, PlantEvent, PlantView, PullFrom, SlaveActs, StandsFor, Told, Trace, Use, all_pushes, call_of, calls, cut_after, delivery_call, each_none, each_one, event_call, frames_next, frames_of, is_cut, journal, lengths_kept, link_at, next_of, next_uses, no_entry, not_same, nothing, offers_by, pair, pair_one, pair_other, pair_own, pairs_by, peer, place_of, pushes_each, pushes_of, same_end, sent_in, sent_uses, settings, slave_move, steps_of, with_frame}
 use Rattle.std.proofs.Common.{◌≡◌, ◌≢◌, length, ℕ, suc, ◌==◌, Bool, true, false, List, [], ◌∷◌, ◌++◌, slice_get, slice_set, Option, Some, None, if◌then◌else◌, refl, sym, ap, ap₂, subst, ◌∙◌, arith}
 use Rattle.std.specs.Prelude.{IfSome, option_to_list}
 use Rattle.std.proofs.lemmas.Bool.{eq-eqb}
 use Rattle.std.proofs.lemmas.List.{append-nil}
 use Rattle.fsoe_base.specs.declared.command.End.TheVariants as side
-use Rattle.end_model.specs.Runs.{IsProper}
 use Rattle.param_load.specs.declared.entry.Move.TheVariants as move
 use Rattle.multi_master.specs.Standing as multi
-use Rattle.plant_model.specs.declared.event.PlantEvent.{PlantEvent}
 use Rattle.plant_model.specs.declared.event.PlantEvent.TheVariants as event
 use Rattle.plant_model.specs.declared.journal.JournalStep.TheVariants as step
 use Rattle.plant_model.proofs.Proper.{allowed}

@@ -1,9 +1,8 @@
 -- The lowest connection whose pair has an other entry.
-use Rattle.plant_core.proofs.Common.{AllNoted, EachLink, Entry, JournalStep, LinkConf, LinkIs, LinkView, PlantView, TellsOther, has_other, is_cut, lowest_other, pair, pairs_by}
+use Rattle.plant_core.proofs.Common.{AllNoted, EachLink, Entry, JournalStep, LinkConf, LinkIs, LinkView, PlantView, TellsOther, has_other, is_cut, lowest_other, pair, pairs_by, view_of}
 use Rattle.std.proofs.lemmas.List.{drop_more}
 use Rattle.std.proofs.Common.{◌≡◌, ◌≤◌, ◌<◌, ℕ, zero, suc, ◌+◌, List, [], ◌∷◌, length, get_or, drop, subst, Option, Some, None, Bool, true, false, if◌then◌else◌, refl, sym, ap, ◌∙◌, arith}
 use Rattle.std.specs.Prelude.{is_some}
-use Rattle.exchange_model.specs.Monitor.{view_of}
 use Rattle.exchange_model.specs.Other.{first_other}
 
 -- what is left to look through gives what all gives

@@ -1,5 +1,5 @@
 -- The pulls of a tick, a plant's start, and how it goes on by a line of its script.
-use Rattle.plant_core.proofs.Common.{Act, App, AppView, Beginning, Begins, BoundSpec, Call, ChangeApp, Delivers, DoesLine, EachLink, End, Entry, Event, Fits, Follows, GoesOn, Happen, HasDone, IsOne, JournalStep, Lengths, LinkConf, LinkIs, LinkStands, LinkView, LinksAre, Move, MultiView, OffersNoted, Parcel, PlantView, PullFrom, Pulls, PullsParcel, Said, StandsFor, Start, Starts, Told, Trace, Use, all_pushes, call_of, calls, changed, delivery_call, each_uses, frames_of, is_cut, is_tick, journal, lengths_in, lengths_kept, line_step, link_at, links_made, master_in, next_of, offers, pair, pair_other, pairs_by, peer, place_of, pulls_after, pushes_each, pushes_of, sent_in, sent_uses, settings, uses, uses_after, uses_of}
+use Rattle.plant_core.proofs.Common.{Act, App, AppView, Beginning, Begins, BoundSpec, Call, ChangeApp, Delivers, DoesLine, EachLink, End, Entry, Event, Fits, Follows, GoesOn, Happen, HasDone, IsOne, JournalStep, Lengths, LinkConf, LinkIs, LinkStands, LinkView, LinksAre, Move, MultiView, OffersNoted, Parcel, PlantEvent, PlantView, PullFrom, Pulls, PullsParcel, Said, SlaveView, StandsFor, Start, Starts, Told, Trace, Use, all_pushes, call_of, calls, changed, delivery_call, each_uses, frames_of, is_cut, is_tick, journal, lengths_in, lengths_kept, line_step, link_at, links_made, master_in, next_of, offers, pair, pair_other, pairs_by, peer, place_of, pulls_after, pushes_each, pushes_of, sent_in, sent_uses, settings, uses, uses_after, uses_of}
 use Rattle.std.proofs.Common.{◌≡◌, ◌≢◌, ◌≤◌, ◌<◌, ◌⊎◌, inl, inr, ℕ, zero, suc, ◌+◌, ◌-◌, ◌*◌, Bool, false, List, [], ◌∷◌, ◌++◌, map, All, length, Option, Some, None, refl, sym, ap, ap₂, subst, ◌∙◌, append_assoc, arith, if◌then◌else◌}
 use Rattle.std.proofs.Math.Nat.{suc-mul}
 use Rattle.std.proofs.lemmas.List.{append-nil}
@@ -7,9 +7,7 @@ use Rattle.std.proofs.lemmas.List.Elements.{All-append, All-cons, All-nil}
 use Rattle.std.proofs.lemmas.Option.{slice_get_past}
 use Rattle.fsoe_base.specs.declared.command.End.TheVariants as side
 use Rattle.param_load.specs.declared.entry.Move.TheVariants as move
-use Rattle.slave_core.specs.SlaveView.{SlaveView}
 use Rattle.multi_master.specs.Standing as multi
-use Rattle.plant_model.specs.declared.event.PlantEvent.{PlantEvent}
 use Rattle.plant_model.specs.declared.event.PlantEvent.TheVariants as event
 use Rattle.plant_model.specs.declared.journal.JournalStep.TheVariants as step
 use Rattle.plant_model.specs.Past.{SaidFits, said_in}

@@ -1,11 +1,10 @@
 -- What a plant shows of an end is what the pair of its connection tells.
-use Rattle.plant_core.proofs.Common.{Act, Beginning, Connection, Deed, Did, HasLink, IsPlant, JournalStep, LinkConf, LinkIs, LinkView, OfMaster, OfSlave, Placed, PlantStands, PlantValue, PlantView, Setup, ShowsAt, ShowsPair, calls, deeds, is_cut, journal, link_at, master_with, mastered, masters, out, pair, pairs_by, settings, setup, some_at, state_of}
+use Rattle.plant_core.proofs.Common.{Act, Beginning, Connection, Deed, Did, HasLink, IsPlant, JournalStep, LinkConf, LinkIs, LinkView, OfMaster, OfSlave, Placed, PlantStands, PlantValue, PlantView, Setup, ShowsAt, ShowsPair, State, calls, deeds, is_cut, journal, link_at, master_with, mastered, masters, out, pair, pairs_by, settings, setup, some_at, state_of}
+use Rattle.multi_master.specs.Connection.{outputs_at}
 use Rattle.std.proofs.Common.{◌≡◌, ◌≤◌, ◌<◌, ℕ, zero, suc, List, length, slice_get, Option, Some, option_map, sym, ap, subst, ◌∙◌, arith}
 use Rattle.std.specs.Prelude.{IsSomeAnd}
 use Rattle.fsoe_base.specs.declared.command.End.TheVariants as side
-use Rattle.fsoe_base.specs.declared.command.State.{State}
 use Rattle.slave_core.specs.Standing as slave_core
-use Rattle.multi_master.specs.Connection.{outputs_at}
 use Rattle.multi_master.specs.Standing as multi
 use Rattle.plant_model.specs.Pair as pairs
 use Rattle.plant_core.proofs.Linking.{from_one, each_at, each_count}

@@ -1,11 +1,10 @@
 -- The pairs of a plant are worlds of proper events, since both ends of each are where their deeds leave them; so what
 -- holds of worlds holds of them.
-use Rattle.plant_core.proofs.Common.{Act, Beginning, Connection, IsWhere, JournalStep, LinkConf, LinkIs, OfMaster, PlantStands, PlantView, Reacts, all_at, deeds, is_cut, journal, master_with, mastered, masters, pair, pairs_by}
+use Rattle.plant_core.proofs.Common.{Act, Beginning, Connection, IsRun, IsWhere, JournalStep, LinkConf, LinkIs, OfMaster, PlantStands, PlantView, Reacts, all_at, deeds, is_cut, journal, master_with, mastered, masters, pair, pairs_by}
 use Rattle.std.proofs.Common.{◌≡◌, ℕ, zero, suc, List, [], ◌∷◌, slice_get, Some, All, sym, subst, arith}
 use Rattle.std.specs.List.{AllZip}
 use Rattle.fsoe_base.specs.declared.command.End.TheVariants as side
 use Rattle.plant_conf.specs.Kept.{HasSameLengths}
-use Rattle.end_model.specs.Runs.{IsRun}
 use Rattle.master_core.specs.MasterView.{MasterView}
 use Rattle.plant_model.specs.FairPairs.{PairsAreFair}
 use Rattle.plant_model.proofs.Cycled.{sound_acts}

@@ -1,5 +1,5 @@
 -- A net that runs answers by looking back over its cycles.
-use Rattle.plant_model.proofs.Common.{Act, Answer, AppView, Beginning, Call, ChangeApp, Connection, Deliver, MasterSettings, Meant, Nonce, Rule, Tick, after, all_tick, answer, call_of, calls, connection, cycle_in, event_at, event_on, is_heard, is_offer, masters, meant, offer_len, outputs_at, settings, with_cycle, with_event, with_offers}
+use Rattle.plant_model.proofs.Common.{Act, Answer, AppView, Beginning, Call, ChangeApp, Connection, Deliver, MasterSettings, Meant, Nonce, Rule, Tick, after, all_tick, answer, call_of, calls, connection, cycle_in, event_at, event_keeps, event_on, is_heard, is_offer, masters, meant, offer_len, outputs_at, settings, settings_alone, with_cycle, with_event, with_offers}
 use Rattle.std.proofs.Common.{◌≡◌, ℕ, zero, suc, Bool, true, false, List, [], ◌∷◌, ◌++◌, map, Option, Some, None, IfSome, if◌then◌else◌, refl, sym, ap, ap₂, ◌∙◌}
 use Rattle.std.specs.Prelude.{option_and_then, option_to_list}
 use Rattle.fb_net.specs.Calls as net
@@ -10,7 +10,6 @@ use Rattle.fb_net.specs.Outputs.{net_outputs}
 use Rattle.fb_net.specs.Values.{NetCycle}
 use Rattle.fb_net.proofs.Ruled.{rule_answers}
 use Rattle.param_load.specs.declared.entry.Move.TheVariants as move
-use Rattle.multi_master.proofs.Neighbours.{event_keeps, settings_alone}
 use Rattle.multi_master.proofs.Putting.{all_outputs_put, outputs_put}
 use Rattle.plant_model.specs.NetCycles.{AnswersByNet, app_begun, app_cycles, cycles_before, is_ticked, net_app, sent_lens, with_answered}
 

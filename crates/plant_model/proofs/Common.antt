@@ -1,7 +1,12 @@
--- The names that most proofs of this crate cite, passed on from one place. Declares nothing.
+-- The names that more than one file of these proofs cites, passed on from one place. Declares nothing.
 pub use Rattle.black_channel.specs.declared.channel.Parcel.{Parcel}
 pub use Rattle.end_model.specs.Deed.{Deed, is_empty, ticked}
+pub use Rattle.end_model.specs.Outputs.{out}
+pub use Rattle.end_model.specs.Phases.{is_data_frame}
+pub use Rattle.end_model.specs.Readiness.{held, held_after, offer, offer_after, reaches_limit, state_of}
 pub use Rattle.end_model.specs.Setup.{OfMaster, OfSlave, Setup, sends}
+pub use Rattle.end_model.specs.Step.{deed_of, did_on, on_expiry, step}
+pub use Rattle.exchange_model.proofs.Fairness.Headline.{fair_before, fair_world}
 pub use Rattle.exchange_model.proofs.Offering.Older.{older_clean, older_world, ticked_most, ticks_joined}
 pub use Rattle.exchange_model.specs.Ends.{of_end, peer, same_end}
 pub use Rattle.exchange_model.specs.Fair.{Fair, offers_bit, outputs_due, received_len}
@@ -12,18 +17,25 @@ pub use Rattle.exchange_model.specs.Schedules.{IsNextEntry, IsProperEvent, IsWor
 pub use Rattle.exchange_model.specs.World.{SameLengths, deed_in, deeds, end_of_event, entry_at, entry_on, frames_of, going_on, move_from, next_entry, setup_of, world, world_after}
 pub use Rattle.failsafe_io.specs.Application.{Answer}
 pub use Rattle.failsafe_io.specs.Bits.{bit_at}
+pub use Rattle.failsafe_io.specs.declared.bit.Bit.{Bit}
+pub use Rattle.fsoe_base.specs.Did.{nothing}
+pub use Rattle.fsoe_base.specs.Image.{bit_of}
 pub use Rattle.fsoe_base.specs.declared.command.End.{End}
+pub use Rattle.fsoe_base.specs.declared.lengths.Lengths.{Lengths}
+pub use Rattle.multi_master.proofs.Neighbours.{event_keeps, settings_alone}
 pub use Rattle.multi_master.specs.Calls.{AppView, Call, ChangeApp, Deliver, IsSound, Meant, Nonce, Rule, Tick, after, all_tick, answer, changed_by, changed_from, connection, cycle_in, event_at, event_on, is_heard, meant, with_cycle}
 pub use Rattle.multi_master.specs.Connection.{Connection, fresh, is_offer, offer_at, offer_len, outputs_at, with_event, with_offers}
 pub use Rattle.param_load.specs.declared.entry.Entry.{Entry}
 pub use Rattle.param_load.specs.declared.entry.Move.{Move}
 pub use Rattle.param_load.specs.declared.master_settings.MasterSettings.{MasterSettings}
 pub use Rattle.param_load.specs.declared.slave_settings.SlaveSettings.{SlaveSettings}
+pub use Rattle.plant_conf.specs.Kept.{HasSameLengths}
 pub use Rattle.plant_conf.specs.declared.conf.BoundSpec.{BoundSpec}
 pub use Rattle.plant_conf.specs.declared.conf.LinkConf.{LinkConf}
 pub use Rattle.plant_model.specs.Acts.{Act, App, Beginning, Event, Happen, PullFrom, Said, Event as SaysEvent, Start, all_pushes, call_of, calls, cycle_of, delivery_call, is_cut, journal, line_step, masters, newer, offer_step, offers, push_to, pushes_of, settings, steps_of, uses, uses_after, uses_of}
 pub use Rattle.plant_model.specs.Bound.{HasLinks, Reacts, StaysOff, inputs_after, is_guarded, is_off, is_on, is_still, limit, offers_after, slave_offers}
-pub use Rattle.plant_model.specs.Gifts.{EmptiesRose, GivesHeld, GrewBy, RoseBy, ToldHolds, ToldLists, counted, each_uses, empty_pulls, gifts, held_after, place_of, pushes, sent_uses}
+pub use Rattle.plant_model.specs.FairPairs.{PairsAreFair, StepFits}
+pub use Rattle.plant_model.specs.Gifts.{EmptiesRose, GivesHeld, GrewBy, RoseBy, ToldHolds, ToldLists, counted, each_uses, empty_pulls, gifts, place_of, pushes, sent_uses}
 pub use Rattle.plant_model.specs.JournalLaws.{Cycles, MastersAgree, PullsFit, line_steps, master_hears, one_if_left, pulled_in, short_ticks, tells_hearing}
 pub use Rattle.plant_model.specs.Pair.{if_same, is_tick, is_tick_event, link_at, next_of, own_events, own_part, pair, pairs_by, pulls_after, script_part, ticks}
 pub use Rattle.plant_model.specs.Past.{AppsAreSpare, IsPast, Named, Taken, passed, said, said_in, said_with, take_app, with_line}

@@ -1,12 +1,10 @@
 -- Which acts run a cycle, and that its answer is sound.
-use Rattle.plant_model.proofs.Common.{Act, AllSound, Answer, Beginning, Call, Cycles, Deed, Deliver, End, Entry, Event, Happen, IsSound, JournalStep, LinkConf, MasterSettings, OfMaster, Parcel, PullFrom, call_of, calls, changed_by, connection, cycle_in, deeds, delivery_call, is_heard, journal, link_at, master_hears, masters, meant, next_of, offer_step, pair, place_of, settings, tells_hearing}
+use Rattle.plant_model.proofs.Common.{Act, AllSound, Answer, Beginning, Call, Cycles, Deed, Deliver, End, Entry, Event, Happen, IsSound, JournalStep, LinkConf, MasterSettings, OfMaster, Parcel, PullFrom, call_of, calls, changed_by, connection, cycle_in, deeds, delivery_call, did_on, is_heard, journal, link_at, master_hears, masters, meant, next_of, nothing, offer_step, pair, place_of, settings, tells_hearing}
 use Rattle.std.proofs.Common.{◌≡◌, ℕ, zero, suc, ◌==◌, Bool, true, false, List, [], ◌∷◌, ◌++◌, map, slice_get, Option, Some, None, if◌then◌else◌, refl, sym, ap, ◌∙◌, append_assoc}
 use Rattle.std.specs.Prelude.{is_some, option_and_then, option_to_list, IfSome}
 use Rattle.std.proofs.lemmas.List.{append-nil}
-use Rattle.fsoe_base.specs.Did.{nothing}
 use Rattle.fsoe_base.specs.declared.command.End.TheVariants as side
 use Rattle.param_load.specs.declared.entry.Move.TheVariants as move
-use Rattle.end_model.specs.Step.{did_on}
 use Rattle.master_core.specs.Calls.{tells_due}
 use Rattle.multi_master.specs.Standing as multi
 use Rattle.plant_model.specs.declared.event.PlantEvent.TheVariants as event

@@ -1,16 +1,12 @@
 -- A pair is a world of proper events where the deeds of both its ends are runs; and the law of the pair holds of
 -- worlds.
-use Rattle.plant_model.proofs.Common.{End, Entry, Fair, IsNextEntry, IsWorld, JournalStep, LinkConf, MasterSettings, Move, OfMaster, OfSlave, SameLengths, SlaveSettings, before_other, deed_in, deeds, end_of_event, entry_on, frames_of, going_on, link_at, move_from, next_entry, own_events, pair, peer, same_end, setup_of, world_after}
+use Rattle.plant_model.proofs.Common.{End, Entry, Fair, HasSameLengths, IsNextEntry, IsWorld, JournalStep, Lengths, LinkConf, MasterSettings, Move, OfMaster, OfSlave, PairsAreFair, SameLengths, SlaveSettings, before_other, deed_in, deeds, end_of_event, entry_on, fair_world, frames_of, going_on, link_at, move_from, next_entry, own_events, pair, peer, same_end, setup_of, world_after}
 use Rattle.std.proofs.Common.{◌≡◌, ℕ, zero, suc, List, [], ◌∷◌, slice_get, Option, Some, None, if◌then◌else◌, refl, sym, ap}
 use Rattle.std.specs.Prelude.{IfSome}
 use Rattle.fsoe_base.specs.declared.command.End.TheVariants as side
-use Rattle.fsoe_base.specs.declared.lengths.Lengths.{Lengths}
 use Rattle.schedule_file.specs.declared.event.Event.{Event}
-use Rattle.plant_conf.specs.Kept.{HasSameLengths}
 use Rattle.end_model.specs.Runs.{IsRun}
-use Rattle.exchange_model.proofs.Fairness.Headline.{fair_world}
 use Rattle.exchange_model.proofs.Worlds.Others.{before_is_clean, before_is_world}
-use Rattle.plant_model.specs.FairPairs.{PairsAreFair}
 
 -- each entry is the next one of its end after those before it
 abbrev pub AreNext : MasterSettings → SlaveSettings → List Entry → Type 0

@@ -1,18 +1,13 @@
 -- The bits of a bound at the master of many connections and in the pairs: what the application reads is what the master
 -- of a pair has, and what it answers is what that master offers. Acts and entries are listed newest first.
-use Rattle.plant_model.proofs.Common.{Act, Answer, Beginning, Call, Connection, Deliver, End, Entry, FailSafe, IsWorld, LinkConf, MasterSettings, Meant, Move, Nonce, OfMaster, SameLengths, Setup, SlaveSettings, after, bit_at, call_of, calls, cycle_in, cycle_of, deed_in, deeds, event_at, inputs_after, is_held, journal, last_put, link_at, masters, meant, next_offered, of_end, offer_at, offered_put, offers_after, offers_bit, outputs_at, outputs_due, pair, put_after, received_len, same_end, sends, settings, setup_of, with_cycle}
+use Rattle.plant_model.proofs.Common.{Act, Answer, Beginning, Bit, Call, Connection, Deliver, End, Entry, FailSafe, IsWorld, LinkConf, MasterSettings, Meant, Move, Nonce, OfMaster, SameLengths, Setup, SlaveSettings, after, bit_at, bit_of, call_of, calls, cycle_in, cycle_of, deed_in, deeds, event_at, event_keeps, held, held_after, inputs_after, is_held, journal, last_put, link_at, masters, meant, next_offered, of_end, offer, offer_after, offer_at, offered_put, offers_after, offers_bit, out, outputs_at, outputs_due, pair, put_after, received_len, same_end, sends, settings, setup_of, with_cycle}
 use Rattle.std.proofs.Common.{◌≡◌, ℕ, zero, suc, Bool, true, false, ◌&&◌, not, List, [], ◌∷◌, ◌++◌, map, get_or, replicate, slice_get, Option, Some, None, if◌then◌else◌, refl, sym, ap, ap₂, ◌∙◌}
 use Rattle.std.specs.Prelude.{option_and_then, option_to_list}
 use Rattle.fsoe_base.specs.declared.command.End.TheVariants as side
-use Rattle.fsoe_base.specs.Image.{bit_of}
-use Rattle.failsafe_io.specs.declared.bit.Bit.{Bit}
 use Rattle.fb_net.proofs.Bits.{zero_bit}
 use Rattle.param_load.specs.declared.entry.Move.TheVariants as move
-use Rattle.end_model.specs.Outputs.{out}
-use Rattle.end_model.specs.Readiness.{offer_after, offer, held_after, held}
 use Rattle.exchange_model.proofs.Fairness.Shown.{due_is_out, receives_is}
 use Rattle.exchange_model.proofs.Worlds.Projection.{told, deeds_are_run}
-use Rattle.multi_master.proofs.Neighbours.{event_keeps}
 use Rattle.plant_model.proofs.Masters.{master_with, mastered}
 
 -- whether an end is held, and what it put last, by its entries and by its deeds

@@ -1,23 +1,19 @@
 -- What a journal means for a connection is proper events, so that the law of the pair holds.
-use Rattle.plant_model.proofs.Common.{End, Fair, IsProperEvent, JournalStep, LinkConf, PlantEvent, SameLengths, before_other, if_same, link_at, own_events, own_part, pair, script_part}
+use Rattle.plant_model.proofs.Common.{End, Fair, HasSameLengths, IsProperEvent, JournalStep, Lengths, LinkConf, PairsAreFair, PlantEvent, SameLengths, StepFits, before_other, fair_before, if_same, link_at, own_events, own_part, pair, script_part}
 use Rattle.std.proofs.Common.{◌≡◌, ℕ, zero, suc, ◌≤◌, ◌==◌, Bool, true, false, List, [], ◌∷◌, length, map, All, refl, sym, ap, subst, ◌∙◌, arith}
 use Rattle.std.specs.Prelude.{Option, Some, None, IfSome, IsSomeAnd, IsTrue, option_map, if◌then◌else◌}
 use Rattle.std.proofs.lemmas.Bool.{eqb-true, le-leb}
 use Rattle.std.proofs.lemmas.List.Elements.{All-append, All-cons, All-head, All-tail}
 use Rattle.std.proofs.lemmas.Option.{slice_get-map}
 use Rattle.fsoe_base.specs.declared.command.End.TheVariants as side
-use Rattle.fsoe_base.specs.declared.lengths.Lengths.{Lengths}
 use Rattle.fsoe_base.specs.LengthsOf.{length_of}
 use Rattle.param_load.specs.Profile.{allows_id}
 use Rattle.param_load.specs.declared.profile.Profile.{Profile}
 use Rattle.param_load.specs.declared.profile.Profile.TheVariants as profile
 use Rattle.schedule_file.specs.declared.event.Event.{Event}
 use Rattle.schedule_file.specs.declared.event.Event.TheVariants as at
-use Rattle.plant_conf.specs.Kept.{HasSameLengths}
-use Rattle.exchange_model.proofs.Fairness.Headline.{fair_before}
 use Rattle.plant_model.specs.declared.event.PlantEvent.TheVariants as event
 use Rattle.plant_model.specs.declared.journal.JournalStep.TheVariants as step
-use Rattle.plant_model.specs.FairPairs.{StepFits, PairsAreFair}
 use Rattle.plant_model.specs.Fits.{EventFits, lengths_in, lengths_at}
 
 abbrev Proper : LinkConf → Event → Type 0

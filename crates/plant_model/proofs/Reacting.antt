@@ -1,7 +1,7 @@
 -- Why a drive is off in time. The master of the e-stop has its bit as 0 from some tick on; each cycle from that tick's
 -- on answers the drive's bit as 0, so that its master offers it so; and its slave has it as 0 some ticks later. Acts
 -- and entries are listed newest first, steps oldest first.
-use Rattle.plant_model.proofs.Common.{Act, Answer, Beginning, BoundSpec, End, Entry, Event, Happen, HasLinks, IsWorld, JournalStep, LinkConf, NoOther, Reacts, SameLengths, StaysOff, Unset, WasOffered, bit_at, cycle_of, deeds, inputs_after, is_off, is_on, is_tick, journal, link_at, next_offered, of_end, offers, offers_after, offers_bit, older_clean, older_world, outputs_due, pair, peer, received_len, setup_of, slave_offers, steps_of, ticks, ticks_of}
+use Rattle.plant_model.proofs.Common.{Act, Answer, Beginning, BoundSpec, End, Entry, Event, Happen, HasLinks, IsWorld, JournalStep, LinkConf, NoOther, Reacts, SameLengths, StaysOff, Unset, WasOffered, bit_at, bit_of, cycle_of, deeds, inputs_after, is_off, is_on, is_tick, journal, link_at, next_offered, of_end, offers, offers_after, offers_bit, older_clean, older_world, out, outputs_due, pair, peer, received_len, setup_of, slave_offers, steps_of, ticks, ticks_of}
 use Rattle.std.proofs.Common.{◌≡◌, ◌≤◌, ◌<◌, ◌⊎◌, inl, inr, ℕ, zero, suc, ◌+◌, ◌-◌, ◌*◌, Bool, true, false, not, List, [], ◌∷◌, ◌++◌, Option, Some, None, refl, sym, ap, ap₂, subst, ◌∙◌, append_assoc, arith}
 use Rattle.std.specs.Prelude.{IfSome, IsTrue, cond, is_some}
 use Rattle.std.specs.Option.{option_map_or}
@@ -9,8 +9,6 @@ use Rattle.std.proofs.lemmas.Bool.{cases_lt}
 use Rattle.std.proofs.lemmas.List.{append-nil}
 use Rattle.std.proofs.lemmas.List.Sums.{sum_by-append}
 use Rattle.fsoe_base.specs.declared.command.End.TheVariants as side
-use Rattle.fsoe_base.specs.Image.{bit_of}
-use Rattle.end_model.specs.Outputs.{out}
 use Rattle.exchange_model.proofs.Offering.Offered.{was_offered}
 use Rattle.plant_model.proofs.Cycled.{cycles}
 use Rattle.plant_model.proofs.FairPlant.{AreWorlds}

@@ -1,16 +1,12 @@
 -- What an end sent and when: data frames are sent as answers alone, and one that offered a bit as 1 came before all
 -- that were sent while it offered that bit as 0. Entries are listed newest first.
-use Rattle.plant_model.proofs.Common.{Deed, End, Entry, LinkConf, Move, OfMaster, Setup, WasOffered, next_of, next_offered, of_end, offers_bit, peer, same_end, ticked, ticked_most, ticks_of}
+use Rattle.plant_model.proofs.Common.{Deed, End, Entry, LinkConf, Move, OfMaster, Setup, WasOffered, deed_of, is_data_frame, next_of, next_offered, nothing, of_end, offers_bit, on_expiry, peer, reaches_limit, same_end, state_of, step, ticked, ticked_most, ticks_of}
 use Rattle.std.proofs.Common.{◌≡◌, ◌≤◌, ℕ, Bool, true, false, List, [], ◌∷◌, ◌++◌, if◌then◌else◌, refl, sym, ap, subst, ◌∙◌, append_assoc, arith}
 use Rattle.std.specs.Prelude.{IsTrue}
 use Rattle.fsoe_base.specs.declared.command.End.TheVariants as side
 use Rattle.fsoe_base.specs.declared.command.State.{State}
 use Rattle.fsoe_base.specs.declared.command.State.TheVariants as state
 use Rattle.param_load.specs.declared.entry.Move.TheVariants as move
-use Rattle.end_model.specs.Phases.{is_data_frame}
-use Rattle.end_model.specs.Readiness.{state_of, reaches_limit}
-use Rattle.fsoe_base.specs.Did.{nothing}
-use Rattle.end_model.specs.Step.{on_expiry, deed_of, step}
 
 -- no frame comes in an event
 abbrev pub BringsNone : Move → Type 0

@@ -1,13 +1,12 @@
 -- How the entries of a pair grow with the acts of a plant: the ticks that came, and what an end offered where it sent
 -- data. Acts and entries are listed newest first, steps oldest first.
-use Rattle.plant_model.proofs.Common.{Act, App, Beginning, End, Entry, Event, Happen, JournalStep, LinkConf, Move, Parcel, PlantEvent, PullFrom, Start, changed_by, cycle_of, deeds, is_tick, journal, line_step, masters, next_of, offer_step, offers, pair, same_end, setup_of, steps_of, ticked, ticks, ticks_joined, ticks_of}
+use Rattle.plant_model.proofs.Common.{Act, App, Beginning, End, Entry, Event, Happen, JournalStep, LinkConf, Move, Parcel, PlantEvent, PullFrom, Start, changed_by, cycle_of, deeds, is_data_frame, is_tick, journal, line_step, masters, next_of, offer_step, offers, pair, same_end, setup_of, steps_of, ticked, ticks, ticks_joined, ticks_of}
 use Rattle.std.proofs.Common.{◌≡◌, ◌≤◌, ℕ, ◌+◌, ◌==◌, Bool, true, false, List, [], ◌∷◌, ◌++◌, map, Some, None, if◌then◌else◌, refl, sym, ap, subst, ◌∙◌, append_assoc, arith}
 use Rattle.std.proofs.lemmas.List.{append-nil}
 use Rattle.std.proofs.lemmas.List.Sums.{sum_by-append}
 use Rattle.std.specs.Prelude.{IsTrue, cond}
 use Rattle.fsoe_base.specs.declared.command.End.TheVariants as side
 use Rattle.param_load.specs.declared.entry.Move.TheVariants as move
-use Rattle.end_model.specs.Phases.{is_data_frame}
 use Rattle.plant_model.specs.declared.event.PlantEvent.TheVariants as event
 use Rattle.plant_model.specs.declared.journal.JournalStep.TheVariants as step
 use Rattle.plant_model.proofs.Growing.{IsOne, pair_more, pair_one, no_entry}

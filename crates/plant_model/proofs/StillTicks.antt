@@ -1,13 +1,12 @@
 -- Where the moments of a plant are still for a bound, it is quiet: no act of a tick but the line of the script changes
 -- what a slave offers, nor which application runs, and each cycle keeps off what the application guards. Acts are listed
 -- newest first, steps oldest first.
-use Rattle.plant_model.proofs.Common.{Act, AllSound, Answer, App, Beginning, BoundSpec, Deliver, End, Entry, Event, Happen, IsSound, JournalStep, LinkConf, Meant, Move, Offered, Parcel, PullFrom, Said, StaysOff, Unset, bit_at, calls, changed_by, cycle_in, cycle_of, delivery_call, is_guarded, is_off, is_still, is_tick, journal, line_step, link_at, masters, meant, next_of, next_offered, of_end, offer_at, offer_step, offers, offers_bit, outputs_at, pair, settings, with_cycle}
+use Rattle.plant_model.proofs.Common.{Act, AllSound, Answer, App, Beginning, Bit, BoundSpec, Deliver, End, Entry, Event, Happen, IsSound, JournalStep, LinkConf, Meant, Move, Offered, Parcel, PullFrom, Said, StaysOff, Unset, bit_at, calls, changed_by, cycle_in, cycle_of, delivery_call, is_guarded, is_off, is_still, is_tick, journal, line_step, link_at, masters, meant, next_of, next_offered, of_end, offer_at, offer_step, offers, offers_bit, outputs_at, pair, settings, with_cycle}
 use Rattle.std.proofs.Common.{◌≡◌, ℕ, ◌==◌, Bool, true, false, ◌&&◌, not, List, [], ◌∷◌, ◌++◌, map, Option, Some, None, if◌then◌else◌, refl, sym, ap, ap₂, ◌∙◌, append_assoc}
 use Rattle.std.specs.Prelude.{IfSome, option_to_list}
 use Rattle.std.specs.Option.{option_map_or}
 use Rattle.std.proofs.lemmas.List.{append-nil}
 use Rattle.fsoe_base.specs.declared.command.End.TheVariants as side
-use Rattle.failsafe_io.specs.declared.bit.Bit.{Bit}
 use Rattle.param_load.specs.declared.entry.Move.TheVariants as move
 use Rattle.plant_model.specs.declared.event.PlantEvent.TheVariants as event
 use Rattle.plant_model.specs.declared.journal.JournalStep.TheVariants as step

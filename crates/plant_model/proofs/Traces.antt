@@ -1,5 +1,6 @@
 -- What the uses of a channel make of what it tells.
-use Rattle.plant_model.proofs.Common.{Begin, EmptiesRose, GivesHeld, GrewBy, Parcel, Pull, Push, RoseBy, ToldHolds, ToldLists, Trace, Use, counted, empty_pulls, gifts, held_after, pushes}
+use Rattle.plant_model.proofs.Common.{Begin, EmptiesRose, GivesHeld, GrewBy, Parcel, Pull, Push, RoseBy, ToldHolds, ToldLists, Trace, Use, counted, empty_pulls, gifts, pushes}
+use Rattle.plant_model.specs.Gifts.{held_after}
 use Rattle.std.proofs.Common.{◌≡◌, ℕ, ◌≤◌, List, [], ◌∷◌, ◌++◌, refl, sym, ap, subst, ◌∙◌, arith}
 use Rattle.std.specs.Prelude.{Option, Some, None, IfSome, option_map, option_to_list}
 use Rattle.std.proofs.lemmas.List.{append-nil, append_assoc}

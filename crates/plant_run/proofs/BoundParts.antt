@@ -1,10 +1,9 @@
 -- The lines of the bounds that wait.
-use Rattle.plant_run.proofs.Common.{Act, Beginning, BoundSpec, LinkConf, PlantStands, PlantView, ReactionView, ShowsBound, ShowsWorst, age_text, bit_text, bounds_waiting, broken_of, broken_text, heard_of, limit_of, line_by, lines_by, reactions_after, view_of}
+use Rattle.plant_run.proofs.Common.{Act, Beginning, BoundSpec, ConfView, LinkConf, PlantStands, PlantView, ReactionView, ShowsBound, ShowsWorst, age_text, bit_text, bounds_waiting, broken_of, broken_text, heard_of, limit_of, line_by, lines_by, reactions_after, view_of}
 use Rattle.std.proofs.Common.{◌≡◌, ℕ, suc, List, ◌++◌, slice_get, Option, Some, option_map, sym, ap, ap₂, ◌∙◌}
 use Rattle.std.specs.Prelude.{codes, decimal}
 use Rattle.std.proofs.lemmas.Option.{slice_get-map}
 use Rattle.fsoe_base.specs.declared.command.End.TheVariants as side
-use Rattle.plant_conf.specs.ConfView.{ConfView}
 use Rattle.reaction_bound.specs.Reaction as reaction
 use Rattle.plant_run.proofs.LinkLines.{drop_at, some_is}
 

@@ -1,29 +1,41 @@
--- The names that most proofs of this crate cite, passed on from one place. Declares nothing.
+-- The names that more than one file of these proofs cites, passed on from one place. Declares nothing.
 pub use Rattle.black_channel.specs.Told.{Told}
 pub use Rattle.black_channel.specs.declared.channel.Parcel.{Parcel}
 pub use Rattle.fb_net.specs.declared.kind_of.EntryOf.{EntryOf}
 pub use Rattle.fb_net.specs.declared.kind_of.KindOf.{KindOf}
+pub use Rattle.file_run.specs.Machine.{EndsReport, EndsStopped, EndsUnmet, IsSaid}
+pub use Rattle.file_run.specs.Ran.{EndsWhole, RanOver}
 pub use Rattle.file_run.specs.Report.{ended_with, other_line, refused_line}
+pub use Rattle.file_run.specs.Reporting.{IsPrefix, Reporting, ReportsSoFar, input_stopped}
 pub use Rattle.fsoe_base.specs.declared.lengths.Lengths.{Lengths}
 pub use Rattle.fsoe_io.specs.declared.status.Ended.{Ended}
 pub use Rattle.multi_master.specs.Calls.{AppView}
+pub use Rattle.plant_conf.specs.ConfView.{ConfView}
 pub use Rattle.plant_conf.specs.declared.conf.BoundSpec.{BoundSpec}
 pub use Rattle.plant_conf.specs.declared.conf.LinkConf.{LinkConf}
+pub use Rattle.plant_core.proofs.Acting.{same_count, trace_append}
+pub use Rattle.plant_core.proofs.Made.{lengths_made, made_count}
 pub use Rattle.plant_core.specs.Making.{is_named, links_made}
 pub use Rattle.plant_core.specs.Standing.{Follows, IsAged, PlantStands, PlantView, Plays, ShowsOn, ShowsPair, ShowsWorst, Starts, TellsOther, TellsStill, fixed_in, lengths_kept, seen}
 pub use Rattle.plant_model.proofs.Lines.{line_said, lines_append, no_lines_by, no_lines_pulled}
 pub use Rattle.plant_model.specs.Acts.{Act, App, Beginning, Event, Happen, PullFrom, Said, Start, journal, line_step, offers, uses, uses_after}
 pub use Rattle.plant_model.specs.BoundLines.{age_text, bit_text, bound_line, bound_lines, broken_text, heard, heard_before, heard_of, is_driven, is_ticking, limit_by, limit_of, line_by}
 pub use Rattle.plant_model.specs.Fits.{Fits, lengths_at, lengths_in}
+pub use Rattle.plant_model.specs.JournalLaws.{line_steps}
 pub use Rattle.plant_model.specs.Pair.{has_other, is_tick, link_at, lowest_other, outputs_at, pair, pulls_after, state_at, ticks}
 pub use Rattle.plant_model.specs.Past.{IsPast, Named, Taken, passed, said, said_in, said_with, take_app, with_line}
 pub use Rattle.plant_model.specs.PlantReport.{in_tick, is_line, last_lines, lines_due, lines_from, link_line, link_lines, report_end, report_text, tick_lines, ticks_text}
 pub use Rattle.plant_model.specs.declared.event.PlantLine.{PlantLine}
 pub use Rattle.plant_model.specs.declared.journal.JournalStep.{JournalStep}
 pub use Rattle.plant_run.specs.Given.{GivenCloses, GivenStands, named, rest_in, terms_of, waiting}
+pub use Rattle.plant_run.specs.Ran.{IsReportOf, RanPlant}
 pub use Rattle.plant_run.specs.Reporting.{PlantReports, Terms, journal_after, plant_reporting, run_stop}
 pub use Rattle.plant_run.specs.Running.{FieldsFit, LineFits, RunCloses, RunStands}
 pub use Rattle.plant_run.specs.Script.{Script, ScriptHeading, happening, script_format}
 pub use Rattle.plant_run.specs.Watching.{AreAged, CanHear, HasRoom, HearsLine, HearsOne, ShowsBound, bounds_waiting, lines_by, reactions_after, reactions_by}
+pub use Rattle.plant_setup.specs.Names.{IsTaken, place_of}
 pub use Rattle.reaction_bound.specs.Kept.{Hears, ReactionView, view_of}
 pub use Rattle.reaction_bound.specs.Reaction.{Quiet, Tick, broken_of}
+pub use Rattle.schedule_file.specs.Field.{bytes_said, fields_of, is_number, is_space}
+pub use Rattle.schedule_file.specs.Fields.{next_field, no_field, number_16, one_field, value_or}
+pub use Rattle.schedule_file.specs.Input.{AtEnd, NoApp, Refused, Stop, input_read}

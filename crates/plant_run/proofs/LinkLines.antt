@@ -1,5 +1,5 @@
 -- The lines of the connections that wait.
-use Rattle.plant_run.proofs.Common.{Act, AppView, Beginning, EntryOf, GivenStands, JournalStep, KindOf, LinkConf, PlantLine, PlantStands, PlantView, ReactionView, ScriptHeading, ShowsPair, Terms, Told, link_at, link_line, link_lines, links_made, outputs_at, pair, state_at, waiting}
+use Rattle.plant_run.proofs.Common.{Act, AppView, Beginning, EntryOf, GivenStands, JournalStep, KindOf, LinkConf, PlantLine, PlantStands, PlantView, ReactionView, ScriptHeading, ShowsPair, Terms, Told, link_at, link_line, link_lines, links_made, made_count, outputs_at, pair, same_count, state_at, waiting}
 use Rattle.std.proofs.Common.{◌≡◌, ◌<◌, ◌+◌, ℕ, zero, suc, List, [], ◌∷◌, ◌++◌, drop, length, slice_get, refl, sym, ap, ap₂, ◌∙◌, arith}
 use Rattle.std.specs.Prelude.{IsSomeAnd, Option, Some, None, codes, decimal}
 use Rattle.hex.specs.Hex.{encode_lower}
@@ -7,8 +7,6 @@ use Rattle.fsoe_base.specs.Command.{state_name}
 use Rattle.fsoe_base.specs.declared.command.End.TheVariants as side
 use Rattle.fsoe_base.specs.declared.command.State.{State}
 use Rattle.param_load.specs.declared.entry.Entry.{Entry}
-use Rattle.plant_core.proofs.Acting.{same_count}
-use Rattle.plant_core.proofs.Made.{made_count}
 use Rattle.std.proofs.lemmas.Option.{slice_get_past}
 
 -- the text of an end

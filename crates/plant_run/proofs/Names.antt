@@ -1,12 +1,10 @@
 -- A field of a line is no longer than the line.
-use Rattle.plant_run.proofs.Common.{FieldsFit}
+use Rattle.plant_run.proofs.Common.{FieldsFit, fields_of, is_space, one_field}
 use Rattle.std.proofs.Common.{◌≡◌, ℕ, suc, ◌≤◌, Bool, true, false, List, [], ◌∷◌, length, All, refl, subst, arith}
 use Rattle.std.specs.Prelude.{Ok}
 use Rattle.std.specs.List.{onto_first}
 use Rattle.std.proofs.lemmas.List.Elements.{All-cons, All-head, All-tail}
 use Rattle.std.proofs.lemmas.List.Splits.{slice_split-cons_yes, slice_split-cons_no}
-use Rattle.schedule_file.specs.Field.{is_space, fields_of}
-use Rattle.schedule_file.specs.Fields.{one_field}
 use Rattle.schedule_file.specs.declared.line_buf.TheConstants.{MAX_LINE}
 
 -- each of these has at most n bytes

@@ -1,29 +1,20 @@
 -- A plant that runs goes on by a line of its script.
-use Rattle.plant_run.proofs.Common.{Act, App, AppView, Beginning, BoundSpec, Ended, EntryOf, Event, Fits, Follows, GivenCloses, GivenStands, Happen, HearsLine, JournalStep, KindOf, Lengths, LineFits, LinkConf, Named, Parcel, PlantLine, PlantStands, PlantView, Plays, PullFrom, ReactionView, RunStands, Said, ScriptHeading, Start, Starts, Taken, TellsOther, Terms, Told, bound_line, bound_lines, ended_with, fixed_in, happening, has_other, heard, heard_before, heard_of, is_tick, is_ticking, journal, last_lines, lengths_in, lengths_kept, line_said, line_step, lines_by, links_made, lowest_other, named, no_lines_by, offers, other_line, plant_reporting, reactions_after, reactions_by, rest_in, said, said_in, said_with, script_format, terms_of, tick_lines, ticks, ticks_text, uses, uses_after, waiting, with_line}
+use Rattle.plant_run.proofs.Common.{Act, App, AppView, AtEnd, Beginning, BoundSpec, ConfView, Ended, EndsStopped, EndsWhole, EntryOf, Event, Fits, Follows, GivenCloses, GivenStands, Happen, HearsLine, IsReportOf, IsSaid, IsTaken, JournalStep, KindOf, Lengths, LineFits, LinkConf, Named, Parcel, PlantLine, PlantStands, PlantView, Plays, PullFrom, ReactionView, RunStands, Said, ScriptHeading, Start, Starts, Taken, TellsOther, Terms, Told, bound_line, bound_lines, ended_with, fixed_in, happening, has_other, heard, heard_before, heard_of, is_tick, is_ticking, journal, last_lines, lengths_in, lengths_kept, lengths_made, line_said, line_step, line_steps, lines_by, links_made, lowest_other, named, no_lines_by, offers, other_line, place_of, plant_reporting, reactions_after, reactions_by, rest_in, said, said_in, said_with, script_format, terms_of, tick_lines, ticks, ticks_text, trace_append, uses, uses_after, waiting, with_line}
 use Rattle.std.proofs.Common.{◌≡◌, ℕ, ◌+◌, ◌≤◌, Bool, true, false, cond, suc, List, [], ◌∷◌, ◌++◌, length, map, All, if◌then◌else◌, refl, sym, ap, ap₂, subst, ◌∙◌, append_assoc, arith, inl, inr}
 use Rattle.std.specs.Prelude.{◌⊎◌, Option, Some, None, codes, decimal, string_bytes}
 use Rattle.std.proofs.lemmas.List.{append-nil, length_push}
 use Rattle.std.proofs.lemmas.List.Sums.{sum_by-append, sum_by-cons}
 use Rattle.fb_net.specs.declared.kind_of.KindOf.TheVariants as kind
-use Rattle.file_run.specs.Machine.{IsSaid, EndsStopped}
-use Rattle.file_run.specs.Ran.{EndsWhole}
 use Rattle.plant_run.specs.declared.machine.Rest.TheVariants as rest
 use Rattle.file_run.specs.declared.stopped.Stopped.{Stopped}
 use Rattle.file_run.specs.declared.stopped.Stopped.TheVariants as stopped
 use Rattle.file_run.proofs.EndedWith.{ended_whole}
-use Rattle.schedule_file.specs.Input.{AtEnd}
-use Rattle.plant_setup.specs.Names.{IsTaken, place_of}
-use Rattle.plant_conf.specs.ConfView.{ConfView}
 use Rattle.plant_conf.specs.Kept.{HasSameLengths}
 use Rattle.plant_model.specs.declared.event.PlantEvent.{PlantEvent}
 use Rattle.plant_model.specs.declared.event.PlantEvent.TheVariants as event
 use Rattle.plant_model.specs.declared.event.PlantLine.TheVariants as line
 use Rattle.plant_model.specs.declared.journal.JournalStep.TheVariants as step
-use Rattle.plant_model.specs.JournalLaws.{line_steps}
-use Rattle.plant_run.specs.Ran.{IsReportOf}
 use Rattle.plant_model.specs.Uses.{Trace, Use}
-use Rattle.plant_core.proofs.Acting.{trace_append}
-use Rattle.plant_core.proofs.Made.{lengths_made}
 use Rattle.plant_core.proofs.Pulling.{more_uses}
 use Rattle.plant_run.proofs.ScriptFits.{line_fits}
 use Rattle.plant_run.proofs.Scripted.{plant_unmet}

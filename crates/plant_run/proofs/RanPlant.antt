@@ -1,5 +1,5 @@
 -- What a run over a script leaves is what a plant did.
-use Rattle.plant_run.proofs.Common.{Act, AppView, Ended, EntryOf, GivenStands, KindOf, Lengths, LinkConf, PlantLine, PlantView, ReactionView, ScriptHeading, Terms, Told, journal, link_at, plant_reporting, reactions_after, said, said_in}
+use Rattle.plant_run.proofs.Common.{Act, AppView, Ended, EntryOf, GivenStands, IsReportOf, KindOf, Lengths, LinkConf, PlantLine, PlantView, RanOver, RanPlant, ReactionView, Reporting, ScriptHeading, Terms, Told, journal, link_at, plant_reporting, reactions_after, said, said_in}
 use Rattle.std.proofs.Common.{◌≡◌, ℕ, List, [], Option, Some, None, refl, sym, ap, subst, ◌∙◌, inl, inr}
 use Rattle.std.specs.Prelude.{IfSome}
 use Rattle.std.proofs.lemmas.List.{append-nil}
@@ -10,10 +10,7 @@ use Rattle.exchange_model.specs.Fair.{Fair}
 use Rattle.file_run.specs.Left.{Done, LeavesAs, MayFailIn}
 use Rattle.file_run.specs.Running.{Leaves}
 use Rattle.file_run.specs.Outside.{Outside}
-use Rattle.file_run.specs.Ran.{RanOver}
-use Rattle.file_run.specs.Reporting.{Reporting}
 use Rattle.plant_model.specs.FairPairs.{PairsAreFair}
-use Rattle.plant_run.specs.Ran.{IsReportOf, RanPlant}
 use Rattle.plant_core.proofs.Worlds.{broken_by_other, plants_are_fair, reacts, sound}
 
 -- a relation of a header, its events, their text and an end

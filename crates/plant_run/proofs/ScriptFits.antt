@@ -1,5 +1,5 @@
 -- The event of a script's line fits the connections.
-use Rattle.plant_run.proofs.Common.{Lengths, LineFits, PlantLine, lengths_at}
+use Rattle.plant_run.proofs.Common.{Lengths, LineFits, PlantLine, bytes_said, fields_of, is_number, lengths_at, next_field, no_field, number_16, one_field, value_or}
 use Rattle.std.proofs.Common.{◌≡◌, ℕ, ◌≤◌, Bool, true, false, List, [], ◌∷◌, length, refl, sym, subst}
 use Rattle.std.specs.Prelude.{IfOk, IsSome, IsSomeAnd, Option, Some, None, Ok, Err, ◌==◌, ◌&&◌, nat_le, if◌then◌else◌}
 use Rattle.std.specs.Str.Parse.{digits_value}
@@ -9,8 +9,6 @@ use Rattle.fsoe_base.specs.LengthsOf.{length_of}
 use Rattle.fsoe_base.specs.declared.command.End.TheVariants as side
 use Rattle.fsoe_base.specs.declared.lengths.TheConstants.{MOST_DATA}
 use Rattle.schedule_file.specs.EventLine.{switch_of}
-use Rattle.schedule_file.specs.Field.{bytes_said, fields_of, is_number}
-use Rattle.schedule_file.specs.Fields.{next_field, no_field, number_16, one_field, value_or}
 use Rattle.schedule_file.specs.declared.line_cause.LineCause.{LineCause}
 use Rattle.schedule_file.specs.declared.line_cause.LineCause.TheVariants as cause
 use Rattle.schedule_file.proofs.Sound.{each, known, IfOk-every, IfOk-map}

@@ -1,12 +1,9 @@
 -- What a plant reports of its script, as far as it ran.
-use Rattle.plant_run.proofs.Common.{Act, Beginning, Ended, IsPast, JournalStep, LinkConf, Named, Parcel, PlantLine, PlantReports, PlantView, RunCloses, RunStands, Said, Script, ScriptHeading, Start, Terms, bound_lines, is_tick, journal, journal_after, last_lines, lengths_in, line_said, line_step, plant_reporting, pulls_after, refused_line, report_end, report_text, run_stop, said, said_in, script_format, take_app, tick_lines, ticks_text, with_line}
+use Rattle.plant_run.proofs.Common.{Act, AtEnd, Beginning, Ended, EndsReport, EndsUnmet, IsPast, IsPrefix, JournalStep, LinkConf, Named, NoApp, Parcel, PlantLine, PlantReports, PlantView, Refused, ReportsSoFar, RunCloses, RunStands, Said, Script, ScriptHeading, Start, Stop, Terms, bound_lines, input_read, input_stopped, is_tick, journal, journal_after, last_lines, lengths_in, line_said, line_step, plant_reporting, pulls_after, refused_line, report_end, report_text, run_stop, said, said_in, script_format, take_app, tick_lines, ticks_text, with_line}
 use Rattle.std.proofs.Common.{◌≡◌, ℕ, ◌+◌, Bool, true, false, List, [], ◌∷◌, ◌++◌, length, map, if◌then◌else◌, refl, sym, ap, subst, ◌∙◌, append_assoc, arith, eq-eqb}
 use Rattle.std.specs.Prelude.{Option, None}
 use Rattle.std.proofs.lemmas.Bool.{ne_eqb}
 use Rattle.std.proofs.lemmas.List.{append-nil, length-append}
-use Rattle.schedule_file.specs.Input.{NoApp, Stop, AtEnd, Refused, input_read}
-use Rattle.file_run.specs.Reporting.{IsPrefix, ReportsSoFar, input_stopped}
-use Rattle.file_run.specs.Machine.{EndsReport, EndsUnmet}
 use Rattle.plant_model.specs.declared.event.PlantLine.TheVariants as line
 use Rattle.plant_run.proofs.TicksText.{after_line, text_after}
 

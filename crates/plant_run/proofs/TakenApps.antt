@@ -1,11 +1,10 @@
 -- The application that is taken by its name is the first of it that is left.
-use Rattle.plant_run.proofs.Common.{AppView, EntryOf, KindOf, Taken, named, passed, take_app}
+use Rattle.plant_run.proofs.Common.{AppView, EntryOf, IsTaken, KindOf, Taken, named, passed, place_of, take_app}
 use Rattle.std.proofs.Common.{◌≡◌, ℕ, zero, suc, ◌+◌, ◌≤◌, Bool, true, false, List, [], ◌∷◌, map, cond, slice_get, if◌then◌else◌, refl, arith, sym, ap, ◌∙◌}
 use Rattle.std.specs.Prelude.{Option, Some, None, string_bytes}
 use Rattle.std.specs.List.{position_from, remove}
 use Rattle.std.specs.Str.{bytes_eq}
 use Rattle.fb_net.specs.declared.kind_of.KindOf.TheVariants as kind
-use Rattle.plant_setup.specs.Names.{IsTaken, place_of}
 
 -- what is left of these, of which one was taken
 abbrev taken_of : {H : Type 0} → (KindOf H → AppView) → List (EntryOf H) → EntryOf H → Option Taken

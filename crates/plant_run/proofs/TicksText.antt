@@ -1,9 +1,8 @@
 -- The lines of the ticks of a journal that grows by a line of the script.
-use Rattle.plant_run.proofs.Common.{Act, App, Beginning, Event, Happen, JournalStep, LinkConf, Parcel, PullFrom, Said, in_tick, is_line, is_tick, journal, line_step, lines_append, lines_due, lines_from, no_lines_by, no_lines_pulled, offers, tick_lines, ticks_text, with_line}
+use Rattle.plant_run.proofs.Common.{Act, App, Beginning, Event, Happen, JournalStep, LinkConf, Parcel, PullFrom, Said, in_tick, is_line, is_tick, journal, line_step, line_steps, lines_append, lines_due, lines_from, no_lines_by, no_lines_pulled, offers, tick_lines, ticks_text, with_line}
 use Rattle.std.proofs.Common.{◌≡◌, ℕ, Bool, true, false, List, [], ◌∷◌, ◌++◌, Option, Some, None, if◌then◌else◌, refl, sym, ap, ◌∙◌, append_assoc}
 use Rattle.std.proofs.lemmas.List.{append-nil}
 use Rattle.plant_model.specs.declared.journal.JournalStep.TheVariants as step
-use Rattle.plant_model.specs.JournalLaws.{line_steps}
 
 -- the lines go on after a line of the script
 lines_split : (links : List LinkConf) (before a b : List JournalStep) (one : JournalStep) → is_line one ≡ true

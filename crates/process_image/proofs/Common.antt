@@ -1,23 +1,34 @@
--- The names that most proofs of this crate cite, passed on from one place. Declares nothing.
+-- The names that more than one file of these proofs cites, passed on from one place. Declares nothing.
 pub use Rattle.end_core.proofs.Either.{set_answers, setup_is}
 pub use Rattle.end_core.specs.Core.{IsAtRest, setup_of}
 pub use Rattle.end_core.specs.Standing.{Answers, IsAfter, IsNew, Shows}
 pub use Rattle.end_core.specs.declared.one_end.Core.{Core}
+pub use Rattle.end_model.proofs.ReadBack.{count_crcs, count_groups, valid_length}
 pub use Rattle.end_model.specs.Deed.{Deed, is_empty}
+pub use Rattle.end_model.specs.Outputs.{out}
 pub use Rattle.end_model.specs.Readiness.{held, offer, state_of}
 pub use Rattle.end_model.specs.Runs.{IsProper, IsRun, IsSetting, profile_of}
 pub use Rattle.end_model.specs.Setup.{OfMaster, OfSlave, Setup, piece_len, receives, sends}
 pub use Rattle.end_model.specs.Step.{after_phase, answer, begun, code_sent, did_on, download_frame, goes_on, master_answer, run, sealed, sent_on, slave_answer, step, with_data, with_piece}
+pub use Rattle.file_run.specs.Report.{events_line, last_line}
+pub use Rattle.file_run.specs.Reporting.{IsPrefix, ReportsSoFar, ended_at}
 pub use Rattle.file_run.specs.Waiting.{WaitingText, waits}
 pub use Rattle.fsoe_base.specs.Did.{nothing}
 pub use Rattle.fsoe_base.specs.Lengths.{frame_len, is_length}
+pub use Rattle.fsoe_base.specs.declared.command.End.{End}
 pub use Rattle.fsoe_base.specs.declared.did.Did.{Did}
+pub use Rattle.hex.proofs.HexLemmas.{length-encode_with}
 pub use Rattle.hex.specs.Hex.{encode_lower, lower_digits}
+pub use Rattle.param_load.specs.Profile.{allows_id}
 pub use Rattle.param_load.specs.declared.entry.Move.{Move}
+pub use Rattle.param_load.specs.declared.master_settings.MasterSettings.{MasterSettings}
+pub use Rattle.param_load.specs.declared.slave_settings.SlaveSettings.{SlaveSettings}
 pub use Rattle.process_image.specs.Calls.{and_move, contents, deeds, delivery, frame_of, if_named, last_frame, move_in, moves, next_deed, output, with_frames}
+pub use Rattle.process_image.specs.EventLine.{end_at, id_at, image_line, image_said, word_of, write_behind, write_line, written_at}
 pub use Rattle.process_image.specs.Fault.{IsMadeOf, first_fault, first_outside, first_pair, first_with, outside_or, pair_or, places_from, plan_of, slot_spans}
 pub use Rattle.process_image.specs.Header.{ImageHeading, end_of, end_of_kind, fits_images, heading_spans, image_heading_is_whole, is_done, is_open, line_taken, own_taken, size_line, size_taken, slot_begun, slot_line, slot_taken, slots_begun, slots_of, with_last}
 pub use Rattle.process_image.specs.Image.{bytes_at, input, sampled, with_bytes}
+pub use Rattle.process_image.specs.Own.{Unwritten, WritesFit, at_samples, distinct_after, frames_in}
 pub use Rattle.process_image.specs.Places.{AreNumbered, Place, Plan, lie_inside, numbered, overlap, share, spans_of}
 pub use Rattle.process_image.specs.Ran.{image_format, image_reporting}
 pub use Rattle.process_image.specs.Report.{IsEndOf, IsImageReport, IsPlanOf, IsSlotOf, end_terms, entry_line, event_in, event_lines, last_lines, lines_of_events, move_line, report_of}
@@ -32,6 +43,9 @@ pub use Rattle.process_image.specs.declared.header.SlotHeader.{SlotHeader}
 pub use Rattle.process_image.specs.declared.header.Stage.{Stage}
 pub use Rattle.process_image.specs.declared.seat.Seat.{Seat}
 pub use Rattle.process_image.specs.declared.slot.Slot.{Slot}
+pub use Rattle.schedule_file.proofs.Headed.{either, headed}
+pub use Rattle.schedule_file.proofs.Sound.{Sound, after_sound, each, known, master_settings, new_sound, slave_settings}
+pub use Rattle.schedule_file.specs.EventLine.{delivered_len, switch_of}
 pub use Rattle.schedule_file.specs.Field.{bytes_said, fields_of}
 pub use Rattle.schedule_file.specs.Fields.{by_word, map_ok, next_field, no_field, number_16, number_32, one_field, one_hex_field, value_or, ◌>>=◌}
 pub use Rattle.schedule_file.specs.Header.{Heading, IsMasterOf, IsSlaveOf, fields_taken, heading_after, heading_is_whole, heading_with, profile_given, profile_taken, title_taken}

@@ -1,11 +1,10 @@
 -- The frames that are delivered to a slot, and samples that change nothing.
-use Rattle.process_image.proofs.Common.{ImageEvent, Move, Place, Plan, and_move, contents, delivery, frame_of, if_named, input, last_frame, move_in, moves, next_deed, output, run, sampled, told, with_bytes, with_frames}
+use Rattle.process_image.proofs.Common.{ImageEvent, Move, Place, Plan, Unwritten, and_move, at_samples, contents, delivery, distinct_after, frame_of, frames_in, if_named, input, last_frame, move_in, moves, next_deed, output, run, sampled, told, with_bytes, with_frames}
 use Rattle.std.proofs.Common.{◌≡◌, ℕ, List, [], ◌∷◌, ◌++◌, replicate, Option, Some, None, Bool, true, false, nat_eq, if◌then◌else◌, refl, sym, ap, ap₂, ◌∙◌}
 use Rattle.std.specs.Prelude.{option_map}
 use Rattle.std.specs.Cmp.Lexicographic.{pointwise}
 use Rattle.std.proofs.lemmas.Cmp.{nat_list_eq_equiv}
 use Rattle.param_load.specs.declared.entry.Move.TheVariants as move
-use Rattle.process_image.specs.Own.{Unwritten, at_samples, distinct_after, frames_in}
 use Rattle.process_image.specs.declared.event.ImageEvent.TheVariants as event
 
 -- where nothing was written since, what was sampled last is the input image

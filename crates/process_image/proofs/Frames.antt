@@ -1,11 +1,10 @@
 -- What an output image has at each slot, and beside all slots.
-use Rattle.process_image.proofs.Common.{HoldsFrames, ImageEvent, ImagesView, IsBeside, IsSeatOf, Place, Plan, Seat, ShowsFrames, StandsFor, bytes_at, contents, deeds, frame_of, input, output, share, spans_of, with_bytes, with_frames}
+use Rattle.process_image.proofs.Common.{HoldsFrames, ImageEvent, ImagesView, IsBeside, IsSeatOf, Place, Plan, Seat, ShowsFrames, StandsFor, WritesFit, bytes_at, contents, deeds, frame_of, input, output, share, spans_of, with_bytes, with_frames}
 use Rattle.std.proofs.Common.{◌≡◌, ◌≤◌, ◌+◌, ◌-◌, ◌⊎◌, inl, inr, ℕ, zero, suc, List, [], ◌∷◌, ◌++◌, length, take, drop, replicate, All, false, refl, sym, ap, ◌∙◌, arith}
 use Rattle.std.specs.List.{AllZip}
 use Rattle.std.proofs.lemmas.Bool.Decides.{nat_tests}
 use Rattle.std.proofs.lemmas.List.{length-replicate}
 use Rattle.std.proofs.lemmas.List.Elements.{All-head, All-tail, All-nil, All-cons}
-use Rattle.process_image.specs.Own.{WritesFit}
 use Rattle.process_image.specs.declared.event.ImageEvent.TheVariants as event
 use Rattle.process_image.proofs.Apart.{plan_apart}
 use Rattle.process_image.proofs.Beginning.{zeros_at}

@@ -1,10 +1,9 @@
 -- An image as digits, piece by piece.
-use Rattle.process_image.proofs.Common.{encode_lower, lower_digits}
+use Rattle.process_image.proofs.Common.{encode_lower, length-encode_with, lower_digits}
+use Rattle.hex.specs.Hex.{encode_with}
 use Rattle.std.proofs.Common.{◌≡◌, ◌≤◌, ◌+◌, ◌-◌, ◌*◌, ◌/◌, ◌%◌, ℕ, zero, suc, List, [], ◌∷◌, ◌++◌, length, take, drop, length-append, append_assoc, refl, sym, ap, ◌∙◌, arith}
 use Rattle.std.specs.Prelude.{slice_index}
 use Rattle.std.proofs.lemmas.List.{append-nil, length-take-le, take_all}
-use Rattle.hex.specs.Hex.{encode_with}
-use Rattle.hex.proofs.HexLemmas.{length-encode_with}
 
 -- the digits of one part after another
 encode-append : (t xs ys : List ℕ) → encode_with t (xs ++ ys) ≡ encode_with t xs ++ encode_with t ys

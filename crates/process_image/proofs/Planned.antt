@@ -1,9 +1,7 @@
 -- Slots that are made as the lines of a header say.
-use Rattle.process_image.proofs.Common.{Core, IsEndOf, IsMasterOf, IsSlaveOf, OfMaster, OfSlave, Setup, SlotHeader, end_of, setup_of}
+use Rattle.process_image.proofs.Common.{Core, IsEndOf, IsMasterOf, IsSlaveOf, MasterSettings, OfMaster, OfSlave, Setup, SlaveSettings, SlotHeader, end_of, setup_of}
 use Rattle.std.proofs.Common.{◌≡◌, subst, sym}
 use Rattle.fsoe_base.specs.declared.command.End.TheVariants as side
-use Rattle.param_load.specs.declared.master_settings.MasterSettings.{MasterSettings}
-use Rattle.param_load.specs.declared.slave_settings.SlaveSettings.{SlaveSettings}
 
 -- a new end is set to settings that the lines of a slot say
 pub made_master : (s : SlotHeader) (core : Core) (settings : MasterSettings) → end_of s ≡ side.Master → IsMasterOf s.own settings → setup_of core ≡ OfMaster settings → IsEndOf s (setup_of core)

@@ -1,10 +1,9 @@
 -- What is shown of one slot.
-use Rattle.process_image.proofs.Common.{AnswersReset, Deed, Did, ImagesView, IsSeatOf, IsSoundSeat, Place, Seat, Setup, ShowsAt, bytes_at, deeds, entry_told, frame_len, frame_of, last_frame, numbered, output, sends, setup_is, setup_of, setups_of, told_line}
+use Rattle.process_image.proofs.Common.{AnswersReset, Deed, Did, ImagesView, IsSeatOf, IsSoundSeat, Place, Seat, Setup, ShowsAt, bytes_at, deeds, entry_told, frame_len, frame_of, last_frame, numbered, output, sends, setup_is, setup_of, setups_of, told_line, valid_length}
 use Rattle.std.proofs.Common.{◌≡◌, ◌≤◌, ◌+◌, ◌-◌, ℕ, zero, suc, take, drop, length-take, arith, Bool, true, false, List, [], ◌∷◌, map, length, slice_get, Option, Some, IfSome, option_map, refl, sym, ap, ◌∙◌}
 use Rattle.std.specs.Prelude.{if◌then◌else◌}
 use Rattle.std.proofs.lemmas.Bool.Decides.{nat_tests}
 use Rattle.param_load.specs.declared.entry.Move.TheVariants as move
-use Rattle.end_model.proofs.ReadBack.{valid_length}
 use Rattle.end_core.specs.Standing as end_core
 use Rattle.process_image.proofs.Beginning.{frame_most}
 use Rattle.process_image.proofs.Frames.{holds_frames}

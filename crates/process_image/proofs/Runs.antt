@@ -1,5 +1,5 @@
 -- A run of images over the events of an input.
-use Rattle.process_image.proofs.Common.{DoesEvent, FitsImages, HasSlot, ImageEvent, ImageHeading, ImagesView, IsEndOf, IsMadeOf, IsNew, IsPlanOf, IsSeatOf, IsSlotOf, LineCause, OfMaster, OfSlave, Place, Plan, Refused, RunStands, RunView, Seat, Setup, Slot, SlotHeader, StandsFor, by_word, bytes_said, deeds, encode_lower, end_terms, event_in, event_lines, fields_of, heading_profile, image_format, image_reporting, last_lines, lines_of_events, map_ok, next_field, no_field, number_16, number_32, numbered, one_field, own_length, places_from, plan_of, profile_of, report_of, sends, setup_is, setup_of, setups_of, slots_of, value_or}
+use Rattle.process_image.proofs.Common.{DoesEvent, FitsImages, HasSlot, ImageEvent, ImageHeading, ImagesView, IsEndOf, IsMadeOf, IsNew, IsPlanOf, IsPrefix, IsSeatOf, IsSlotOf, LineCause, OfMaster, OfSlave, Place, Plan, Refused, ReportsSoFar, RunStands, RunView, Seat, Setup, Slot, SlotHeader, StandsFor, allows_id, by_word, bytes_said, deeds, each, encode_lower, end_at, end_terms, ended_at, event_in, event_lines, events_line, fields_of, heading_profile, id_at, image_format, image_line, image_reporting, image_said, known, last_lines, lines_of_events, map_ok, next_field, no_field, number_16, number_32, numbered, one_field, own_length, places_from, plan_of, profile_of, report_of, sends, setup_is, setup_of, setups_of, slots_of, switch_of, value_or, word_of}
 use Rattle.std.proofs.Common.{◌≡◌, ◌≤◌, ◌+◌, ◌==◌, ℕ, zero, suc, List, [], ◌∷◌, ◌++◌, Bool, true, false, length, map, reverse, slice_get, Option, Some, None, IfSome, append_assoc, refl, sym, ap, ap₂, subst, ◌∙◌, arith}
 use Rattle.std.specs.Prelude.{◌<◌, nat_le, All, IfOk, IsTrue, Result, Ok, Err, codes, if◌then◌else◌}
 use Rattle.std.specs.List.{AllZip}
@@ -7,14 +7,8 @@ use Rattle.std.proofs.lemmas.Bool.Decides.{nat_tests}
 use Rattle.std.proofs.lemmas.List.{append-nil, reverse-append, length-reverse}
 use Rattle.std.proofs.lemmas.List.Elements.{All-nil, All-cons}
 use Rattle.fsoe_io.specs.declared.status.Status.TheVariants as status
-use Rattle.param_load.specs.Profile.{allows_id}
-use Rattle.schedule_file.specs.EventLine.{switch_of}
-use Rattle.schedule_file.proofs.Sound.{each, known}
 use Rattle.schedule_file.specs.declared.line_cause.LineCause.TheVariants as cause
 use Rattle.file_run.specs.Machine.{IsSaid, EndsReport}
-use Rattle.file_run.specs.Report.{events_line}
-use Rattle.file_run.specs.Reporting.{ReportsSoFar, IsPrefix, ended_at}
-use Rattle.process_image.specs.EventLine.{end_at, id_at, image_said, image_line, word_of}
 use Rattle.process_image.specs.declared.event.ImageEvent.TheVariants as event
 use Rattle.process_image.specs.declared.event.ImageLine.{ImageLine}
 use Rattle.process_image.specs.declared.event.ImageLine.TheVariants as line

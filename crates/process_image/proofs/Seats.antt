@@ -1,11 +1,11 @@
 -- One slot at a sample and at a tick.
 use Rattle.process_image.proofs.Common.{AddsLine, Answers, Core, Did, Does, IsAtRest, IsLineOf, IsSampleStep, IsSoundSeat, IsTickStep, Move, Seat, SeatStep, Shows, Tells, answer_in, bytes_at, delivery, did_in, entry_told, frame_len, nothing, seat_contents, sends, setup_of, told_by, with_bytes, with_sent}
+use Rattle.end_core.specs.Standing.{Follows}
 use Rattle.std.proofs.Common.{◌≡◌, ℕ, ◌+◌, ◌-◌, ◌*◌, ◌==◌, ◌≤◌, List, [], length, take, drop, min, Option, Some, None, option_map, Bool, true, false, if◌then◌else◌, nat_eq, refl, sym, ap, subst, ◌∙◌, arith}
 use Rattle.std.proofs.lemmas.Grind.{common_steps}
 use Rattle.std.proofs.lemmas.List.{append-nil, length-take, length-drop}
 use Rattle.std.specs.Cmp.Lexicographic.{pointwise, same_text}
 use Rattle.param_load.specs.declared.entry.Move.TheVariants as move
-use Rattle.end_core.specs.Standing.{Follows}
 
 -- a frame has some bytes
 some-bytes : (b : Bool) (l : ℕ) → (0 == (if b then 6 else 3 + 2 * l)) ≡ false

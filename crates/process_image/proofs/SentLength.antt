@@ -1,5 +1,5 @@
 -- A frame that an end sends has as many bytes as its frames have.
-use Rattle.process_image.proofs.Common.{Deed, Did, IsProper, IsRun, Move, OfMaster, OfSlave, Setup, after_phase, answer, begun, code_sent, did_on, download_frame, frame_len, goes_on, held, is_empty, is_length, master_answer, offer, piece_len, receives, sealed, sends, sent_on, slave_answer, step, with_data, with_piece}
+use Rattle.process_image.proofs.Common.{Deed, Did, IsProper, IsRun, MasterSettings, Move, OfMaster, OfSlave, Setup, SlaveSettings, after_phase, answer, begun, code_sent, count_crcs, count_groups, did_on, download_frame, frame_len, goes_on, held, is_empty, is_length, master_answer, offer, piece_len, receives, sealed, sends, sent_on, slave_answer, step, valid_length, with_data, with_piece}
 use Rattle.std.proofs.Common.{◌≡◌, ℕ, zero, suc, ◌+◌, ◌-◌, ◌*◌, ◌/◌, ◌≤◌, List, [], ◌∷◌, ◌++◌, length, take, replicate, nat_lt, Bool, true, false, Option, Some, None, IsTrue, if◌then◌else◌, refl, sym, ap, ◌∙◌, arith, inl, inr}
 use Rattle.std.proofs.lemmas.Bool.{cases_eq}
 use Rattle.std.proofs.lemmas.Bool.Decides.{nat_tests}
@@ -15,13 +15,10 @@ use Rattle.fsoe_frame.specs.Parts.{Frame}
 use Rattle.seq_chain.specs.Reset.{reset_load, reset_crcs, reset_frame}
 use Rattle.seq_chain.specs.Sealing as sealing
 use Rattle.param_load.specs.declared.entry.Move.TheVariants as move
-use Rattle.param_load.specs.declared.master_settings.MasterSettings.{MasterSettings}
-use Rattle.param_load.specs.declared.slave_settings.SlaveSettings.{SlaveSettings}
 use Rattle.param_load.specs.Payload.{padded}
 use Rattle.end_model.specs.Phases.{phase_of, is_guarded}
 use Rattle.end_model.specs.Chain.{taken, since, newest_crc, own, own_link, seal}
 use Rattle.end_model.specs.Payloads.{conn_id, pay, pieces, session_id, count_in}
-use Rattle.end_model.proofs.ReadBack.{valid_length, count_crcs, count_groups}
 
 -- the bytes of a frame
 groups-long : (load crcs : List ℕ) → length crcs ≡ length (groups load) → length (with_crcs (groups load) crcs) ≡ length load + 2 * length (groups load)

@@ -1,14 +1,12 @@
 -- The slots of a header fit its images, line by line.
-use Rattle.process_image.proofs.Common.{Fit, Heading, ImageHeading, IsApart, IsEndOf, IsMadeOf, IsTested, LineCause, OfMaster, OfSlave, Setup, Slot, SlotHeader, Stage, and_placed, end_of, end_of_kind, fields_of, fields_taken, first_fault, first_outside, first_pair, first_with, fits_images, frame_len, heading_after, heading_is_whole, heading_spans, heading_with, image_heading_is_whole, is_done, is_end_line, is_placed, kind_after, lie_inside, map_ok, no_field, node_heading_after, one_hex_field, overlap, own_length, pair_or, places_from, plan_of, profile_given, profile_taken, receives, sends, setup_of, slot_spans, slots_begun, slots_of, tested_by, title_taken, ◌>>=◌}
+use Rattle.process_image.proofs.Common.{End, Fit, Heading, ImageHeading, IsApart, IsEndOf, IsMadeOf, IsTested, LineCause, OfMaster, OfSlave, Setup, Slot, SlotHeader, Stage, and_placed, delivered_len, either, end_of, end_of_kind, fields_of, fields_taken, first_fault, first_outside, first_pair, first_with, fits_images, frame_len, heading_after, heading_is_whole, heading_spans, heading_with, image_heading_is_whole, is_done, is_end_line, is_placed, kind_after, lie_inside, map_ok, no_field, node_heading_after, one_hex_field, overlap, own_length, pair_or, places_from, plan_of, profile_given, profile_taken, receives, sends, setup_of, slot_spans, slots_begun, slots_of, tested_by, title_taken, ◌>>=◌}
 use Rattle.std.proofs.Common.{◌≡◌, ◌≤◌, ◌⊎◌, inl, inr, ℕ, suc, List, [], ◌∷◌, ◌++◌, Bool, true, false, length, map, refl, sym, ap, ap₂, subst, ◌∙◌}
 use Rattle.std.specs.Prelude.{◌&&◌, ◌||◌, not, IsTrue, IfOk, Option, Some, None, Result, Ok, Err, if◌then◌else◌}
 use Rattle.std.specs.List.{AllZip, list_any}
 use Rattle.std.proofs.lemmas.Bool.{false≢true}
 use Rattle.std.proofs.lemmas.Result.{IfOk-weaker}
 use Rattle.std.specs.Str.{bytes_eq}
-use Rattle.fsoe_base.specs.declared.command.End.{End}
 use Rattle.fsoe_base.specs.declared.command.End.TheVariants as side
-use Rattle.schedule_file.specs.EventLine.{delivered_len}
 use Rattle.schedule_file.specs.HeaderKind.{title_of}
 use Rattle.schedule_file.specs.HeaderLine.{header_line, lengths_line, master_line, profile_line, slave_line, rule_line, range_line}
 use Rattle.schedule_file.specs.HeaderPart.{master_with_app, slave_with_bytes, slave_with_pairs}
@@ -22,7 +20,6 @@ use Rattle.schedule_file.specs.declared.place.Place.{Place}
 use Rattle.schedule_file.specs.declared.place.Place.TheVariants as place
 use Rattle.schedule_file.specs.declared.place.Word.{Word}
 use Rattle.schedule_file.specs.declared.place.Word.TheVariants as word
-use Rattle.schedule_file.proofs.Headed.{either}
 use Rattle.process_image.specs.declared.header.Stage.TheVariants as stage
 use Rattle.process_image.specs.declared.spans.Spans.{Spans}
 use Rattle.process_image.proofs.Faults.{tested}

@@ -1,10 +1,9 @@
 -- The lines of an event, slot by slot.
-use Rattle.process_image.proofs.Common.{AreLinesOf, AreNumbered, Deed, Did, ImageEvent, ImagesView, IsAfter, IsLineOf, IsRun, IsSeatOf, Makes, Move, Place, Plan, Seat, SeatStep, Setup, ShowsAt, StandsFor, deeds, entry_line, entry_told, event_lines, is_empty, last_frame, move_in, move_line, next_deed, state_of, told_line}
+use Rattle.process_image.proofs.Common.{AreLinesOf, AreNumbered, Deed, Did, ImageEvent, ImagesView, IsAfter, IsLineOf, IsRun, IsSeatOf, Makes, Move, Place, Plan, Seat, SeatStep, Setup, ShowsAt, StandsFor, deeds, entry_line, entry_told, event_lines, is_empty, last_frame, move_in, move_line, next_deed, out, state_of, told_line}
 use Rattle.std.proofs.Common.{◌≡◌, ◌+◌, ℕ, zero, suc, List, [], ◌∷◌, ◌++◌, Bool, true, false, not, length, slice_get, Option, Some, None, codes, decimal, refl, sym, ap, ap₂, subst, ◌∙◌, arith}
 use Rattle.std.specs.Prelude.{option_map, if◌then◌else◌}
 use Rattle.std.specs.List.{AllZip}
 use Rattle.entry_text.specs.EntryText.{entry_text}
-use Rattle.end_model.specs.Outputs.{out}
 use Rattle.end_model.proofs.Told.{told_sent}
 use Rattle.process_image.proofs.Following.{IsPart, deeds_more, reached}
 

@@ -1,12 +1,11 @@
 -- A line of bytes that are written, of which the digits are read first.
-use Rattle.process_image.proofs.Common.{LineCause, bytes_said, fields_of, next_field, number_16, one_hex_field, value_or, ◌>>=◌}
+use Rattle.process_image.proofs.Common.{LineCause, bytes_said, fields_of, next_field, number_16, one_hex_field, value_or, write_behind, write_line, written_at, ◌>>=◌}
 use Rattle.std.proofs.Common.{◌≡◌, ℕ, ◌+◌, ◌<◌, ◌≤◌, List, [], ◌∷◌, length, refl, ap, ◌∙◌, arith}
 use Rattle.std.proofs.lemmas.Bool.Decides.{nat_tests}
 use Rattle.std.specs.Prelude.{Result, Ok, Err}
 use Rattle.schedule_file.proofs.HexAlone.{said_alone, unsaid_alone}
 use Rattle.schedule_file.specs.FieldsRead.{not_hex}
 use Rattle.schedule_file.specs.declared.line_cause.LineCause.TheVariants as cause
-use Rattle.process_image.specs.EventLine.{write_line, write_behind, written_at}
 use Rattle.process_image.specs.Said.{not_written, cause_or}
 use Rattle.process_image.specs.declared.event.ImageEvent.TheVariants as event
 use Rattle.process_image.specs.declared.event.ImageLine.TheVariants as line

@@ -1,15 +1,8 @@
 -- In a world without another entry outputs with a bit as 1 have an age: they are from an item.
-use Rattle.reaction_bound.proofs.Common.{Command, End, Entry, IsTakenFrom, Item, NoOther, TakesAwaited, Terms, Took, age_of, awaited, awaited_by, in_time, is_other, item_number, items, of_end, outputs_after, outputs_at, outputs_by, outputs_due, received_len, same_end, source, source_after, source_at, source_by, source_in, ticked, ticks_since}
+use Rattle.reaction_bound.proofs.Common.{Command, End, Entry, IsTakenFrom, IsWorld, Item, MasterSettings, NoOther, NoneOther, SameLengths, SlaveSettings, TakesAwaited, Terms, Took, age_of, awaited, awaited_by, in_time, is_data, is_other, item_number, items, none_other, of_end, outputs_after, outputs_at, outputs_by, outputs_due, received_len, same, same_end, source, source_after, source_at, source_by, source_in, ticked, ticks_since}
 use Rattle.std.proofs.Common.{◌≡◌, ℕ, List, [], ◌∷◌, replicate, Bool, true, false, ◌&&◌, not, Option, Some, None, is_some, IsSome, option_map, if◌then◌else◌, refl, ap, ◌∙◌, subst}
 use Rattle.fsoe_base.specs.declared.command.Command.TheVariants as command
 use Rattle.fsoe_base.specs.Image.{bit_of}
-use Rattle.fsoe_base.specs.Data.{is_data}
-use Rattle.param_load.specs.declared.master_settings.MasterSettings.{MasterSettings}
-use Rattle.param_load.specs.declared.slave_settings.SlaveSettings.{SlaveSettings}
-use Rattle.exchange_model.specs.World.{SameLengths}
-use Rattle.exchange_model.specs.Schedules.{IsWorld}
-use Rattle.exchange_model.proofs.Worlds.Projection.{same}
-use Rattle.exchange_model.proofs.Joint.Taking.{NoneOther, none_other}
 use Rattle.exchange_model.proofs.Fairness.Headline.{takes_awaited}
 use Rattle.exchange_model.proofs.Offering.Shown.{none_of_zeros}
 use Rattle.reaction_bound.proofs.Bounded.{data-of}

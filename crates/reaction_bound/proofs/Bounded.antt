@@ -1,28 +1,19 @@
 -- In a world without another entry outputs are no older than twice the watchdog: one of them passes at most until the
 -- end takes what its peer sent, and one until the outputs are zeros.
-use Rattle.reaction_bound.proofs.Common.{Command, Deed, End, Entry, Move, NoOther, Terms, Took, age_of, awaited_by, data_taken, greater, in_time, is_other, items, items_of, of_session, peer, same_end, source, source_after, source_at, source_by, ticked, ticks_since, worst_of}
+use Rattle.reaction_bound.proofs.Common.{Command, Deed, Did, End, Entry, IsWorld, MasterSettings, Move, NoOther, NoneOther, SameLengths, SlaveSettings, Terms, Took, age_of, awaited_by, data_taken, deed_in, deeds, deeds_are_run, entry_reacted, greater, in_time, is_data, is_other, items, items_of, next_told, none_other, of_session, peer, same, same_end, setup_of, source, source_after, source_at, source_by, ticked, ticks-head, ticks_since, worst_of}
 use Rattle.std.proofs.Common.{◌≡◌, ℕ, ◌+◌, ◌-◌, ◌*◌, ◌<◌, ◌≤◌, nat_lt, List, [], ◌∷◌, length, Bool, true, false, ◌&&◌, not, Option, Some, None, IfSome, IsSomeAnd, is_some, option_map, if◌then◌else◌, refl, sym, ap, ◌∙◌, subst, arith}
 use Rattle.std.proofs.lemmas.Bool.{ltb-true}
 use Rattle.fsoe_base.specs.declared.command.State.TheVariants as state
 use Rattle.fsoe_base.specs.declared.command.Command.TheVariants as command
-use Rattle.fsoe_base.specs.declared.did.Did.{Did}
-use Rattle.fsoe_base.specs.Data.{is_data}
-use Rattle.param_load.specs.declared.master_settings.MasterSettings.{MasterSettings}
 use Rattle.param_load.specs.Download.{terms_of}
-use Rattle.param_load.specs.declared.slave_settings.SlaveSettings.{SlaveSettings}
 use Rattle.end_model.specs.Setup.{Setup, OfMaster, OfSlave}
 use Rattle.end_model.specs.Chain.{since}
 use Rattle.end_model.specs.Payloads.{terms}
 use Rattle.end_model.specs.Readiness.{phase_after, phase_taken, state_of, ticks, told_terms}
 use Rattle.end_model.specs.Reactions.{Reaction, Expires, SendsAgain, ResetsItself, Refuses, PeerResets, Answers}
-use Rattle.exchange_model.specs.World.{setup_of, deed_in, deeds, SameLengths}
-use Rattle.exchange_model.specs.Schedules.{IsWorld}
-use Rattle.exchange_model.proofs.Worlds.Projection.{same, next_told, deeds_are_run, entry_reacted}
-use Rattle.exchange_model.proofs.Joint.Taking.{NoneOther, none_other}
 use Rattle.exchange_model.proofs.Alone.Pieces.{deed}
 use Rattle.exchange_model.proofs.Offering.Older.{ticked_across}
 use Rattle.exchange_model.proofs.Offering.Young.{TakesYoung, takes_young}
-use Rattle.exchange_model.proofs.Offering.Sending.{ticks-head}
 use Rattle.exchange_model.proofs.Offering.Offered.{agrees, tells, taking_agrees, own_head, same_itself, both-ways}
 use Rattle.reaction_bound.proofs.Waiting.{awaited_within, since_next, Next, Kept, Gone, Fresh, next, fresh_now}
 use Rattle.reaction_bound.proofs.Outputs.{source_within}

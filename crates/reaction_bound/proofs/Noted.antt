@@ -1,12 +1,10 @@
 -- What is kept of the ages after an entry is what the definitions say of the entries with it.
-use Rattle.reaction_bound.proofs.Common.{AgesView, Command, End, Entry, NotesEntry, NotesParts, Took, acted_next, age_in, age_of, awaited, awaited_by, counted, delivered, greater, heard_next, is_other, is_tick, item_number, items, judged, kept_of, same_end, standing_at, standing_counted, standing_taken, told_age, view_of, waited_next, watchdog_in, worst_of}
+use Rattle.reaction_bound.proofs.Common.{AgesView, Command, Did, End, Entry, HasParts, MonitorView, NotesEntry, NotesParts, Standing, Took, acted_next, age_in, age_of, awaited, awaited_by, counted, delivered, greater, is_other, is_tick, item_number, items, judged, kept_of, same_end, standing_at, standing_counted, standing_taken, told_age, view_of, waited_next, watchdog_in, worst_of}
+use Rattle.reaction_bound.specs.Ages.{heard_next}
 use Rattle.std.proofs.Common.{◌≡◌, ℕ, List, ◌∷◌, Bool, true, false, Option, None, Some, IfSome, is_some, if◌then◌else◌, refl, sym, ap, ap₂, ◌∙◌}
 use Rattle.fsoe_base.specs.declared.command.End.TheVariants as end_name
 use Rattle.fsoe_base.specs.declared.command.Command.TheVariants as command
-use Rattle.fsoe_base.specs.declared.did.Did.{Did}
 use Rattle.exchange_model.specs.Monitor as monitor
-use Rattle.exchange_model.specs.Monitor.{MonitorView, HasParts}
-use Rattle.reaction_bound.specs.declared.end_age.Standing.{Standing}
 use Rattle.reaction_bound.specs.declared.end_age.EndAge.{EndAge}
 use Rattle.reaction_bound.proofs.Waiting.{waited_step}
 use Rattle.reaction_bound.proofs.Outputs.{heard_outputs, acted_outputs, age_told, acted_worst, heard_worst}

@@ -1,10 +1,9 @@
 -- The outputs of an end that are from an item.
-use Rattle.reaction_bound.proofs.Common.{Command, End, Entry, Move, Terms, Took, age_in, age_of, awaited_by, counted, greater, in_time, is_other, is_tick, items, items_of, kept_of, left_after, left_at, left_by, peer, same_end, source, source_after, source_at, source_by, source_in, standing_at, standing_counted, standing_from, standing_next, standing_of, standing_taken, standing_ticked, ticked, ticked_at, ticks_since, told, told_age, waited, watchdog_in, worst_of}
+use Rattle.reaction_bound.proofs.Common.{Command, End, Entry, Move, Standing, Terms, Took, age_in, age_of, awaited_by, counted, greater, in_time, is_other, is_tick, items, items_of, kept_of, left_after, left_at, left_by, peer, same_end, source, source_after, source_at, source_by, source_in, standing_at, standing_counted, standing_from, standing_next, standing_of, standing_taken, standing_ticked, ticked, ticked_at, ticks_since, told, told_age, waited, watchdog_in, worst_of}
 use Rattle.std.proofs.Common.{◌≡◌, ℕ, suc, ◌-◌, ◌^◌, ◌≤◌, min, max, nat_lt, nat_le, List, [], ◌∷◌, length, Bool, true, false, ◌&&◌, not, Option, Some, None, is_some, option_map, if◌then◌else◌, refl, sym, ap, ap₂, ◌∙◌, arith}
 use Rattle.std.proofs.lemmas.Bool.Decides.{nat_tests}
 use Rattle.fsoe_base.specs.declared.command.Command.TheVariants as command
 use Rattle.param_load.specs.declared.entry.Move.TheVariants as move
-use Rattle.reaction_bound.specs.declared.end_age.Standing.{Standing}
 use Rattle.reaction_bound.proofs.Waiting.{awaited_within, items_grow, since_next, told_since}
 
 -- the item from which outputs are is one that was awaited

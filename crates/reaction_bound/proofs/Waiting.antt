@@ -1,5 +1,5 @@
 -- The ticks since the item that an end awaits was sent.
-use Rattle.reaction_bound.proofs.Common.{End, Entry, Item, Move, awaited, awaited_by, counted, delivered, is_empty, is_tick, item_number, items, items_of, peer, same_end, sends_item, ticked, ticks_since, told, waited, waited_next}
+use Rattle.reaction_bound.proofs.Common.{End, Entry, Item, MonitorView, Move, Side, awaited, awaited_by, counted, delivered, grown-length, heard_next, is_answer, is_empty, is_tick, item_number, items, items_of, next_number, next_sent, noted_next, peer, same_end, sends_item, sent_next, sent_number, side_of, ticked, ticks_since, told, waited, waited_next}
 use Rattle.std.proofs.Common.{◌≡◌, ℕ, suc, ◌-◌, ◌^◌, ◌≤◌, min, ◌==◌, List, ◌∷◌, length, Bool, true, false, ◌&&◌, not, Option, Some, None, if◌then◌else◌, refl, sym, ap, ◌∙◌, subst, arith, inl, inr}
 use Rattle.std.proofs.lemmas.Bool.{eq-eqb}
 use Rattle.std.proofs.lemmas.Bool.Decides.{nat_tests, eqb_tells}
@@ -8,11 +8,9 @@ use Rattle.fsoe_base.specs.declared.command.Command.TheVariants as command
 use Rattle.param_load.specs.declared.entry.Move.TheVariants as move
 use Rattle.end_model.specs.Phases.{has_command}
 use Rattle.exchange_model.specs.Monitor as monitor
-use Rattle.exchange_model.specs.Monitor.{MonitorView, Side, sent_number, next_number, is_answer, next_sent, sent_next, heard_next, side_of, noted_next}
 use Rattle.exchange_model.proofs.Worlds.Numbered.{grown, numbered}
 use Rattle.exchange_model.proofs.Joint.Awaited.{awaited_found}
 use Rattle.exchange_model.proofs.Monitors.Noted.{newest_next, notes_by, awaited_number}
-use Rattle.exchange_model.proofs.Offering.Sending.{grown-length}
 
 -- an item with a number
 record HasNumber (k : ℕ) (o : Option Item) : Type 0 where

@@ -1,5 +1,5 @@
 -- The events of an input fit the ends that its header describes.
-use Rattle.schedule_file.proofs.Common.{End, Event, Fits, FitsEnd, Heading, InputFormat, LineCause, OnStep, PairWord, Profile, Stop, WholeHeaderOf, allows_id, before_more, by_word, bytes_said, event_of, fields_of, header_of, heading_profile, input_by, input_of, is_number, next_field, no_field, number_16, number_32, number_said, one_field, one_hex_field, own_length, pair_said, pair_said_by, pair_word_of, said_after, schedule_format, steps, texts, value_or, ◌>>=◌}
+use Rattle.schedule_file.proofs.Common.{End, Event, Fits, FitsEnd, Heading, InputFormat, LineCause, MOST_DATA, MOST_FRAME, OnStep, PairWord, Profile, ScheduleLine, Stop, WholeHeaderOf, allows_id, altered_line, before_more, by_word, bytes_said, delivered_len, event_of, fields_of, header_of, heading_profile, input_by, input_of, is_number, next_field, no_field, not_zero, number_16, number_32, number_said, one_field, one_hex_field, own_length, pair_said, pair_said_by, pair_word_of, reference_of, said_after, schedule_format, steps, switch_of, texts, value_or, ◌>>=◌}
 use Rattle.std.proofs.Common.{◌≡◌, ℕ, ◌≤◌, ◌<◌, Bool, true, false, List, [], ◌∷◌, length, map, refl, arith, sym, subst}
 use Rattle.std.specs.Prelude.{All, Result, Ok, Err, Option, Some, None, IfOk, IfSome, ◌&&◌, ◌==◌, nat_le, nat_lt, if◌then◌else◌}
 use Rattle.std.specs.Str.Parse.{digits_value}
@@ -7,10 +7,7 @@ use Rattle.std.proofs.lemmas.Bool.{and_parts, leb-true, ltb-true, eqb-true}
 use Rattle.std.proofs.lemmas.Bool.Decides.{nat_tests}
 use Rattle.std.proofs.lemmas.List.Elements.{All-cons, All-nil, All-take}
 use Rattle.std.proofs.lemmas.Result.{IfOk-at_ok, IfOk-weaker}
-use Rattle.fsoe_base.specs.declared.lengths.TheConstants.{MOST_DATA, MOST_FRAME}
-use Rattle.schedule_file.specs.EventLine.{not_zero, reference_of, switch_of, delivered_len, altered_line}
 use Rattle.schedule_file.specs.NodeEvent.{word_of, node_said}
-use Rattle.schedule_file.specs.declared.event.ScheduleLine.{ScheduleLine}
 use Rattle.schedule_file.specs.declared.event.ScheduleLine.TheVariants as line
 use Rattle.schedule_file.specs.declared.header_kind.HeaderKind.TheVariants.{Pair, Node}
 use Rattle.schedule_file.specs.declared.line_cause.LineCause.TheVariants as cause

@@ -1,12 +1,12 @@
 -- What texts of hexadecimal digits say, and which texts say no bytes.
 use Rattle.schedule_file.proofs.Common.{FromHexError, bytes_said, decode_of, decode_of-even, decode_of-ok, hex_digit_value, is_hex_digit, pair_value, some_bytes}
+use Rattle.hex.specs.Hex.{decode_pairs}
 use Rattle.std.proofs.Common.{◌≡◌, ℕ, ◌+◌, ◌*◌, ◌/◌, ◌%◌, ◌<◌, ◌≤◌, List, length, take, drop, slice_index, slice_set, bit_or, unwrap_or, refl, sym, ap, ◌∙◌, arith, inl, inr}
 use Rattle.std.specs.Prelude.{◌⊎◌, Result, Ok, Err, Option, Some, None, true}
 use Rattle.std.proofs.lemmas.Bool.{cases_lt}
 use Rattle.std.proofs.lemmas.Bool.Decides.{nat_tests}
 use Rattle.std.proofs.lemmas.List.{append-nil, drop_all, length-take-le}
 use Rattle.std.proofs.lemmas.Nat.{le_or_l, le_or_r, or_of_8}
-use Rattle.hex.specs.Hex.{decode_pairs}
 use Rattle.hex.proofs.Pairs.{decode_step, prepend}
 
 -- bytes that are as many as there may be

@@ -1,22 +1,16 @@
 -- Each line of a header leaves fewer to come.
-use Rattle.schedule_file.proofs.Common.{Becomes, HeaderKind, Heading, LineCause, heading_with, highs_of, list_with, lows_of, map_ok, master_with_app, may_stand, no_field, one_hex_field, profile_taken, ranges_with, rule_begun, rule_len, rule_place, rule_with_bytes, rule_with_pairs, slave_with_bytes, slave_with_pairs, ◌>>=◌}
+use Rattle.schedule_file.proofs.Common.{AppRule, Becomes, HeaderKind, HeaderLine, Heading, LineCause, Place, RuleLine, Word, header_line, heading_with, highs_of, lengths_line, list_with, lows_of, map_ok, master_line, master_with_app, may_stand, no_field, one_hex_field, profile_line, profile_taken, range_line, ranges_with, rule_begun, rule_len, rule_line, rule_place, rule_with_bytes, rule_with_pairs, slave_line, slave_with_bytes, slave_with_pairs, ◌>>=◌}
 use Rattle.std.proofs.Common.{◌≡◌, ℕ, ◌+◌, ◌-◌, ◌/◌, ◌≤◌, ◌<◌, Bool, true, false, List, [], ◌∷◌, ◌++◌, length, length-append, arith, refl}
 use Rattle.std.specs.Prelude.{IsTrue, Result, Ok, Err, IfOk, OnOk, nat_le, if◌then◌else◌}
 use Rattle.std.proofs.lemmas.Bool.{false≢true, and_parts, leb-true}
 use Rattle.std.proofs.lemmas.Bool.Decides.{nat_tests}
 use Rattle.std.proofs.lemmas.Result.{IfOk-at_ok, IfOk-weaker}
-use Rattle.param_load.specs.declared.app_rule.AppRule.{AppRule}
 use Rattle.param_load.specs.declared.app_rule.AppRule.TheVariants as app_rule
-use Rattle.schedule_file.specs.HeaderLine.{lengths_line, master_line, profile_line, slave_line, rule_line, range_line, header_line}
 use Rattle.schedule_file.specs.LinesLeft.{left_after, lines_left}
-use Rattle.schedule_file.specs.declared.header_line.HeaderLine.{HeaderLine}
 use Rattle.schedule_file.specs.declared.header_line.HeaderLine.TheVariants as says
-use Rattle.schedule_file.specs.declared.header_line.RuleLine.{RuleLine}
 use Rattle.schedule_file.specs.declared.header_line.RuleLine.TheVariants as rule
 use Rattle.schedule_file.specs.declared.line_cause.LineCause.TheVariants as cause
-use Rattle.schedule_file.specs.declared.place.Place.{Place}
 use Rattle.schedule_file.specs.declared.place.Place.TheVariants as place
-use Rattle.schedule_file.specs.declared.place.Word.{Word}
 use Rattle.schedule_file.specs.declared.place.Word.TheVariants as word
 use Rattle.schedule_file.proofs.Sound.{IfOk-map, hex_sound, range_sound}
 

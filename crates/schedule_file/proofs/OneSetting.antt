@@ -1,12 +1,9 @@
 -- A header says all that an end is set to, so that an end has one setting by it.
-use Rattle.schedule_file.proofs.Common.{Heading, IsMasterOf, IsSlaveOf, Lengths, allows_id, is_acceptable}
+use Rattle.schedule_file.proofs.Common.{Heading, IsMasterOf, IsSlaveOf, Lengths, MasterSettings, SlaveSettings, allows_id, is_acceptable, is_length}
 use Rattle.std.proofs.Common.{◌≡◌, ◌<◌, ◌∙◌, sym}
 use Rattle.std.specs.Prelude.{IsTrue}
 use Rattle.std.proofs.Math.Bool.{Bool-set}
 use Rattle.std.proofs.Math.Bridge.{le_prop}
-use Rattle.fsoe_base.specs.Lengths.{is_length}
-use Rattle.param_load.specs.declared.master_settings.MasterSettings.{MasterSettings}
-use Rattle.param_load.specs.declared.slave_settings.SlaveSettings.{SlaveSettings}
 use mathlib.Core.HLevel.{is_prop→PathP}
 
 same_lengths : (a b : Lengths) → a.master ≡ b.master → a.slave ≡ b.slave → a ≡ b

@@ -1,5 +1,5 @@
 -- What lines of several pairs say.
-use Rattle.schedule_file.proofs.Common.{Becomes, End, Fits, Heading, Lengths, LineCause, OnStep, PairWord, PairsLineFits, Profile, event_said, length_of, next_field, number_said, numbered, numbered_line, of_pair, pair_word_of, pairs_begun, profile_of, said_in, said_to, said_to_number, unlinked, value_or}
+use Rattle.schedule_file.proofs.Common.{Becomes, End, Fits, Heading, Lengths, LineCause, OnStep, PairWord, PairsEvent, PairsLine, PairsLineFits, Profile, ScheduleLine, event_said, length_of, next_field, number_said, numbered, numbered_line, of_pair, pair_word_of, pairs_begun, pairs_event_of, profile_of, said_in, said_to, said_to_number, unlinked, value_or}
 use Rattle.std.proofs.Common.{◌≡◌, ℕ, zero, suc, ◌+◌, ◌<◌, Bool, true, false, List, [], ◌∷◌, ◌++◌, map, take, length, refl, sym, ap, ◌∙◌, add-one, inl, inr, arith}
 use Rattle.std.specs.Prelude.{◌⊎◌, Result, Ok, Err, Option, Some, None, IfOk, OnOk, slice_get, option_map, ◌&&◌}
 use Rattle.std.specs.Char.{is_ascii_digit}
@@ -13,14 +13,10 @@ use Rattle.param_load.specs.declared.profile.Profile.TheVariants as profile
 use Rattle.param_load.specs.declared.profile.Profiles.{Profiles}
 use Rattle.schedule_file.specs.declared.pairs_header.PairsStage.{PairsStage}
 use Rattle.schedule_file.specs.declared.pairs_header.PairsStage.TheVariants as stage
-use Rattle.schedule_file.specs.PairsLine.{pairs_event_of}
-use Rattle.schedule_file.specs.declared.event.ScheduleLine.{ScheduleLine}
 use Rattle.schedule_file.specs.declared.event.ScheduleLine.TheVariants as line
 use Rattle.schedule_file.specs.declared.line_cause.LineCause.TheVariants as cause
 use Rattle.schedule_file.specs.declared.pair_event.PairWord.TheVariants as word
-use Rattle.schedule_file.specs.declared.pairs_line.PairsEvent.{PairsEvent}
 use Rattle.schedule_file.specs.declared.pairs_line.PairsEvent.TheVariants as event
-use Rattle.schedule_file.specs.declared.pairs_line.PairsLine.{PairsLine}
 use Rattle.schedule_file.proofs.Fitting.{said_fits}
 use Rattle.schedule_file.proofs.Sound.{each}
 

@@ -1,15 +1,12 @@
 -- What a line of several pairs says to one of them fits it, and so do the events of an input of several pairs.
-use Rattle.schedule_file.proofs.Common.{End, PairsHeading, PairsLineFits, Profile, by_word, common_line, fields_of, header_read, heading_profile, is_digits, line_of_event, no_field, numbered_line, own_length, pairs_of, pairs_said}
+use Rattle.schedule_file.proofs.Common.{End, PairsEvent, PairsHeading, PairsLine, PairsLineFits, Profile, by_word, common_line, fields_of, header_read, heading_profile, is_digits, line_of_event, no_field, numbered_line, own_length, pairs_event_of, pairs_of, pairs_said}
 use Rattle.std.proofs.Common.{◌≡◌, ℕ, List, [], ◌∷◌, All, map, subst}
 use Rattle.std.specs.Prelude.{IfOk, IfSome, Ok, Some, codes}
 use Rattle.std.specs.Str.{bytes_eq}
 use Rattle.std.proofs.lemmas.Result.{IfOk-at_ok}
 use Rattle.schedule_file.specs.PairsInput.{pairs_format, pairs_input, pairs_said_after}
-use Rattle.schedule_file.specs.PairsLine.{pairs_event_of}
 use Rattle.schedule_file.specs.declared.line_cause.LineCause.TheVariants as cause
-use Rattle.schedule_file.specs.declared.pairs_line.PairsEvent.{PairsEvent}
 use Rattle.schedule_file.specs.declared.pairs_line.PairsEvent.TheVariants as event
-use Rattle.schedule_file.specs.declared.pairs_line.PairsLine.{PairsLine}
 use Rattle.schedule_file.specs.declared.pairs_line.PairsLine.TheVariants as said
 use Rattle.schedule_file.proofs.Fitting.{input_is}
 use Rattle.schedule_file.proofs.Pairs.{numbered_fits}

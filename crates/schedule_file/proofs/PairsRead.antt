@@ -1,11 +1,10 @@
 -- A line with the number of a pair before it says the same of this pair.
-use Rattle.schedule_file.proofs.Common.{End, Event, FitsEnds, FitsPair, PairWord, Profile, by_word, common_line, event_said, fields_of, is_digits, is_space, number_said, numbered, numbered_line, pair_line, pair_said, pair_said_by, pair_word_of, pairs_line, pairs_said, with_pair}
+use Rattle.schedule_file.proofs.Common.{End, Event, FitsEnds, FitsPair, IsOfTypes, PairWord, Profile, by_word, common_line, event_said, event_text, fields_of, is_digits, is_space, number_said, numbered, numbered_line, pair_line, pair_said, pair_said_by, pair_word_of, pairs_line, pairs_said, with_pair}
 use Rattle.std.proofs.Common.{◌≡◌, ℕ, ◌<◌, ◌^◌, Bool, true, List, [], ◌∷◌, refl, ap, ◌∙◌, arith}
 use Rattle.std.specs.Prelude.{decimal, Option, Some, None, Ok, if◌then◌else◌}
 use Rattle.std.proofs.lemmas.Bool.Decides.{nat_tests}
 use Rattle.std.proofs.lemmas.Fmt.{decimal_nonempty}
 use Rattle.std.proofs.lemmas.List.Splits.{slice_split_at}
-use Rattle.schedule_file.specs.EventText.{IsOfTypes, event_text}
 use Rattle.schedule_file.specs.declared.line_cause.LineCause.TheVariants as cause
 use Rattle.schedule_file.specs.declared.event.ScheduleLine.TheVariants as line
 use Rattle.schedule_file.specs.declared.pair_event.PairWord.TheVariants as word

@@ -1,5 +1,5 @@
 -- The line of an event is read as that event.
-use Rattle.schedule_file.proofs.Common.{End, Event, Fits, IsBytes, PairWord, Profile, allows_id, bytes_said, decode_of-encode_lower, decode_of-ok, encode_lower, end_letter, fields_of, is_hex_digit, is_space, number_said, pair_line, pair_said, pair_said_by, pair_word_of, some_bytes}
+use Rattle.schedule_file.proofs.Common.{End, Event, Fits, IsBytes, IsOfTypes, MOST_DATA, MOST_FRAME, PairWord, Profile, allows_id, altered_line, bytes_said, decode_of-encode_lower, decode_of-ok, deliver_line, delivered_len, encode_lower, end_letter, event_text, fields_of, hold_line, is_hex_digit, is_space, nonce_line, number_said, pair_line, pair_said, pair_said_by, pair_word_of, put_line, raw_line, reference_of, reference_text, some_bytes, switch_of, switch_text}
 use Rattle.std.proofs.Common.{◌≡◌, ℕ, ◌<◌, ◌≤◌, ◌^◌, Bool, true, false, List, [], ◌∷◌, length, get_or, All, inl, inr, refl, sym, ap, ◌∙◌, arith}
 use Rattle.std.specs.Prelude.{◌⊎◌, decimal, Option, Some, Ok}
 use Rattle.std.specs.Char.{is_ascii_digit}
@@ -13,9 +13,6 @@ use Rattle.std.proofs.lemmas.List.Elements.{All-cons, All-nil}
 use Rattle.std.proofs.lemmas.List.Splits.{slice_split_at, slice_split_none}
 use Rattle.std.proofs.lemmas.Str.Parse.{numerals_by_value, tells_all_ascii_digits}
 use Rattle.fsoe_base.specs.declared.command.End.TheVariants as side
-use Rattle.fsoe_base.specs.declared.lengths.TheConstants.{MOST_DATA, MOST_FRAME}
-use Rattle.schedule_file.specs.EventLine.{switch_of, reference_of, delivered_len, deliver_line, altered_line, raw_line, put_line, hold_line, nonce_line}
-use Rattle.schedule_file.specs.EventText.{IsOfTypes, event_text, reference_text, switch_text}
 use Rattle.schedule_file.proofs.HexDigits.{some_bytes-within}
 use Rattle.schedule_file.specs.declared.pair_event.PairWord.TheVariants as word
 use Rattle.schedule_file.specs.declared.event.Event.TheVariants as event

@@ -1,5 +1,5 @@
 -- What a header says once it is done is such as settings may have.
-use Rattle.schedule_file.proofs.Common.{FromHexError, HeaderKind, Heading, InRange, IsMasterOf, IsSlaveOf, Lengths, LineCause, Profile, RuleInRange, admitted, allows_id, decode_of, fields_of, fields_taken, header_word_of, heading_after, heading_new, heading_with, highs_of, input_of, is_acceptable, is_start, list_with, lows_of, map_ok, master_with_app, next_field, no_field, number_16, one_field, one_hex_field, profile_for, profile_given, profile_taken, rule_begun, rule_with_bytes, rule_with_pairs, schedule_format, slave_with_bytes, slave_with_pairs, some_bytes, title_taken, value_or, ◌>>=◌}
+use Rattle.schedule_file.proofs.Common.{AppRule, FromHexError, HeaderKind, HeaderLine, Heading, InRange, IsMasterOf, IsSlaveOf, Lengths, LineCause, MasterSettings, Place, Profile, RuleInRange, RuleLine, SlaveSettings, Word, admitted, allows_id, any_line, decode_of, end_numbers, fields_of, fields_taken, header_line, header_word_of, heading_after, heading_new, heading_with, highs_of, input_of, is_acceptable, is_length, is_start, lengths_line, list_with, listed_line, lows_of, map_ok, master_line, master_with_app, next_field, no_field, number_16, one_field, one_hex_field, profile_for, profile_given, profile_line, profile_taken, range_line, rule_begun, rule_line, rule_with_bytes, rule_with_pairs, schedule_format, slave_line, slave_with_bytes, slave_with_pairs, some_bytes, title_taken, value_or, ◌>>=◌}
 use Rattle.std.proofs.Common.{◌≡◌, ℕ, ◌+◌, ◌/◌, ◌%◌, ◌≤◌, ◌<◌, Bool, true, false, List, [], ◌∷◌, ◌++◌, length, arith, refl, sym}
 use Rattle.std.specs.Prelude.{IsTrue, Result, Ok, Err, Some, None, IfOk, IfSome, ◌&&◌, ◌||◌, ◌==◌, nat_le, nat_lt, codes, if◌then◌else◌}
 use Rattle.std.specs.Str.{bytes_eq}
@@ -8,25 +8,16 @@ use Rattle.std.proofs.lemmas.Bool.{and_parts, or_parts, leb-true, ltb-true}
 use Rattle.std.proofs.lemmas.Bool.Decides.{nat_tests}
 use Rattle.std.proofs.lemmas.Option.{IfSome_then}
 use Rattle.std.proofs.lemmas.Result.{IfOk-at_ok, IfOk-weaker}
-use Rattle.fsoe_base.specs.Lengths.{is_length}
-use Rattle.param_load.specs.declared.app_rule.AppRule.{AppRule}
 use Rattle.param_load.specs.declared.app_rule.AppRule.TheVariants as app_rule
-use Rattle.param_load.specs.declared.master_settings.MasterSettings.{MasterSettings}
 use Rattle.param_load.specs.declared.profile.Profile.TheVariants as profile
-use Rattle.param_load.specs.declared.slave_settings.SlaveSettings.{SlaveSettings}
 use Rattle.schedule_file.specs.HeaderKind.{title_of}
-use Rattle.schedule_file.specs.HeaderLine.{profile_line, lengths_line, end_numbers, master_line, slave_line, any_line, listed_line, rule_line, range_line, header_line}
-use Rattle.schedule_file.specs.declared.header_line.HeaderLine.{HeaderLine}
 use Rattle.schedule_file.specs.declared.header_line.HeaderLine.TheVariants as says
 use Rattle.schedule_file.specs.declared.header_line.LengthsLine.{LengthsLine}
 use Rattle.schedule_file.specs.declared.header_line.MasterLine.{MasterLine}
-use Rattle.schedule_file.specs.declared.header_line.RuleLine.{RuleLine}
 use Rattle.schedule_file.specs.declared.header_line.SlaveLine.{SlaveLine}
 use Rattle.schedule_file.specs.declared.header_line.RuleLine.TheVariants as rule
 use Rattle.schedule_file.specs.declared.line_cause.LineCause.TheVariants as cause
-use Rattle.schedule_file.specs.declared.place.Place.{Place}
 use Rattle.schedule_file.specs.declared.place.Place.TheVariants as place
-use Rattle.schedule_file.specs.declared.place.Word.{Word}
 use Rattle.schedule_file.specs.declared.place.Word.TheVariants as word
 use Rattle.schedule_file.proofs.Headed.{either, headed}
 

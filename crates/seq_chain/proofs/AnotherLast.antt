@@ -1,10 +1,8 @@
 -- A frame after another CRC_0 that was taken last.
-use Rattle.seq_chain.proofs.Common.{Frame, Link, bits_of, bytes_xored, cover, crc_0, fed_bits, fed_bytes, first_byte, first_of, fits, following, number_of, place, second_byte, sixteen_zeros, stepped, steps_again}
+use Rattle.seq_chain.proofs.Common.{Frame, Link, SteppedAlikeAfter, bits_of, bytes_xored, cover, crc_0, fed_bits, fed_bits-injective, fed_bytes, fed_bytes-append, fed_bytes-below, fed_bytes-injective, first_byte, first_of, fits, following, number_of, place, second_byte, sixteen_zeros, sixteen_zeros-are_bits, step_in_last, stepped, steps_again}
+use Rattle.fsoe_crc.specs.Remainder.{computing, rem}
 use Rattle.std.proofs.Common.{◌≡◌, ◌≢◌, ℕ, ◌*◌, ◌+◌, ◌/◌, ◌%◌, ◌<◌, List, [], ◌∷◌, ◌++◌, length, bit_xor, Bool, true, false, Option, Some, None, IsTrue, refl, sym, ap, ◌∙◌, lit<, arith}
 use Rattle.std.specs.Int.Bits.{xor_self, xor_comm, xor_lt, xor_block}
-use Rattle.fsoe_crc.specs.Remainder.{computing, rem}
-use Rattle.fsoe_crc.proofs.Linear.{fed_bytes-below, fed_bytes-append, fed_bytes-injective, fed_bits-injective, sixteen_zeros-are_bits}
-use Rattle.seq_chain.specs.FreshIds.{SteppedAlikeAfter, step_in_last}
 use Rattle.seq_chain.proofs.ToldApart.{last_told, first_group, crc_0_is}
 use Rattle.seq_chain.proofs.OneChange.{refused, fitting}
 

@@ -1,8 +1,7 @@
 -- A frame that differs in few bits from a frame that fits.
-use Rattle.seq_chain.proofs.Common.{AreBytes, DifferInGroups, Frame, Link, SteppedAlike, byte_turned, common, covered, crc_0, crcs, crcs_from, fits, following, groups, next, number_of, pair_turned, place, rem, repeats_crc, stepped, turned_in_frames, turned_within}
+use Rattle.seq_chain.proofs.Common.{AreBytes, DifferInGroups, Frame, Link, SteppedAlike, byte_turned, common, covered, crc_0, crcs, crcs_from, fits, following, groups, next, number_of, pair_turned, place, rem, repeats_crc, stepped, turned_bits, turned_in_frames, turned_within}
 use Rattle.std.proofs.Common.{◌≡◌, ◌≢◌, ℕ, suc, ◌+◌, ◌<◌, ◌≤◌, inl, inr, List, [], ◌∷◌, ◌++◌, length, take, Option, Some, None, ◌==◌, false, IsTrue, refl, sym, ap, ◌∙◌, arith}
 use Rattle.std.proofs.lemmas.Bool.{cases_eq}
-use Rattle.fsoe_crc.specs.Turned.{turned_bits}
 use Rattle.seq_chain.proofs.ToldApart.{zeros_last}
 use Rattle.seq_chain.proofs.OneChange.{refused, fitting}
 use Rattle.seq_chain.proofs.FirstTurned.{pair_turned as first_pair, one_turned}

@@ -1,10 +1,8 @@
 -- Frames whose loads differ in their first group.
-use Rattle.seq_chain.proofs.Common.{AreBytes, Link, SteppedAlike, common, cover, crc_0, fed_bytes, first_of, following, number_of, rem-adjacent, rem-xored, sealed, sixteen_zeros, stepped, zero_first}
+use Rattle.seq_chain.proofs.Common.{AreBytes, Link, SteppedAlike, common, cover, crc_0, fed_bits-below, fed_bytes, fed_bytes-below, first_number, first_of, following, number_of, rem-adjacent, rem-xored, sealed, sixteen_zeros, sixteen_zeros-are_bits, step_in_last, step_in_load, stepped, zero_first}
+use Rattle.fsoe_crc.specs.Remainder.{computing, rem}
 use Rattle.std.proofs.Common.{◌≡◌, ◌≢◌, ℕ, ◌*◌, ◌+◌, ◌<◌, List, [], ◌∷◌, length, bit_xor, Option, refl, sym, ap, ◌∙◌, lit<, arith}
 use Rattle.std.specs.Int.Bits.{xor_lt, xor_block}
-use Rattle.fsoe_crc.specs.Remainder.{computing, rem}
-use Rattle.fsoe_crc.proofs.Linear.{fed_bits-below, fed_bytes-below, sixteen_zeros-are_bits}
-use Rattle.seq_chain.specs.FreshIds.{first_number, step_in_last, step_in_load}
 use Rattle.seq_chain.proofs.ToldApart.{one_told, pair_told}
 
 pub first_told : (last conn n cmd : ℕ) (load load' : List ℕ) → length load ≡ length load' → AreBytes load → AreBytes load' → first_number load ≢ first_number load'

@@ -1,14 +1,12 @@
 -- What the CRC of the first group says of turned bits of the connection id, the command and the data.
-use Rattle.seq_chain.proofs.Common.{cover, rem, rem-xored, weight}
+use Rattle.seq_chain.proofs.Common.{cover, low_high, rem, rem-xored, turned_bits, weight}
+use Rattle.fsoe_crc.specs.Remainder.{computing}
+use Rattle.fsoe_crc.proofs.Weight.{crc_at}
 use Rattle.std.proofs.Common.{◌≡◌, ◌≢◌, ℕ, ◌+◌, ◌*◌, ◌/◌, ◌%◌, ◌^◌, ◌<◌, ◌≤◌, [], ◌∷◌, bit_xor, count_ones, true, refl, sym, ◌∙◌, arith}
 use Rattle.std.specs.Int.Bits.{xor_self, xor_shr, xor_mod, xor_lt}
 use Rattle.std.specs.Int.Count.{ones_cat}
-use Rattle.fsoe_crc.specs.Remainder.{computing}
-use Rattle.fsoe_crc.specs.Turned.{turned_bits}
 use Rattle.fsoe_crc.proofs.Xor.{xor_zero_eq}
 use Rattle.fsoe_crc.proofs.Far.{ones_below, columns, far, all_far}
-use Rattle.fsoe_crc.proofs.Weight.{crc_at}
-use Rattle.fsoe_base.specs.Bytes.{low_high}
 
 pair_computed : all_far (columns (crc_at (24 ∷ 32 ∷ 40 ∷ 40 ∷ 16 ∷ 8 ∷ 0 ∷ 40 ∷ 40 ∷ 40 ∷ [])) 40) 3 ≡ true
 unfolding all_far far ones_below columns crc_at computing

@@ -1,5 +1,5 @@
 -- What the first tests of a delivered frame tell of it.
-use Rattle.seq_chain.proofs.Common.{Frame, first_of, frame_of}
+use Rattle.seq_chain.proofs.Common.{Frame, first_of, frame_len, frame_of, reset_crcs, reset_view, zeros_follow}
 use Rattle.std.proofs.Common.{◌≡◌, ◌≢◌, ◌==◌, nat_eq, ℕ, Bool, true, false, not, List, length, Option, Some, None, Result, Ok, Err, if◌then◌else◌, refl}
 use Rattle.std.proofs.lemmas.Bool.{eqb-true, eqb-false}
 use Rattle.std.specs.Cmp.Lexicographic.{pointwise}
@@ -8,11 +8,9 @@ use Rattle.fsoe_base.specs.declared.command.Command.{Command}
 use Rattle.fsoe_base.specs.declared.command.Command.TheVariants as command
 use Rattle.fsoe_base.specs.declared.did.Dropped.TheVariants as dropped
 use Rattle.fsoe_base.specs.Command.{command_of, code}
-use Rattle.fsoe_base.specs.Lengths.{frame_len}
 use Rattle.seq_chain.specs.declared.opened.Opened.{Opened}
 use Rattle.seq_chain.specs.declared.opened.Opened.TheVariants as opened_as
 use Rattle.seq_chain.specs.Opened.{reset_opened, command_opened, opened}
-use Rattle.seq_chain.specs.Reset.{reset_crcs, zeros_follow, reset_view}
 
 -- a frame that comes as far as the tests of its command
 pub record ComesToCommand (l : ℕ) (repeats : Bool) (bytes : List ℕ) (c : Option Command) : Type 0 where

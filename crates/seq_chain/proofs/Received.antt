@@ -1,12 +1,10 @@
 -- What is read from bytes is within the widths of a frame's parts.
-use Rattle.seq_chain.proofs.Common.{AreBytes, frame_of, one_byte, pairs}
+use Rattle.seq_chain.proofs.Common.{AreBytes, FrameAt, frame_at, frame_len, frame_len_other, frame_of, is_length, one_byte, pairs, whole}
 use Rattle.std.proofs.Common.{◌≡◌, ◌≢◌, ℕ, zero, suc, ◌+◌, ◌-◌, ◌*◌, ◌/◌, ◌%◌, ◌<◌, List, [], ◌∷◌, length, drop, slice_index, IsTrue, inl, inr, ap, arith}
 use Rattle.std.proofs.lemmas.Bool.{cases_eq}
 use Rattle.std.proofs.lemmas.Bool.Decides.{nat_tests}
 use Rattle.std.proofs.lemmas.List.{get_or-drop}
 use Rattle.byteorder.specs.Numbers.{little_from-lt}
-use Rattle.fsoe_base.specs.Lengths.{is_length, frame_len}
-use Rattle.fsoe_frame.proofs.Places.{FrameAt, frame_at, frame_len_other, whole}
 
 pub received_command : (l : ℕ) (bytes : List ℕ) → IsTrue (is_length l) → length bytes ≡ frame_len l → AreBytes bytes → (frame_of l bytes).cmd < 256
 received_command l bytes valid right h =

@@ -1,7 +1,6 @@
 -- What the CRC tells apart of what it covers.
-use Rattle.seq_chain.proofs.Common.{AreBytes, DifferAt, common, cover, covered, crc_0, crcs_from, first_of, groups, place, rem, rem-adjacent, rem-one}
+use Rattle.seq_chain.proofs.Common.{AreBytes, DifferAt, common, cover, covered, crc_0, crcs_from, first_of, groups, low_high, place, rem, rem-adjacent, rem-one}
 use Rattle.std.proofs.Common.{◌≡◌, ◌≢◌, ℕ, zero, suc, ◌/◌, ◌%◌, ◌<◌, ◌≤◌, List, [], ◌∷◌, ◌++◌, length, refl, sym, ap, ◌∙◌, arith, append_assoc}
-use Rattle.fsoe_base.specs.Bytes.{low_high}
 
 -- a number of 16 bits is two adjacent bytes
 word_told : (before after : List ℕ) (m n : ℕ) → m < 65536 → n < 65536 → rem (before ++ m % 256 ∷ m / 256 ∷ after) ≡ rem (before ++ n % 256 ∷ n / 256 ∷ after) → m ≡ n

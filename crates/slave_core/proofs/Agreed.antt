@@ -1,5 +1,5 @@
 -- What each event leaves at the machine is what looking back gives.
-use Rattle.slave_core.proofs.Common.{Code, Command, Deed, Did, IsProper, IsRun, Move, Notes, Now, OfSlave, Outcome, SlaveSettings, SlaveShows, State, Terms, after, as_now, code, data_next, data_reply, deed_of, did_on, id_len, is_whole, kit_of, next_state, nonce, notes_of, now_in, on_verdict, parameters, reply, rule_len, running, session_of, settles, slave-run, slave_conn, state_of, terms, upload_fault, upload_of, view_in, view_of, whole}
+use Rattle.slave_core.proofs.Common.{Code, Command, Deed, Did, InData, InReset, IsProper, IsRun, Move, Notes, Now, OfSlave, Outcome, SlaveSettings, SlaveShows, State, Terms, after, as_now, code, data_next, data_reply, deed_of, did_on, id_len, is_whole, kit_of, next_state, nonce, notes_of, now_in, on_verdict, parameters, reply, rule_len, running, session_of, settles, slave-run, slave_conn, state_of, terms, upload_fault, upload_of, view_in, view_of, whole, whole_parameters}
 use Rattle.std.proofs.Common.{◌≡◌, ℕ, ◌+◌, ◌<◌, ◌≤◌, List, [], ◌∷◌, length, take, replicate, Bool, true, false, not, Option, Some, unwrap_or, Result, if◌then◌else◌, refl, sym, ap, subst, ◌∙◌, arith}
 use Rattle.std.specs.Option.{option_or}
 use Rattle.std.proofs.lemmas.Bool.{leb-true, eqb-true}
@@ -12,10 +12,7 @@ use Rattle.param_load.specs.declared.contents.Expected.TheVariants as expected
 use Rattle.param_load.specs.declared.entry.Move.TheVariants as move
 use Rattle.end_model.specs.Verdict as model
 use Rattle.end_model.proofs.SoundRuns.{loaded}
-use Rattle.end_model.proofs.WholeUploads.{whole_parameters}
 use Rattle.slave_core.specs.declared.now.Now.TheVariants as now
-use Rattle.slave_core.specs.declared.states.InReset.{InReset}
-use Rattle.slave_core.specs.declared.states.InData.{InData}
 use Rattle.slave_core.proofs.Sound.{OfSession, OfConnection, OfParameters, count_of, Sound, SoundAt}
 use Rattle.slave_core.proofs.SameVerdict.{came, Came, Same, Drops, Refuses, ByReset, Passes, same}
 use Rattle.slave_core.proofs.Agrees.{Agrees, drop-agrees, resets-agree, fault-agrees, reset_frame-agrees, put-agrees, hold-agrees, nonce-agrees, tick-agrees}

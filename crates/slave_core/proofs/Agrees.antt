@@ -1,19 +1,15 @@
 -- What an event leaves at the machine is what looking back gives: where nothing is taken.
-use Rattle.slave_core.proofs.Common.{AreBytes, Code, Deed, Did, Move, Now, OfSlave, Outcome, SlaveSettings, SlaveView, State, code, code_sent, deed_of, drops, falls, first_of, kit_of, limit, notes_of, now_in, number_at, on_expiry, on_fault, on_reset_frame, quiet, refuses, reset_by_peer, slave_age, slave_limit, state_of, takes_frame, tick_in_session, tick_of, ticks, view_in, view_of, whole}
+use Rattle.slave_core.proofs.Common.{AreBytes, Code, Deed, Did, Dropped, KitView, Move, Now, OfSlave, Outcome, Profile, SlaveSettings, SlaveView, State, code, code_sent, deed_of, dropped, drops, falls, first_of, kit_of, limit, notes_of, nothing, now_in, number_at, on_expiry, on_fault, on_reset_frame, quiet, refuses, reset_by_peer, resets, slave_age, slave_limit, state_of, takes_frame, tick_in_session, tick_of, ticks, view_in, view_of, whole}
 use Rattle.std.proofs.Common.{◌≡◌, ◌≢◌, ℕ, suc, ◌+◌, ◌<◌, ◌==◌, nat_le, List, [], ◌∷◌, length, Bool, true, false, if◌then◌else◌, refl, sym, ap, subst, ◌∙◌, arith}
 use Rattle.std.proofs.lemmas.Bool.Decides.{nat_tests}
 use Rattle.fsoe_base.specs.declared.command.Command.TheVariants as command
 use Rattle.fsoe_base.specs.declared.command.State.TheVariants as state
 use Rattle.fsoe_base.specs.declared.did.Cause.{Cause}
 use Rattle.fsoe_base.specs.declared.did.Cause.TheVariants as cause
-use Rattle.fsoe_base.specs.declared.did.Dropped.{Dropped}
 use Rattle.fsoe_base.specs.declared.did.Dropped.TheVariants as why
-use Rattle.fsoe_base.specs.Did.{nothing, dropped, resets}
 use Rattle.seq_chain.specs.Reset.{reset_frame}
 use Rattle.param_load.specs.declared.entry.Move.TheVariants as move
-use Rattle.param_load.specs.declared.profile.Profile.{Profile}
 use Rattle.param_load.specs.declared.profile.Profile.TheVariants as profile
-use Rattle.slave_core.specs.Kit.{KitView}
 use Rattle.slave_core.proofs.Sound.{Sound}
 
 -- bytes that are delivered are bytes

@@ -1,18 +1,13 @@
 -- What is known of a frame of a session that came, and how the chain goes on by it.
-use Rattle.slave_core.proofs.Common.{AreBytes, Chain, Command, Deed, OfSlave, SessionFrameView, Setup, SlaveSettings, State, begun, bytes_of, command_byte, command_of, first_of, frame_of, has_command, is_empty, is_reset, own_link, padded, phase_of, phase_of_frame, phase_of_known, piece_from, piece_len, receives, same_phase, sends, session_payload, since, taken_link, takes_frame}
+use Rattle.slave_core.proofs.Common.{AreBytes, Chain, Command, Deed, OfSlave, Profile, SessionFrameView, Setup, SlaveSettings, State, after_taken, begun, bytes_of, chain_sent, command_byte, command_of, first_of, frame_len, frame_of, frame_sent, has_command, is_empty, is_reset, own_crc, own_link, padded, phase_of, phase_of_frame, phase_of_known, piece_from, piece_len, receives, same_phase, sends, session_payload, since, taken_link, takes_frame}
 use Rattle.std.proofs.Common.{◌≡◌, ℕ, suc, ◌+◌, ◌-◌, ◌*◌, ◌≤◌, ◌==◌, List, [], ◌∷◌, ◌++◌, length, take, drop, slice_index, Bool, true, false, Option, Some, None, unwrap_or, if◌then◌else◌, refl, sym, ap, ◌∙◌, length-append, suc-mul, arith}
 use Rattle.std.specs.Option.{option_or}
 use Rattle.std.proofs.lemmas.Grind.{common_steps}
 use Rattle.fsoe_base.specs.declared.command.Command.TheVariants as command
 use Rattle.fsoe_base.specs.declared.command.State.TheVariants as state
-use Rattle.fsoe_base.specs.Lengths.{frame_len}
 use Rattle.fsoe_frame.proofs.Places.{Whole, FrameAt, whole, frame_at}
-use Rattle.seq_chain.specs.Chain.{after_taken}
-use Rattle.seq_chain.specs.Session.{chain_sent, frame_sent}
 use Rattle.seq_chain.specs.Sealing as sealing
 use Rattle.param_load.specs.declared.entry.Move.TheVariants as move
-use Rattle.param_load.specs.declared.profile.Profile.{Profile}
-use Rattle.end_model.proofs.Links.{own_crc}
 use Rattle.end_model.proofs.ReadBack.{read_back}
 use Rattle.slave_core.proofs.SameVerdict.{came}
 

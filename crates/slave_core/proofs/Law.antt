@@ -1,10 +1,8 @@
 -- The law: a slave that is after some deeds is, after an event, after these and the next one, and answers as that one
 -- does.
-use Rattle.slave_core.proofs.Common.{Deed, Did, IsProper, IsRun, IsSetting, Move, Now, OfSlave, SlaveSettings, SlaveView, State, Terms, after, age, did_on, events_of, fail_safe, first_slave, held, looking_back, notes_of, now_in, offer, run, state_of, terms, told_in, told_terms, view_of}
+use Rattle.slave_core.proofs.Common.{Deed, Did, IsProper, IsRun, IsSetting, Move, Now, OfSlave, SlaveSettings, SlaveView, State, Terms, after, age, did_on, events_of, fail_safe, first_slave, held, looking_back, notes_of, nothing, now_in, offer, out, outputs, run, state_of, terms, told_in, told_terms, view_of, zeros}
 use Rattle.std.proofs.Common.{◌≡◌, ◌≢◌, ℕ, List, [], ◌∷◌, Bool, Option, refl, sym, ap, subst, ◌∙◌}
 use Rattle.fsoe_base.specs.declared.command.State.TheVariants as state
-use Rattle.fsoe_base.specs.Did.{nothing}
-use Rattle.end_model.specs.Outputs.{zeros, outputs, out}
 use Rattle.end_model.proofs.Runs.{same_deed, set_deed, run_of_events}
 use Rattle.slave_core.specs.Now as machine
 use Rattle.slave_core.specs.Standing.{SlaveIsAfter, Follows, Answers, Shows, Called}

@@ -1,20 +1,15 @@
 -- The tests of the machine end as those of looking back.
-use Rattle.slave_core.proofs.Common.{Code, Command, Deed, Frame, Notes, OfSlave, Outcome, SlaveSettings, State, allowed, code, command_of, drops, first_of, fits, frame_of, id_len, kept, kit_of, next_state, notes_of, now_in, on_frame, on_opened, on_session, parameters, refuses, reply, reset_by_peer, rule_len, settles, since, slave_allows, slave_conn, state_of, taken_link, uploaded, view_in, whole}
+use Rattle.slave_core.proofs.Common.{Code, Command, Deed, Dropped, Frame, Notes, OfSlave, Outcome, SlaveSettings, State, allowed, code, command_of, drops, first_of, fits, fits_next, frame_len, frame_of, id_len, kept, kit_of, next_state, notes_of, now_in, on_frame, on_opened, on_session, opened, own_crc, parameters, refuses, reply, reset_by_peer, rule_len, settles, since, slave_allows, slave_conn, state_of, taken_link, uploaded, view_in, whole}
 use Rattle.std.proofs.Common.{◌≡◌, ◌≢◌, ℕ, ◌+◌, ◌==◌, nat_le, Bool, true, false, not, List, length, Option, Some, None, refl, sym, ap, subst, ◌∙◌}
 use Rattle.fsoe_base.specs.declared.command.Command.TheVariants as command
 use Rattle.fsoe_base.specs.declared.command.State.TheVariants as state
-use Rattle.fsoe_base.specs.declared.did.Dropped.{Dropped}
 use Rattle.fsoe_base.specs.declared.did.Dropped.TheVariants as dropped
-use Rattle.fsoe_base.specs.Lengths.{frame_len}
 use Rattle.seq_chain.specs.declared.opened.Opened.{Opened}
 use Rattle.seq_chain.specs.declared.opened.Opened.TheVariants as opened_as
-use Rattle.seq_chain.specs.Session.{fits_next}
-use Rattle.seq_chain.specs.Opened.{opened}
 use Rattle.seq_chain.specs.Sealing as sealing
 use Rattle.end_model.specs.Verdict as model
 use Rattle.seq_chain.proofs.OpenedFrame as opens
 use Rattle.seq_chain.proofs.OpenedFrame.{Tested, tested}
-use Rattle.end_model.proofs.Links.{own_crc}
 use Rattle.slave_core.specs.Now as machine
 use Rattle.slave_core.proofs.Sound.{SoundAt}
 

@@ -1,9 +1,8 @@
 -- What holds of a slave in each state, after every run.
-use Rattle.slave_core.proofs.Common.{Deed, Notes, OfSlave, SlaveSettings, State, count_in, limit, notes_of, number_at, offer, piece_len, since, state_of, terms_in, ticks}
+use Rattle.slave_core.proofs.Common.{Deed, Notes, OfSlave, SlaveSettings, State, count_in, fresh, limit, notes_of, number_at, offer, piece_len, since, state_of, terms_in, ticks}
+use Rattle.end_model.specs.Chain.{taken}
 use Rattle.std.proofs.Common.{◌≡◌, ◌≢◌, ℕ, ◌*◌, ◌<◌, ◌≤◌, List, [], length, replicate, Some, None, unwrap_or}
 use Rattle.fsoe_base.specs.declared.command.State.TheVariants as state
-use Rattle.seq_chain.specs.Chain.{fresh}
-use Rattle.end_model.specs.Chain.{taken}
 
 -- the Session frames that were taken in this session
 abbrev pub count_of : List Deed → ℕ

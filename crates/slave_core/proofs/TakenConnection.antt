@@ -1,5 +1,5 @@
 -- A Connection frame that passed the tests: what the machine does is what looking back gives.
-use Rattle.slave_core.proofs.Common.{Chain, Code, Deed, OfSlave, Outcome, SessionFrameView, SlaveSettings, State, UploadView, advanced, as_now, begun, code, conn_id, connection_reply, connection_taking, contents, has_command, judged_contents, kit_of, notes_of, number_at, on_verdict, or_reset, outcome_by, padded, piece_len, session_of, settles, slave_conn, slave_limit, state_of, takes_frame, upload_of, view_in}
+use Rattle.slave_core.proofs.Common.{Chain, Code, Deed, InConnection, OfSlave, Outcome, SessionFrameView, SlaveSettings, State, UploadView, advanced, as_now, begun, code, conn_id, connection_reply, connection_taking, contents, has_command, judged_contents, kit_of, notes_of, number_at, on_verdict, or_reset, outcome_by, padded, piece_len, session_of, settles, slave_conn, slave_limit, state_of, takes_frame, upload_of, view_in}
 use Rattle.std.proofs.Common.{◌≡◌, ◌==◌, ℕ, ◌+◌, ◌-◌, ◌<◌, ◌≤◌, nat_le, nat_lt, Bool, true, false, ◌&&◌, List, [], ◌∷◌, ◌++◌, length, take, drop, Option, Some, None, if◌then◌else◌, refl, sym, ap, ap₂, subst, ◌∙◌, inl, inr, arith}
 use Rattle.std.specs.Option.{option_or}
 use Rattle.std.proofs.lemmas.Bool.{eqb-true}
@@ -12,7 +12,6 @@ use Rattle.param_load.specs.Contents.{fails, connection_fault, padding_fault, co
 use Rattle.param_load.proofs.Watchdog.{first}
 use Rattle.end_model.proofs.Counted.{stays, passes}
 use Rattle.slave_core.specs.declared.now.Now.TheVariants as now
-use Rattle.slave_core.specs.declared.states.InConnection.{InConnection}
 use Rattle.slave_core.proofs.Sound.{Sound}
 use Rattle.slave_core.proofs.SameVerdict.{came}
 use Rattle.slave_core.proofs.Agrees.{Agrees, same_slave, fresh_limit, fault-agrees}

@@ -1,5 +1,5 @@
 -- A data frame that passed the tests: what the machine does is what looking back gives.
-use Rattle.slave_core.proofs.Common.{AreBytes, Chain, Command, Deed, IsRun, OfSlave, Outcome, SessionFrameView, SlaveSettings, SlaveView, State, Terms, answered, as_now, begun, bytes_of, code, command_byte, deed_of, held, is_reset, judged_contents, kit_of, no_session, notes_of, number_at, offer, on_verdict, phase_of, session_of, settles, slave_conn, slave_limit, state_of, takes_frame, view_in, view_of, whole, with_data}
+use Rattle.slave_core.proofs.Common.{AreBytes, Chain, Command, Deed, IsRun, OfSlave, Outcome, SessionFrameView, SlaveSettings, SlaveView, State, Terms, answered, as_now, begun, bytes_of, code, command_byte, deed_of, held, is_process, is_reset, judged_contents, kit_of, no_session, notes_of, number_at, offer, on_verdict, phase_of, session_of, settles, slave_conn, slave_limit, state_of, takes_frame, view_in, view_of, whole, with_data}
 use Rattle.std.proofs.Common.{◌≡◌, ◌==◌, ℕ, ◌<◌, List, ◌∷◌, length, replicate, Bool, true, false, Some, None, Ok, Err, if◌then◌else◌, refl, sym, ap, subst, ◌∙◌}
 use Rattle.std.proofs.lemmas.List.{length-replicate}
 use Rattle.fsoe_base.specs.declared.command.Command.TheVariants as command
@@ -7,7 +7,6 @@ use Rattle.fsoe_base.specs.declared.command.State.TheVariants as state
 use Rattle.failsafe_io.specs.Offer.{data_command, data_load}
 use Rattle.failsafe_io.specs.Outputs.{outputs_of}
 use Rattle.param_load.specs.declared.entry.Move.TheVariants as move
-use Rattle.end_model.specs.Outputs.{is_process}
 use Rattle.slave_core.specs.declared.now.Now.TheVariants as now
 use Rattle.slave_core.proofs.Sound.{Sound}
 use Rattle.slave_core.proofs.SameVerdict.{came}

@@ -1,15 +1,12 @@
 -- A Parameter frame that passed the tests: what the machine does is what looking back gives.
-use Rattle.slave_core.proofs.Common.{Chain, Code, Deed, IsRun, OfSlave, Outcome, SessionFrameView, SlaveSettings, SlaveShows, State, UploadView, advanced, as_now, begun, conn_id, deed_of, id_len, judged_contents, kit_of, notes_of, number_at, on_verdict, or_reset, outcome_by, padded, parameter_reply, parameter_taking, parameters, piece_len, rule_len, session_of, settles, slave-run, slave_conn, slave_limit, state_of, takes_frame, upload_of, view_in, whole}
+use Rattle.slave_core.proofs.Common.{Chain, Code, Deed, Expected, InParameter, IsRun, OfSlave, Outcome, SessionFrameView, SlaveSettings, SlaveShows, State, UploadView, advanced, as_now, begun, conn_id, deed_of, id_len, judged_contents, kit_of, notes_of, number_at, on_verdict, or_reset, outcome_by, padded, parameter_reply, parameter_taking, parameters, piece_len, rule_len, session_of, settles, slave-run, slave_conn, slave_limit, state_of, takes_frame, upload_of, view_in, whole, whole_parameters}
 use Rattle.std.proofs.Common.{◌≡◌, ℕ, ◌+◌, ◌-◌, ◌<◌, ◌≤◌, nat_le, Bool, true, false, List, ◌∷◌, ◌++◌, length, take, drop, Option, Some, None, unwrap_or, if◌then◌else◌, refl, sym, ap, ap₂, ◌∙◌, arith}
 use Rattle.std.proofs.lemmas.Bool.{leb-true}
 use Rattle.fsoe_base.specs.declared.command.Command.TheVariants as command
 use Rattle.fsoe_base.specs.declared.command.State.TheVariants as state
-use Rattle.param_load.specs.declared.contents.Expected.{Expected}
 use Rattle.param_load.specs.declared.contents.Expected.TheVariants as expected
 use Rattle.param_load.specs.declared.entry.Move.TheVariants as move
-use Rattle.end_model.proofs.WholeUploads.{whole_parameters}
 use Rattle.slave_core.specs.declared.now.Now.TheVariants as now
-use Rattle.slave_core.specs.declared.states.InParameter.{InParameter}
 use Rattle.slave_core.proofs.Sound.{Sound}
 use Rattle.slave_core.proofs.SameVerdict.{came}
 use Rattle.slave_core.proofs.Agrees.{Agrees, same_slave, fault-agrees}

@@ -1,14 +1,12 @@
 -- A Session frame that passed the tests: what the machine does is what looking back gives.
-use Rattle.slave_core.proofs.Common.{Chain, Code, Deed, Notes, OfSlave, Outcome, SessionFrameView, SlaveSettings, State, UploadView, advanced, as_now, begun, id_piece, judged_contents, kit_of, nonce, notes_of, on_verdict, or_reset, outcome_by, padded, piece_from, piece_len, session_of, session_payload, session_reply, session_taking, settles, slave_limit, state_of, takes_frame, upload_of, view_in}
+use Rattle.slave_core.proofs.Common.{Chain, Code, Deed, Expected, InSession, Notes, OfSlave, Outcome, SessionFrameView, SlaveSettings, State, UploadView, advanced, as_now, begun, id_piece, judged_contents, kit_of, nonce, notes_of, on_verdict, or_reset, outcome_by, padded, piece_from, piece_len, session_of, session_payload, session_reply, session_taking, settles, slave_limit, state_of, takes_frame, upload_of, view_in}
 use Rattle.std.proofs.Common.{◌≡◌, ℕ, ◌*◌, ◌<◌, List, [], ◌∷◌, length, take, true, Option, Some, None, unwrap_or, refl, sym, ap, subst, ◌∙◌, zero-mul}
 use Rattle.std.specs.Option.{option_or}
 use Rattle.fsoe_base.specs.declared.command.Command.TheVariants as command
 use Rattle.fsoe_base.specs.declared.command.State.TheVariants as state
-use Rattle.param_load.specs.declared.contents.Expected.{Expected}
 use Rattle.param_load.specs.declared.contents.Expected.TheVariants as expected
 use Rattle.param_load.specs.declared.entry.Move.TheVariants as move
 use Rattle.slave_core.specs.declared.now.Now.TheVariants as now
-use Rattle.slave_core.specs.declared.states.InSession.{InSession}
 use Rattle.slave_core.proofs.Sound.{OfSession, count_of, SoundIn, Sound}
 use Rattle.slave_core.proofs.SameVerdict.{came}
 use Rattle.slave_core.proofs.Agrees.{Agrees, same_slave, fresh_limit, fault-agrees}

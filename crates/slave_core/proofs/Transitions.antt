@@ -1,20 +1,13 @@
 -- Each transition of a typed state goes on as looking back says.
-use Rattle.slave_core.proofs.Common.{Code, Deed, IsSoundSlave, Now, OfSlave, Outcome, SessionFrameView, SlaveSettings, SlaveView, State, after, as_now, did_on, drops, fallen, fault, is_repeat, is_whole, kept_in, limit_of, next_state, on_fault, on_opened, on_session, refuses, refuses_contents, reply, settles, state_of, step, taken, view_in, view_of}
+use Rattle.slave_core.proofs.Common.{Code, Deed, InConnection, InData, InParameter, InReset, InSession, IsSoundSlave, KitView, Now, OfSlave, Outcome, SessionFrameView, SlaveSettings, SlaveView, State, after, as_now, did_on, drops, fallen, fault, is_repeat, is_whole, kept_in, limit_of, next_state, on_fault, on_opened, on_session, opened, refuses, refuses_contents, reply, settles, state_of, step, taken, view_in, view_of}
+use Rattle.slave_core.specs.Now.{is_reset}
 use Rattle.std.proofs.Common.{◌≡◌, ℕ, List, ◌∷◌, Bool, true, false, IsTrue, None, Result, Ok, Err, IfOk, IfErr, OnOk, OnErr, if◌then◌else◌, refl, sym, ap, subst, ◌∙◌}
 use Rattle.fsoe_base.specs.declared.command.State.TheVariants as state
 use Rattle.fsoe_base.specs.declared.did.Dropped.TheVariants as dropped
 use Rattle.failsafe_io.specs.Timer.{Timer, started}
-use Rattle.seq_chain.specs.Opened.{opened}
 use Rattle.param_load.specs.declared.entry.Move.TheVariants as move
 use Rattle.slave_core.specs.declared.now.Now.TheVariants as now
-use Rattle.slave_core.specs.declared.states.InReset.{InReset}
-use Rattle.slave_core.specs.declared.states.InSession.{InSession}
-use Rattle.slave_core.specs.declared.states.InConnection.{InConnection}
-use Rattle.slave_core.specs.declared.states.InParameter.{InParameter}
-use Rattle.slave_core.specs.declared.states.InData.{InData}
 use Rattle.slave_core.specs.GoesOn.{Meets, IsTaken, IsRefused, GoesOn}
-use Rattle.slave_core.specs.Kit.{KitView}
-use Rattle.slave_core.specs.Now.{is_reset}
 use Rattle.slave_core.specs.States as states
 use Rattle.slave_core.proofs.Agrees.{Agrees}
 use Rattle.slave_core.proofs.Agreed.{agrees, run-sound}

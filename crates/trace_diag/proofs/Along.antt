@@ -1,10 +1,9 @@
 -- Along a trace: what it tells after one more frame, and which frame that is.
-use Rattle.trace_diag.proofs.Common.{Asked, Both, Chained, Deed, Down, End, Entry, Event, IsDown, IsReplied, IsUp, MasterSettings, Noted, Partner, Replied, Stage, Up, both, chained, deed_in, deeds, deliveries_to, has_command, is_delivery, is_empty, master_of, own, partner, peer, phase_due, phase_from, phase_of_frame, phase_sent, phase_taken, reset_frame, same_end, setup_of, since, slave_of, taken, turn}
+use Rattle.trace_diag.proofs.Common.{Asked, Both, Chained, Deed, Down, End, Entry, Event, IsDown, IsReplied, IsUp, MasterSettings, Noted, Partner, Replied, Stage, Up, both, chained, deed_in, deeds, deliveries_to, has_command, is_delivery, is_empty, master_of, own, partner, peer, phase_due, phase_from, phase_of_frame, phase_sent, phase_taken, reset_frame, same_end, setup_of, since, since_on, slave_of, taken, turn}
 use Rattle.std.proofs.Common.{◌≡◌, ℕ, suc, List, ◌∷◌, Bool, false, refl, sym, ap, subst, ◌∙◌, ◌&&◌, if◌then◌else◌}
 use Rattle.fsoe_base.specs.declared.command.Command.TheVariants as command
 use Rattle.fsoe_base.specs.declared.command.End.TheVariants as end_name
 use Rattle.fsoe_base.specs.declared.command.State.TheVariants as state
-use Rattle.exchange_model.proofs.Alone.Uploads.{since_on}
 use Rattle.trace_diag.proofs.Answering.{is_answered, its_end}
 use Rattle.trace_diag.proofs.MasterRows.{IsPlain}
 use Rattle.trace_diag.proofs.NextFrames.{from_down, from_up, NextFrame, ResetNext, MasterNext, SlaveNext}

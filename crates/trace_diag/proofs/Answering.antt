@@ -1,12 +1,12 @@
 -- A delivery that is taken without a reset is answered: the entry sends a frame.
 use Rattle.trace_diag.proofs.Common.{Command, Deed, Entry, Frame, HasNoReset, MasterSettings, Move, OfMaster, OfSlave, Setup, SlaveSettings, TakesDelivery, after_phase, answer, begun, bytes_of, command_byte, conn_id, count_crcs, count_in, delivery, did_on, download_frame, end_of, entry_on, groups, has_command, held, id_piece, is_data_frame, is_empty, is_guarded, master_answer, next_entry, offer, own, pay, phase_of, pieces, reset_crcs, reset_frame, reset_load, seal, sealed, sends, sent_on, session_id, since, slave_answer, with_data, with_piece}
+use Rattle.end_model.specs.Setup.{piece_len}
+use Rattle.end_model.specs.Step.{goes_on}
 use Rattle.std.proofs.Common.{◌≡◌, ℕ, suc, nat_lt, List, ◌∷◌, length, replicate, Bool, true, false, Option, Some, None, IsSome, refl, sym, ap, subst, ◌∙◌, if◌then◌else◌}
 use Rattle.fsoe_base.specs.declared.command.Command.TheVariants as command
 use Rattle.fsoe_base.specs.declared.did.Cause.{Cause}
 use Rattle.fsoe_base.specs.declared.did.Took.{Took}
 use Rattle.param_load.specs.declared.entry.Move.TheVariants as move
-use Rattle.end_model.specs.Setup.{piece_len}
-use Rattle.end_model.specs.Step.{goes_on}
 
 -- a frame that was laid out, with a CRC for each group
 pub record IsMade (g : List ℕ) : Type 0 where

@@ -1,5 +1,5 @@
 -- An end answers the frame on its way whatever is put before, so that the frames of a run come in turn.
-use Rattle.trace_diag.proofs.Common.{Accepts, Command, Deed, End, Entry, Event, Frame, HasNoReset, MasterSettings, Move, OfMaster, OfSlave, Partner, Setup, TakesDelivery, begun, contents, deeds, delivery, did_on, end_of, entry_on, fault_after, frames_of, going_on, is_empty, is_repeat, judged, judged_contents, judged_session, kept, next_entry, on_verdict, partner, quiet, receives, sent_in, set_for, since, state_of, world_after}
+use Rattle.trace_diag.proofs.Common.{Accepts, Command, Deed, End, Entry, Event, Frame, HasNoReset, MasterSettings, Move, OfMaster, OfSlave, Partner, Setup, TakesDelivery, back_th, begun, contents, deeds, delivery, did_on, end_of, entry_on, fault_after, frames_of, going_on, is_empty, is_repeat, judged, judged_contents, judged_session, kept, next_entry, on_verdict, partner, quiet, receives, sent_in, set_for, since, state_of, world_after}
 use Rattle.std.proofs.Common.{◌≡◌, ℕ, ◌+◌, List, [], ◌∷◌, ◌++◌, length, replicate, Bool, true, false, Option, Some, None, IsSome, refl, sym, ap, subst, ◌∙◌, arith, if◌then◌else◌}
 use Rattle.fsoe_base.specs.declared.command.Code.{Code}
 use Rattle.fsoe_base.specs.declared.command.Command.TheVariants as command
@@ -11,7 +11,6 @@ use Rattle.seq_chain.specs.declared.opened.Opened.TheVariants as opened_as
 use Rattle.seq_chain.specs.Opened.{opened}
 use Rattle.param_load.specs.declared.entry.Move.TheVariants as move
 use Rattle.schedule_file.specs.declared.event.Event.TheVariants as event
-use Rattle.black_channel.specs.Altered.{back_th}
 use Rattle.trace_diag.proofs.Answering.{answered}
 use Rattle.trace_diag.proofs.Running.{delivered_on, held_put, plainly, IsOn, Reaches}
 

@@ -1,9 +1,8 @@
 -- Where two ends send the frames of a trace, no row of the table applies to any of them.
-use Rattle.trace_diag.proofs.Common.{Accepts, Difference, End, Entry, Event, Field, Frame, MasterSettings, Noted, OfMaster, Partner, answer_events, before, chain_of, command_byte, command_in, count_crcs, count_groups, entry_at, events_before, field_of, first_difference, first_of_both, frame_len, frame_of, going_on, groups, halves, is_empty, is_length, is_reset_frame, length_of, partner, read_schedule, reset_crcs, reset_frame, reset_load, same_end, sealed_by, sent_in, slave_of, turn, turned, whole, width, world, world_after}
+use Rattle.trace_diag.proofs.Common.{Accepts, Difference, End, Entry, Event, Field, Frame, MasterSettings, Noted, OfMaster, Partner, answer_events, before, chain_of, command_byte, command_in, count_crcs, count_groups, entry_at, events_before, field_of, first_difference, first_of_both, frame_len, frame_of, going_on, groups, halves, is_empty, is_length, is_reset_frame, length_of, partner, read_schedule, reset_crcs, reset_frame, reset_load, same_end, sealed_by, sent_in, slave_of, turn, turned, whole, width, world, world_after, world_on}
 use Rattle.std.proofs.Common.{◌≡◌, ℕ, zero, suc, ◌+◌, List, [], ◌∷◌, ◌++◌, length, drop, replicate, Bool, true, false, ◌/◌, if◌then◌else◌, Option, Some, None, IsTrue, refl, sym, ap, ap₂, subst, ◌∙◌, arith}
 use Rattle.std.proofs.lemmas.List.{append_assoc, length-append, length-replicate}
 use Rattle.fsoe_base.specs.declared.command.End.TheVariants as end_name
-use Rattle.exchange_model.proofs.Worlds.Longer.{world_on}
 use Rattle.trace_diag.proofs.Anyway.{sends_anyway, SendsMore}
 use Rattle.trace_diag.proofs.Frames.{read_as}
 use Rattle.trace_diag.proofs.LockStep.{first_runs, next_runs}

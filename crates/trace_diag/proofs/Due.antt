@@ -1,12 +1,11 @@
 -- Which phase the master's next frame is of, by the pieces that it sent.
-use Rattle.trace_diag.proofs.Common.{Command, FirstConnection, FirstParameter, FirstValues, FirstZeros, IsBegun, MasterSettings, MoreConnection, MoreParameter, MoreSession, Profile, State, Turn, all_come, connection_payload, connection_pieces, front, front_begun, front_long, goes_on, not_yet, number_at, parameter_payload, parameter_pieces, phase_of, pieces_for, session_payload, session_pieces, some_width, width}
+use Rattle.trace_diag.proofs.Common.{Command, FirstConnection, FirstParameter, FirstValues, FirstZeros, IsBegun, MasterSettings, MoreConnection, MoreParameter, MoreSession, Profile, State, Turn, all_come, connection_payload, connection_pieces, front, front_begun, front_long, goes_on, id_len, not_yet, number_at, parameter_payload, parameter_pieces, phase_of, pieces_for, session_payload, session_pieces, some_width, width}
+use Rattle.end_model.specs.Payloads.{whole}
 use Rattle.std.proofs.Common.{◌≡◌, ℕ, ◌+◌, ◌*◌, ◌<◌, ◌≤◌, nat_le, List, [], length, Bool, true, false, refl, sym, ap, subst, ◌∙◌, arith, if◌then◌else◌}
 use Rattle.std.proofs.lemmas.Bool.Decides.{nat_tests}
 use Rattle.fsoe_base.specs.declared.command.State.TheVariants as state
 use Rattle.param_load.specs.declared.profile.Profile.TheVariants as profile
-use Rattle.param_load.specs.Profile.{id_len}
 use Rattle.end_model.proofs.WholeUploads.{by_count}
-use Rattle.end_model.specs.Payloads.{whole}
 use Rattle.exchange_model.proofs.Honest.UploadTests.{parameters_count}
 use Rattle.trace_diag.proofs.MasterRows.{IsPlain}
 

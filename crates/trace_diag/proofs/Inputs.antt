@@ -1,6 +1,6 @@
 -- Inputs with traces: a header that is done has valid lengths, frames are from 1 to 255 bytes, and each input has a
 -- report.
-use Rattle.trace_diag.proofs.Common.{AreBytes, AreOfBytes, DiagnosisStands, Difference, End, IsVerdict, Lengths, Noted, NotesFrame, TraceStands, TraceView, first_difference, is_length, judge_reporting, settings_told}
+use Rattle.trace_diag.proofs.Common.{AreBytes, AreOfBytes, AtEnd, DiagnosisStands, Difference, End, Ended, EndsWhole, InputCause, IsVerdict, Lengths, Noted, NotesFrame, Refused, ReportsSoFar, Stop, TraceHeading, TraceStands, TraceView, WholeHeaderOf, before_more, first_difference, frame_line, frame_said, header_in, header_read, header_step, heading_new, input_by, input_read, is_length, judge_reporting, lengths_taken, line_taken, lines_of, refused_at, settings_told, steps, texts, trace_format, trace_heading_after, trace_is_whole, trace_line, trace_said, with_room}
 use Rattle.std.proofs.Common.{◌≡◌, ◌<◌, ◌≤◌, ◌+◌, ◌-◌, ◌^◌, ◌&&◌, nat_lt, nat_le, ℕ, List, [], ◌∷◌, ◌++◌, length, map, reverse, Bool, true, false, Option, Some, None, IfSome, Result, Ok, Err, IsTrue, refl, sym, ap, subst, ◌∙◌, arith, if◌then◌else◌}
 use Rattle.std.proofs.lemmas.Bool.{leb-true, ltb-true}
 use Rattle.std.proofs.lemmas.List.{append-nil, length-reverse, reverse-append}
@@ -12,19 +12,14 @@ use Rattle.hex.specs.Hex.{decode_of}
 use Rattle.hex.specs.declared.error.FromHexError.{FromHexError}
 use Rattle.fsoe_base.specs.declared.command.End.TheVariants as end_name
 use Rattle.fsoe_base.specs.declared.lengths.TheConstants.{MOST_FRAME}
-use Rattle.fsoe_io.specs.declared.status.Ended.{Ended}
 use Rattle.schedule_file.specs.Field.{bytes_said, fields_of, some_bytes}
 use Rattle.schedule_file.specs.Fields.{map_ok, by_word, next_field, no_field, number_16, one_field, one_hex_field, value_or, ◌>>=◌}
 use Rattle.schedule_file.specs.HeaderLine.{lengths_line}
-use Rattle.schedule_file.specs.Input.{before_more, header_in, header_read, header_step, input_by, input_read, lines_of, steps, texts, with_room, AtEnd, InputCause, Refused, Stop, WholeHeaderOf}
 use Rattle.schedule_file.specs.declared.header_line.LengthsLine.{LengthsLine}
 use Rattle.schedule_file.specs.declared.line_cause.LineCause.{LineCause}
 use Rattle.schedule_file.specs.declared.line_cause.LineCause.TheVariants as cause
 use Rattle.file_run.specs.Machine.{IsSaid, MayCome, TakesEvent, EndsReport}
-use Rattle.file_run.specs.Ran.{EndsWhole}
 use Rattle.file_run.specs.Report.{refused_line}
-use Rattle.file_run.specs.Reporting.{refused_at, ReportsSoFar}
-use Rattle.trace_diag.specs.Lines.{frame_line, frame_said, heading_new, lengths_taken, line_taken, trace_format, trace_heading_after, trace_is_whole, trace_line, trace_said, TraceHeading}
 use Rattle.trace_diag.specs.Report.{ended_by, frames_line, verdict_lines, AreLengths, DiagnoseReports}
 use Rattle.trace_diag.specs.declared.header.Stage.{Stage}
 use Rattle.trace_diag.specs.declared.header.Stage.TheVariants as stage

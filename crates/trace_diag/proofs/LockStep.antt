@@ -1,6 +1,6 @@
 -- The world over the schedule of a trace: one frame for each of the trace, each from the end whose turn it is, and
 -- after them the last is on its way.
-use Rattle.trace_diag.proofs.Common.{Accepts, AtIdle, End, Enters, Entry, Event, Lengths, MasterSettings, Noted, OfMaster, Partner, answer_events, command_in, deed_of, first_tick, frame_of, going_on, length_of, on_expiry, partner, peer, read_schedule, reset_frame, sent_in, step, turn, world, world_after}
+use Rattle.trace_diag.proofs.Common.{Accepts, AtIdle, End, Enters, Entry, Event, IsProperEvent, Lengths, MasterSettings, Noted, OfMaster, Partner, answer_events, command_in, deed_of, first_tick, frame_of, going_on, length_of, on_expiry, partner, peer, read_schedule, reset_frame, sent_in, step, turn, world, world_after, world_on}
 use Rattle.std.proofs.Common.{◌≡◌, ℕ, suc, ◌-◌, ◌<◌, nat_le, List, [], ◌∷◌, length, replicate, Bool, true, Option, Some, refl, sym, ap, subst, ◌∙◌, arith, if◌then◌else◌}
 use Rattle.std.proofs.lemmas.Bool.Decides.{nat_tests}
 use Rattle.std.proofs.lemmas.List.{length-append, length-replicate}
@@ -10,9 +10,7 @@ use Rattle.param_load.specs.declared.entry.Move.TheVariants as move
 use Rattle.schedule_file.specs.declared.event.Event.TheVariants as event
 use Rattle.fsoe_base.specs.Did.{nothing}
 use Rattle.end_model.specs.Entries.{entry_of}
-use Rattle.exchange_model.specs.Schedules.{IsProperEvent}
 use Rattle.exchange_model.proofs.Honest.OnItsWay.{fresh}
-use Rattle.exchange_model.proofs.Worlds.Longer.{world_on}
 use Rattle.trace_diag.proofs.Running.{Answers, IsOn, answer_on}
 
 -- each frame has as many data bytes as its end sends, so that a put of them is proper

@@ -1,15 +1,10 @@
 -- The frames of an input are bytes, so that what a run reports of it has the verdict on them.
-use Rattle.trace_diag.proofs.Common.{judge_reporting}
+use Rattle.trace_diag.proofs.Common.{BeginsReport, CutsReport, Ended, EndsAs, RanOver, ReportsReadLines, input_read, judge_reporting, refused_at, trace_format}
 use Rattle.std.proofs.Common.{ℕ, ◌+◌, List, Option, Some, None, IfSome}
 use Rattle.fsoe_io.specs.Sink.{Grew}
-use Rattle.fsoe_io.specs.declared.status.Ended.{Ended}
 use Rattle.fsoe_io.specs.declared.status.Status.{Status}
 use Rattle.fsoe_io.specs.declared.status.Status.TheVariants as status
-use Rattle.schedule_file.specs.Input.{input_read}
 use Rattle.file_run.specs.Outside.{Outside, Wrote}
-use Rattle.file_run.specs.Ran.{EndsAs, RanOver, ReportsReadLines}
-use Rattle.file_run.specs.Reporting.{refused_at, BeginsReport, CutsReport}
-use Rattle.trace_diag.specs.Lines.{trace_format}
 use Rattle.trace_diag.specs.Ran.{diagnose_reporting, DiagnosesInput}
 use Rattle.trace_diag.proofs.Inputs.{input_bytes}
 

@@ -1,12 +1,10 @@
 -- The world over the schedule of a trace runs in lock step: after each frame's events the next frame is on its way.
-use Rattle.trace_diag.proofs.Common.{Accepts, Asked, AtStage, Both, Command, Deed, Down, End, Enters, Entry, Event, Goes, HasNoReset, IsQuiet, MasterSettings, Move, Noted, Partner, Replied, Setup, Stage, TakesDelivery, Up, asked_delivered, both, both_kept, deed_in, deeds, down_delivered, end_of, end_of_event, frames_from, frames_of, going_on, held, is_empty, nonce_after, offer, own, partner, peer, quiet_enters, quiet_entry, quiet_hold, quiet_put, replied_delivered, same_end, sent_in, set_for, setup_of, up_delivered, world_after}
+use Rattle.trace_diag.proofs.Common.{Accepts, Asked, AtStage, Both, Command, Deed, Down, End, Enters, Entry, Event, Goes, HasNoReset, IsProperEvent, IsQuiet, IsWorld, MasterSettings, Move, Noted, Partner, Replied, Setup, Stage, TakesDelivery, Up, asked_delivered, back_th, both, both_kept, deed_in, deeds, down_delivered, end_of, end_of_event, frames_from, frames_of, going_on, held, is_empty, nonce_after, offer, own, partner, peer, quiet_enters, quiet_entry, quiet_hold, quiet_put, replied_delivered, same_end, sent_in, set_for, setup_of, up_delivered, world_after}
 use Rattle.std.proofs.Common.{◌≡◌, ℕ, suc, ◌+◌, List, [], ◌∷◌, ◌++◌, length, replicate, Bool, true, false, Option, Some, refl, sym, ap, subst, ◌∙◌, arith, if◌then◌else◌}
 use Rattle.fsoe_base.specs.declared.command.Command.TheVariants as command
 use Rattle.fsoe_base.specs.declared.command.End.TheVariants as end_name
 use Rattle.param_load.specs.declared.entry.Move.TheVariants as move
 use Rattle.schedule_file.specs.declared.event.Event.TheVariants as event
-use Rattle.exchange_model.specs.Schedules.{IsProperEvent, IsWorld}
-use Rattle.black_channel.specs.Altered.{back_th}
 use Rattle.trace_diag.proofs.Nonces.{LeaveNonces, nonces_left}
 use Rattle.trace_diag.proofs.Answering.{IsDelivery, delivered_as, its_end, is_answered}
 

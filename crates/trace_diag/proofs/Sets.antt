@@ -1,10 +1,8 @@
 -- What an answer carries by the schedule and by the settings: the data that were put, and the slave's session id.
-use Rattle.trace_diag.proofs.Common.{Command, Deed, Entry, MasterSettings, Partner, Setup, begun, count_in, deed_in, frame_of, has_command, held, held_after, id_piece, is_data_frame, offer, offer_after, padded, partner, piece, piece_frame, piece_in, sealed, sealed_frame, sends, session_id, session_payload, since, slave_of, taken, width}
+use Rattle.trace_diag.proofs.Common.{Command, Deed, Entry, MasterSettings, Partner, Setup, begun, count_in, deed_in, frame_of, has_command, held, held_after, id_piece, is_data, is_data_frame, offer, offer_after, padded, partner, piece, piece_frame, piece_in, sealed, sealed_frame, sends, session_id, session_payload, since, since_on, slave_of, taken, width}
 use Rattle.std.proofs.Common.{◌≡◌, ℕ, List, ◌∷◌, length, replicate, Bool, true, false, Some, sym, ap, ap₂, ◌∙◌, if◌then◌else◌}
-use Rattle.fsoe_base.specs.Data.{is_data}
 use Rattle.fsoe_base.specs.declared.command.Command.TheVariants as command
 use Rattle.fsoe_base.specs.declared.command.State.TheVariants as state
-use Rattle.exchange_model.proofs.Alone.Uploads.{since_on}
 use Rattle.trace_diag.proofs.Answering.{answer_data, answer_session, IsDelivery, SendsAnswer}
 use Rattle.trace_diag.proofs.Nonces.{session_id_is, LeaveNonce}
 use Rattle.trace_diag.proofs.Running.{IsSetFor}

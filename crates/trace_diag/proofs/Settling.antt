@@ -1,10 +1,9 @@
 -- Ends with the settings that are read off a trace to which no row of the table applies send its frames.
-use Rattle.trace_diag.proofs.Common.{Accepts, AreBytes, AreOfBytes, Command, Deed, End, Entry, Event, Frame, MasterSettings, Noted, Partner, Setup, State, before, begun, command_back, command_byte, command_in, command_of, count_in, deed_in, deeds, frame_len, frame_of, has_command, is_data_frame, is_data_if, length_of, padded, partner, payload_from, phase_of, piece, reset_frame, same_end, same_phase, sends, session_payload, setup_of, since, slave_of, taken, turn, whole, width}
+use Rattle.trace_diag.proofs.Common.{Accepts, AreBytes, AreOfBytes, Command, Deed, End, Entry, Event, Frame, MasterSettings, Noted, Partner, Setup, State, before, begun, command_back, command_byte, command_in, command_of, count_in, deed_in, deeds, frame_len, frame_of, has_command, is_data, is_data_frame, is_data_if, length_of, padded, partner, payload_from, phase_of, piece, reset_frame, same_end, same_phase, sends, session_payload, setup_of, since, slave_of, taken, turn, whole, width}
 use Rattle.std.proofs.Common.{◌≡◌, ◌==◌, ℕ, List, [], ◌∷◌, ◌++◌, length, drop, Bool, true, false, Option, Some, refl, sym, ap, ap₂, subst, ◌∙◌}
 use Rattle.std.proofs.lemmas.Bool.{eqb-true}
 use Rattle.std.proofs.lemmas.List.{append_assoc}
 use Rattle.std.proofs.lemmas.List.Elements.{All-head, All-tail}
-use Rattle.fsoe_base.specs.Data.{is_data}
 use Rattle.fsoe_base.specs.declared.command.Command.TheVariants as command
 use Rattle.fsoe_base.specs.declared.command.End.TheVariants as end_name
 use Rattle.fsoe_base.specs.declared.command.State.TheVariants as state

@@ -1,6 +1,6 @@
 -- The table finds what the definition of a conforming trace says: no row applies to a trace exactly where it conforms,
 -- and the first frame to which one applies is the first with which the trace doesn't conform.
-use Rattle.trace_diag.proofs.Common.{Accepts, AreBytes, AreOfBytes, Conforms, ConformsThroughout, Difference, DiffersFirst, Event, Field, Lengths, MasterSettings, Noted, Partner, Profile, SlaveSettings, field_of, first_difference, first_of_both, frame_len, has_length, is_length, length_of, parameters_from, partner, read_app_len, read_schedule, read_watchdog, sent_in, world}
+use Rattle.trace_diag.proofs.Common.{Accepts, AreBytes, AreOfBytes, Conforms, ConformsThroughout, Difference, DiffersFirst, Event, Field, Lengths, MasterSettings, Noted, Partner, Profile, SlaveSettings, allows_id, field_of, first_difference, first_of_both, frame_len, has_length, is_length, length_of, parameters_from, partner, read_app_len, read_schedule, read_watchdog, sent_in, world}
 use Rattle.std.proofs.Common.{◌≡◌, ◌&&◌, ◌+◌, ◌≤◌, ℕ, List, [], ◌∷◌, length, Bool, true, Option, Some, None, IsTrue, refl, sym, ap, ap₂, subst, ◌∙◌, arith}
 use Rattle.std.proofs.lemmas.Bool.{eq-eqb, leb-true}
 use Rattle.std.proofs.lemmas.List.{append-nil}
@@ -9,7 +9,6 @@ use Rattle.std.specs.List.{list_all}
 use Rattle.fsoe_base.specs.declared.command.End.TheVariants as end_name
 use Rattle.fsoe_base.specs.declared.command.State.TheVariants as state
 use Rattle.param_load.specs.AppRule.{allows, is_acceptable, rule_len}
-use Rattle.param_load.specs.Profile.{allows_id}
 use Rattle.param_load.specs.declared.app_rule.AppRule.{AppRule}
 use Rattle.param_load.specs.declared.app_rule.AppRule.TheVariants as rule
 use Rattle.trace_diag.proofs.Conforming.{good, Good}

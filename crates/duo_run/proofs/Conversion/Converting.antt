@@ -1,5 +1,5 @@
 -- A run that converts a pair file: what was read of it and what was written.
-use Rattle.duo_run.proofs.Common.{AtEnd, ConvertWrite, ConvertedAs, ConvertsReadLines, CountsFaults, End, Ended, FindsTaken, Heading, InputCause, IsPrefix, Lengths, LineTaken, NoLine, Outside, PairRead, Profile, Profiles, RanConvert, Refused, SaysTheSame, Stop, Wrote, WroteAll, converted, ended_at_stop, header_of, heading_profile, input_of, left_to_take, length_of, line_of_end, line_taken, lines_of, own_length, profile_of, read_none, refused_at, refused_line, said_after, taken_by}
+use Rattle.duo_run.proofs.Common.{AppendedPart, AtEnd, ConvertWrite, ConvertedAs, ConvertsReadLines, CountsFaults, End, Ended, FindsTaken, HasNoNewline, Heading, InputCause, IsLine, IsPrefix, Lengths, LineTaken, NoLine, Outside, PairRead, Profile, Profiles, RanConvert, Refused, SaysTheSame, Sent, Stop, Writes, Wrote, WroteAll, by_line, converted, cut_part, ended_at_stop, first_line, grew_written, halts_after, header_of, heading_profile, input_cause, input_of, left_to_take, length_of, line_of_end, line_taken, lines_of, lines_whole, most_held, own_length, piece_part, profile_of, read_none, refused_at, refused_line, rose_since, said_after, same_ends, sent_flushed, sent_none, sent_piece, taken_by, text_part, took_line, took_none}
 use Rattle.std.proofs.Common.{◌≡◌, ℕ, ◌+◌, ◌*◌, ◌≤◌, ◌<◌, Bool, true, false, List, [], ◌∷◌, ◌++◌, length, refl, ap, ◌∙◌, sym, subst, append_assoc, inl, inr, arith}
 use Rattle.std.specs.Prelude.{Result, Ok, Err, IfSome, Some, None}
 use Rattle.std.specs.declared.option.Option.{Option}
@@ -8,26 +8,18 @@ use Rattle.std.proofs.lemmas.List.{append-nil, length-append}
 use Rattle.std.proofs.lemmas.Option.{IfSome_then}
 use Rattle.fsoe_io.specs.Faults.{Rose}
 use Rattle.fsoe_io.proofs.Taken.{consumes_then}
-use Rattle.fsoe_io.specs.Line.{HasNoNewline, IsLine, most_held}
 use Rattle.fsoe_io.specs.Output.{OutputView, Loses, Passes}
 use Rattle.fsoe_io.specs.Sink.{Grew}
 use Rattle.fsoe_io.specs.declared.status.Status.{Status}
 use Rattle.fsoe_io.specs.declared.status.Status.TheVariants as status
 use Rattle.schedule_file.specs.PairEvent.{pair_line}
-use Rattle.schedule_file.proofs.Pairs.{same_ends}
 use Rattle.schedule_file.specs.declared.header_kind.HeaderKind.TheVariants as kind
-use Rattle.file_run.specs.Ending.{AppendedPart, Writes}
 use Rattle.file_run.specs.Halt.{Blames, Goes, Stalls}
 use Rattle.file_run.specs.NextLine.{FindsLine}
-use Rattle.file_run.specs.ByTitle.{first_line}
-use Rattle.file_run.specs.Refusal.{input_cause}
 use Rattle.file_run.specs.Stop.{halted_by, last_of}
 use Rattle.file_run.specs.WholeLines.{TookLines}
 use Rattle.file_run.specs.declared.halt.Halt.{Halt}
 use Rattle.file_run.specs.declared.halt.Halt.TheVariants as halt
-use Rattle.file_run.proofs.Lines.{by_line, lines_whole}
-use Rattle.file_run.proofs.Sending.{Sent, cut_part, grew_written, piece_part, rose_since, sent_flushed, sent_none, sent_piece, text_part}
-use Rattle.file_run.proofs.Taken.{halts_after, took_line, took_none}
 use Rattle.file_run.proofs.Unread.{nothing_held}
 use Rattle.duo_run.proofs.Conversion.Converted.{Lines, Whole, after_part, converted_whole, end_whole, last_is, refused_whole, told, told_by, told_whole, two_parts}
 use Rattle.duo_run.proofs.Conversion.SameWorld.{says_the_same}

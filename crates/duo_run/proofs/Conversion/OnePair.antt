@@ -1,5 +1,6 @@
 -- What a pair file is converted to is read as a file of one pair, with the same header and the same events.
-use Rattle.duo_run.proofs.Common.{AtEnd, Event, Heading, IfOk-every, IfOk-map, InputCause, IsOnePair, LineCause, Long, PairsEvent, PairsHeading, ScheduleLine, Stop, WholeHeader, WholeHeaderOf, converted, converted_by, each, event_of, event_text, fields_of, fields_taken, header_in, header_of, header_step, header_text, heading_after, heading_is_whole, heading_new, heading_profile, heading_with, input_after, input_by, input_of, input_read, is_done, is_full, last_text, line_text, lines_in, lines_of, only_pair, open_line, own_length, pair_begun, pairs_are_full, pairs_format, pairs_heading_is_whole, pairs_heading_new, pairs_input, pairs_of, pairs_said_after, profile_given, profile_taken, rule_place, said_after, schedule_format, steps, stop_at, stop_by, texts, title_taken, title_text, with_room}
+use Rattle.duo_run.proofs.Common.{AtEnd, Event, HasNoNewline, Heading, IfOk-every, IfOk-map, InputCause, IsLine, IsOnePair, LineCause, Long, PairsEvent, PairsHeading, ScheduleLine, Stop, WholeHeader, WholeHeaderOf, admitted, converted, converted_by, each, event_of, event_text, fields_of, fields_taken, header_in, header_of, header_step, header_text, header_word_of, heading_after, heading_is_whole, heading_new, heading_profile, heading_with, input_after, input_by, input_of, input_read, is_done, is_full, is_newline, is_start, last_text, line_text, lines_in, lines_of, lines_whole, only_pair, open_line, own_length, pair_begun, pairs_are_full, pairs_format, pairs_heading_is_whole, pairs_heading_new, pairs_input, pairs_of, pairs_said_after, profile_given, profile_taken, rule_place, said_after, schedule_format, steps, stop_at, stop_by, texts, title_taken, title_text, with_room}
+use Rattle.schedule_file.specs.PairsInput.{entries_of}
 use Rattle.std.proofs.Common.{◌≡◌, ℕ, suc, ◌+◌, ◌<◌, ◌≤◌, Bool, true, false, List, [], ◌∷◌, ◌++◌, length, take, map, refl, ap, ◌∙◌, sym, subst, append_assoc, arith}
 use Rattle.std.specs.Prelude.{IfOk, IsSomeAnd, Result, Ok, Err, Some, codes, nat_le, slice_get, if◌then◌else◌}
 use Rattle.std.specs.List.{flat_map, onto_first, slice_split}
@@ -10,12 +11,9 @@ use Rattle.std.proofs.lemmas.List.{length_push, map-append}
 use Rattle.std.proofs.lemmas.List.Elements.{All-cons, All-nil}
 use Rattle.std.proofs.lemmas.List.Splits.{slice_split-cons_no, slice_split-cons_yes}
 use Rattle.std.proofs.lemmas.Result.{IfOk-at_ok}
-use Rattle.fsoe_io.specs.Line.{HasNoNewline, IsLine, is_newline}
 use Rattle.schedule_file.specs.HeaderLine.{header_line}
 use Rattle.schedule_file.specs.HeaderPart.{master_with_app, slave_with_bytes, slave_with_pairs}
-use Rattle.schedule_file.specs.PairsInput.{entries_of}
 use Rattle.schedule_file.specs.PairsLine.{pairs_event_of}
-use Rattle.schedule_file.specs.Place.{admitted, header_word_of, is_start}
 use Rattle.schedule_file.specs.declared.event.TheConstants.{MAX_EVENTS}
 use Rattle.schedule_file.specs.declared.event.ScheduleLine.TheVariants as said
 use Rattle.schedule_file.specs.declared.header_kind.HeaderKind.TheVariants as kind
@@ -30,7 +28,6 @@ use Rattle.schedule_file.specs.declared.pairs_line.PairsLine.{PairsLine}
 use Rattle.schedule_file.specs.declared.place.Place.{Place}
 use Rattle.schedule_file.specs.declared.place.Place.TheVariants as place
 use Rattle.schedule_file.proofs.FewEvents.{few_events}
-use Rattle.file_run.proofs.Lines.{lines_whole}
 use Rattle.duo_run.proofs.Conversion.SameLines.{event_line_same, header_line_same, last_line_same}
 use Rattle.duo_run.proofs.Conversion.Short.{line_short}
 use Rattle.duo_run.proofs.Conversion.Converted.{Lines}

@@ -1,12 +1,10 @@
 -- Line by line, what a pair file is converted to says the same of the only pair.
-use Rattle.duo_run.proofs.Common.{Event, Heading, LineCause, PairsHeading, PairsStage, by_word, fields_of, fields_taken, heading_after, heading_is_whole, heading_profile, last_taken, only_pair, own_length, pair_taken, pairs_begun, pairs_heading_after, pairs_line, pairs_line_taken, pairs_of, pairs_said_after, said_after, stage_after, title_taken, with_pair, ◌>>=◌}
+use Rattle.duo_run.proofs.Common.{Event, Heading, LineCause, PairsHeading, PairsStage, by_word, fields_of, fields_taken, heading_after, heading_is_whole, heading_profile, is_start, last_taken, may_end, only_pair, own_length, pair_taken, pairs_begun, pairs_heading_after, pairs_line, pairs_line_taken, pairs_of, pairs_said_after, said_after, stage_after, title_taken, with_pair, ◌>>=◌}
 use Rattle.std.proofs.Common.{◌≡◌, ℕ, Bool, true, false, List, [], ◌∷◌, ◌++◌, map, refl, ap, ◌∙◌, sym, arith}
 use Rattle.std.specs.Prelude.{Result, Ok, codes, ◌&&◌, if◌then◌else◌}
 use Rattle.std.specs.Str.{bytes_eq}
 use Rattle.std.proofs.lemmas.Fmt.{decimal_digit}
 use Rattle.std.proofs.lemmas.Slice.Eq.{bytes_eq-Decides}
-use Rattle.schedule_file.specs.NodeHeader.{may_end}
-use Rattle.schedule_file.specs.Place.{is_start}
 use Rattle.schedule_file.specs.declared.event.ScheduleLine.TheVariants as said
 use Rattle.schedule_file.specs.declared.header_kind.HeaderKind.TheVariants as kind
 use Rattle.schedule_file.specs.declared.line_cause.LineCause.TheVariants as cause

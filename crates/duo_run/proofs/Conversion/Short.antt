@@ -1,5 +1,5 @@
 -- The line of an event is short, so that with the number of a pair before it is a line still.
-use Rattle.duo_run.proofs.Common.{End, IfOk-every, IfOk-map, LineCause, Profile, ScheduleLine, allows_id, bytes_said, fields_of, is_number, number_said, one_field, one_hex_field, value_or, ◌>>=◌}
+use Rattle.duo_run.proofs.Common.{End, IfOk-every, IfOk-map, LineCause, Profile, ScheduleLine, allows_id, bytes_said, fields_of, is_number, number_said, one_field, one_hex_field, pair_said, pair_said_by, pair_word_of, value_or, ◌>>=◌}
 use Rattle.std.proofs.Common.{◌≡◌, ℕ, ◌+◌, ◌/◌, ◌≤◌, Bool, true, false, List, [], ◌∷◌, length, get_or, refl, ap, subst, inl, inr, arith}
 use Rattle.std.specs.Prelude.{◌&&◌, ◌||◌, ◌==◌, nat_lt, nat_le, IfOk, Result, Ok, Err, Option, Some, None, codes, decimal, slice_index, if◌then◌else◌}
 use Rattle.std.specs.List.{join_with_byte}
@@ -16,7 +16,7 @@ use Rattle.std.proofs.lemmas.Str.Parse.{numerals_by_value, tells_all_ascii_digit
 use Rattle.fsoe_base.specs.declared.command.End.TheVariants as side
 use Rattle.fsoe_base.specs.declared.lengths.TheConstants.{MOST_DATA, MOST_FRAME}
 use Rattle.schedule_file.specs.EventLine.{altered_line, bare_line, delivered_len, not_zero, reference_of, switch_of}
-use Rattle.schedule_file.specs.PairEvent.{pair_line, pair_said, pair_said_by, pair_word_of}
+use Rattle.schedule_file.specs.PairEvent.{pair_line}
 use Rattle.schedule_file.specs.declared.event.Event.TheVariants as event
 use Rattle.schedule_file.specs.declared.event.ScheduleLine.TheVariants as line
 use Rattle.schedule_file.specs.declared.line_cause.LineCause.TheVariants as cause

@@ -1,5 +1,5 @@
 -- The schedule of number 0 is honest.
-use Rattle.duo_run.proofs.Common.{End, Entry, Event, HasNoReset, IsProperEvent, Serves, TakesDelivery, entries_of, entry_at, event_in_turn, honest_serves, made, made_master, made_slave, peer}
+use Rattle.duo_run.proofs.Common.{End, Entry, Event, HasNoReset, IsHonest, IsProperEvent, Match, Serves, TakesDelivery, entries_of, entry_at, event_in_turn, honest_serves, if_on, in_turn, is_plain, keeps_time, made, made_master, made_slave, peer}
 use Rattle.std.proofs.Common.{◌≡◌, ℕ, zero, suc, ◌%◌, ◌==◌, List, [], ◌∷◌, ◌++◌, true, false, Some, None, All, refl, sym, ap, ap₂, subst, ◌∙◌, arith}
 use Rattle.std.specs.List.{list_all}
 use Rattle.std.proofs.lemmas.Bool.{leb-true}
@@ -8,7 +8,6 @@ use Rattle.std.proofs.lemmas.List.Elements.{All-nil, All-cons}
 use Rattle.fsoe_base.specs.declared.command.End.TheVariants as end_name
 use Rattle.schedule_file.specs.declared.event.Event.TheVariants as event
 use Rattle.schedule_file.proofs.Making.{event_at-zero}
-use Rattle.exchange_model.specs.Honest.{Match, is_plain, in_turn, if_on, keeps_time, IsHonest}
 
 -- so many times the peer's last frame comes to an end, this one first, and to its peer in turn
 abbrev alternating : End → ℕ → List Event

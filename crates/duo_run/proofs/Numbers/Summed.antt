@@ -1,7 +1,6 @@
 -- What a bulk run reports.
-use Rattle.duo_run.proofs.Common.{Ended, Entry, Fair, IsWorld, Summary, Told, before_is_clean, before_is_world, before_other, ended_with, entries_of, fair_world, first_other, made_lengths, made_master, made_slave, number_line, other_line, report_of, summary_lines, summary_of}
+use Rattle.duo_run.proofs.Common.{Ended, Entry, Fair, IsWorld, Summary, Told, Writes, before_is_clean, before_is_world, before_other, ended_with, entries_of, fair_world, first_other, made_lengths, made_master, made_slave, number_line, other_line, report_of, summary_lines, summary_of}
 use Rattle.std.proofs.Common.{◌≡◌, ℕ, List, ◌++◌, Option, refl, ap, ap₂, subst, ◌∙◌}
-use Rattle.file_run.specs.Ending.{Writes}
 
 -- what is known of a run is its report
 reported : (number events : ℕ) (w : List Entry) (summary : Summary) (other : Option ℕ) → summary ≡ summary_of w → other ≡ first_other w

@@ -1,11 +1,9 @@
 -- No event of a number names a frame that wasn't sent, so each has its entry.
-use Rattle.duo_run.proofs.Common.{End, Entry, Event, altered_delivery, deed_in, deeds, delivery, end_of_event, entries_of, entry_at, entry_on, event_at, event_by, frames_of, is_empty, is_switch_on, load_of, made, made_master, made_slave, mask_of, move_from, next_entry, peer, place_of, same_end, setup_of, word_after, world_next}
+use Rattle.duo_run.proofs.Common.{End, Entry, Event, Move, altered, altered_delivery, back_th, deed_in, deeds, delivery, end_of_event, entries_of, entry_at, entry_on, event_at, event_by, frames_of, is_empty, is_switch_on, load_of, made, made_master, made_slave, mask_of, move_from, next_entry, peer, place_of, same_end, setup_of, word_after, world_next}
 use Rattle.std.proofs.Common.{◌≡◌, ℕ, zero, suc, ◌-◌, ◌≤◌, ◌/◌, ◌%◌, ◌^◌, List, [], ◌∷◌, length, Bool, true, false, if◌then◌else◌, Some, refl, sym, ap, subst, ◌∙◌, length-append, arith}
 use Rattle.fsoe_base.specs.declared.command.End.TheVariants as end_name
 use Rattle.fsoe_crc.specs.Remainder.{computing}
-use Rattle.param_load.specs.declared.entry.Move.{Move}
 use Rattle.param_load.specs.declared.entry.Move.TheVariants as move
-use Rattle.black_channel.specs.Altered.{altered, back_th}
 use Rattle.schedule_file.specs.declared.event.Event.TheVariants as event
 use Rattle.end_model.specs.Chain.{own}
 

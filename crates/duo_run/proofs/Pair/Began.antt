@@ -1,9 +1,8 @@
 -- A new pair stands for no entry.
-use Rattle.duo_run.proofs.Common.{DuoStands, DuoView, IsDuo, MasterIsAfter, MasterSettings, SameLengths, SlaveIsAfter, SlaveSettings, window_of}
+use Rattle.duo_run.proofs.Common.{DuoStands, DuoView, IsDuo, MasterIsAfter, MasterSettings, SameLengths, SlaveIsAfter, SlaveSettings, SlaveView, window_of}
 use Rattle.std.proofs.Common.{◌≡◌, false, [], sym, ap, ◌∙◌}
 use Rattle.exchange_model.specs.Monitor as monitor
 use Rattle.master_core.specs.Now.{is_due}
-use Rattle.slave_core.specs.SlaveView.{SlaveView}
 
 pub stands_new : (ms : MasterSettings) (ss : SlaveSettings) (v : DuoView) → MasterIsAfter ms v.master [] → SlaveIsAfter ss v.slave []
     → v.master_sent ≡ window_of [] → v.slave_sent ≡ window_of [] → v.monitor ≡ monitor.view_of [] → DuoStands ms ss v []

@@ -1,5 +1,5 @@
 -- The events of an input are proper at ends that are set to its header, so that the laws of the pair hold of its run.
-use Rattle.duo_run.proofs.Common.{AreSetTo, Event, Fits, Heading, IsProperEvent, MasterSettings, Profile, RunsFairly, SameLengths, ServesIfHonest, SlaveSettings, allows_id, fair_before, heading_profile, honest_serves, input_of, own_length}
+use Rattle.duo_run.proofs.Common.{AreSetTo, Event, Fits, Heading, IsProperEvent, MasterSettings, Profile, RunsFairly, SameLengths, ServesIfHonest, SlaveSettings, allows_id, events_fit, fair_before, heading_profile, honest_serves, input_of, own_length}
 use Rattle.std.proofs.Common.{ℕ, List, All, IsTrue, sym, subst, ◌∙◌}
 use Rattle.std.specs.Prelude.{IfSome, Some, None}
 use Rattle.std.specs.declared.option.Option.{Option}
@@ -8,7 +8,6 @@ use Rattle.std.proofs.lemmas.Option.{IfSome_then}
 use Rattle.fsoe_base.specs.declared.command.End.TheVariants as end_name
 use Rattle.schedule_file.specs.declared.event.Event.TheVariants as event
 use Rattle.schedule_file.specs.declared.header_kind.HeaderKind.TheVariants as kind
-use Rattle.schedule_file.proofs.Fitting.{events_fit}
 
 -- ends that are set to a header have the same lengths
 pub same_lengths : (h : Heading) (ms : MasterSettings) (ss : SlaveSettings) → AreSetTo h ms ss → SameLengths ms ss

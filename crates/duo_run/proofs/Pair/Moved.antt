@@ -1,9 +1,8 @@
 -- What an event is to its end: by the last 64 frames of its peer as by all of them.
-use Rattle.duo_run.proofs.Common.{DuoView, End, Event, Fits, IsDuo, IsProper, IsWritable, OfMaster, OfSlave, WindowView, allows_id, altered_delivery, delivery, end_of_event, length_of, lengths_of, move_at, move_from, profile_of, profiles_of, window_of}
+use Rattle.duo_run.proofs.Common.{DuoView, End, Event, Fits, IsDuo, IsProper, IsWritable, OfMaster, OfSlave, WindowView, allows_id, altered_delivery, back_th, delivery, end_of_event, length_of, lengths_of, move_at, move_from, profile_of, profiles_of, window_of}
 use Rattle.std.proofs.Common.{◌≡◌, ℕ, List, refl, ap, subst, ◌∙◌}
 use Rattle.std.specs.Prelude.{IsTrue}
 use Rattle.fsoe_base.specs.declared.command.End.TheVariants as end_name
-use Rattle.black_channel.specs.Altered.{back_th}
 use Rattle.black_channel.proofs.Pushed.{back_within}
 use Rattle.schedule_file.specs.declared.event.Event.TheVariants as event
 

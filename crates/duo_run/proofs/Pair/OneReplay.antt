@@ -1,10 +1,9 @@
 -- An input has one report of both ends: its header says all that they are set to, and no more than they may be set to.
-use Rattle.duo_run.proofs.Common.{AreEntries, AreSetTo, Ended, Entry, Event, Heading, Input, IsMasterOf, IsSlaveOf, MasterSettings, ReplayReports, SlaveSettings, ended_at, entry_lines, gives_master, gives_slave, input_of, last_lines, run_stop, world}
+use Rattle.duo_run.proofs.Common.{AreEntries, AreSetTo, Ended, Entry, Event, Heading, Input, IsMasterOf, IsSlaveOf, MasterSettings, ReplayReports, SlaveSettings, ended_at, entry_lines, gives_master, gives_slave, input_of, last_lines, one_master, one_slave, run_stop, world}
 use Rattle.std.proofs.Common.{◌≡◌, ℕ, List, [], ◌++◌, refl, ap, ◌∙◌, sym}
 use Rattle.std.specs.Prelude.{IfSome, Some, None}
 use Rattle.std.specs.declared.option.Option.{Option}
 use Rattle.schedule_file.specs.declared.header_kind.HeaderKind.TheVariants as kind
-use Rattle.schedule_file.proofs.OneSetting.{one_master, one_slave}
 
 one_entries : (heading : Option Heading) (events : List Event) (a b : List Entry) → AreEntries heading events a → AreEntries heading events b → a ≡ b
 one_entries None events a b x y = x ∙ sym y

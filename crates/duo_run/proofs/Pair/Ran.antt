@@ -1,8 +1,6 @@
 -- A pair over a whole list of events.
-use Rattle.duo_run.proofs.Common.{DuoStands, DuoView, End, Entry, Event, Fair, IsProperEvent, MasterSettings, SameLengths, Serves, SlaveSettings, before_is_clean, before_is_world, before_other, entries, fair_world, going_on, honest_fair, honest_serves, moves, of_end, setup_of, world, world_after}
+use Rattle.duo_run.proofs.Common.{DuoStands, DuoView, End, Entry, Event, Fair, IsHonest, IsProperEvent, MasterSettings, Match, SameLengths, Serves, SlaveSettings, before_is_clean, before_is_world, before_other, entries, fair_world, going_on, honest_fair, honest_serves, moves, of_end, run, setup_of, world, world_after}
 use Rattle.std.proofs.Common.{◌≡◌, List, [], ◌∷◌, All, Option, sym, ap, subst, ◌∙◌, inl, inr}
-use Rattle.end_model.specs.Step.{run}
-use Rattle.exchange_model.specs.Honest.{Match, IsHonest}
 use Rattle.exchange_model.proofs.Worlds.Projection as alone
 use Rattle.duo_run.specs.Ran.{Ran}
 

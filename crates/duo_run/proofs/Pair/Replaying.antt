@@ -1,14 +1,12 @@
 -- A pair does over its events what a world says, and reports it.
-use Rattle.duo_run.proofs.Common.{Advances, AtEnd, Did, DuoStands, DuoView, End, Ended, EndsReport, EndsUnmet, EndsWhole, Entry, Event, Fits, Heading, Input, MasterSettings, MayCome, Misses, NextEntry, NoFrame, Profile, Refused, ReplayReports, ReplayStands, ReportsSoFar, ShowsLast, SlaveSettings, State, Stop, TakesEvent, end_of_event, ended_at, ended_with, entry_at, entry_line, entry_lines, events_line, first_other, heading_profile, input_stopped, last_lines, length_of, lengths_of, line_of, number_of_first, other_line, own_length, profile_of, profiles_of, refused_line, replay_reporting, run_stop, schedule_format, world, world_missed, world_next}
+use Rattle.duo_run.proofs.Common.{Advances, AtEnd, Did, DuoStands, DuoView, End, Ended, EndsReport, EndsUnmet, EndsWhole, Entry, Event, Fits, Heading, Input, MasterSettings, MayCome, Misses, NextEntry, NoFrame, Profile, Refused, ReplayReports, ReplayStands, ReportsSoFar, ShowsLast, SlaveSettings, State, Stop, TakesEvent, end_of_event, ended_at, ended_whole, ended_with, entry_at, entry_line, entry_lines, events_line, first_other, heading_profile, input_stopped, last_lines, length_of, lengths_of, line_of, number_of_first, other_line, own_length, pair_event_fits, profile_of, profiles_of, refused_line, replay_reporting, run_stop, schedule_format, world, world_missed, world_next}
 use Rattle.std.proofs.Common.{◌≡◌, ℕ, ◌+◌, Bool, true, List, [], ◌∷◌, ◌++◌, length, refl, arith, ap, ◌∙◌, sym, subst, append_assoc, eq-eqb}
 use Rattle.std.specs.Prelude.{Some, None, if◌then◌else◌}
 use Rattle.std.specs.declared.option.Option.{Option}
 use Rattle.std.proofs.lemmas.Bool.{ne_eqb}
 use Rattle.std.proofs.lemmas.List.{length_push, length-append}
 use Rattle.fsoe_base.specs.declared.command.End.TheVariants as end_name
-use Rattle.schedule_file.proofs.Fitting.{pair_event_fits}
 use Rattle.schedule_file.specs.declared.header_kind.HeaderKind.TheVariants as kind
-use Rattle.file_run.proofs.EndedWith.{ended_whole}
 use Rattle.duo_run.proofs.Pair.EntryLines.{lines_begin}
 
 -- the lengths and the profiles of a pair are those of its header

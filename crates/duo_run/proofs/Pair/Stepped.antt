@@ -1,14 +1,10 @@
 -- A pair whose end does its next deed does the next entry of the world.
-use Rattle.duo_run.proofs.Common.{Acts, Advances, Comes, Deed, Did, DuoStands, DuoView, End, Entry, Event, Happens, Hears, IsWritable, MasterActs, MasterIsAfter, MasterSettings, Misses, NextEntry, NotesParts, OfMaster, OfSlave, Setup, ShowsLast, SlaveActs, SlaveIsAfter, SlaveSettings, State, Steps, deeds, delivered, end_of_event, entry_at, entry_on, frames_of, heard_at, is_empty, move_at, move_from, next_entry, peer, sent_by, setup_of, window_of}
+use Rattle.duo_run.proofs.Common.{Acts, Advances, Comes, Deed, Did, DuoStands, DuoView, End, Entry, Event, Happens, Hears, IsWritable, MasterActs, MasterIsAfter, MasterSettings, Misses, Move, NextEntry, NotesParts, OfMaster, OfSlave, Setup, ShowsLast, SlaveActs, SlaveIsAfter, SlaveSettings, SlaveView, State, Steps, Terms, deeds, delivered, end_of_event, entry_at, entry_on, frames_of, heard_at, is_empty, move_at, move_from, next_entry, peer, sent_by, setup_of, step, window_of}
 use Rattle.std.proofs.Common.{◌≡◌, ℕ, List, ◌∷◌, Option, Some, None, refl, sym, ap, subst, ◌∙◌, if◌then◌else◌}
 use Rattle.std.specs.Prelude.{Result, Ok, Err, OnOk, OnErr}
 use Rattle.fsoe_base.specs.declared.command.End.TheVariants as end_name
-use Rattle.param_load.specs.declared.entry.Move.{Move}
-use Rattle.param_load.specs.declared.terms.Terms.{Terms}
-use Rattle.end_model.specs.Step.{step}
 use Rattle.master_core.specs.MasterView.{MasterView}
 use Rattle.master_core.specs.Standing as master_core
-use Rattle.slave_core.specs.SlaveView.{SlaveView}
 use Rattle.slave_core.specs.Standing as slave_core
 use Rattle.duo_run.proofs.Pair.Moved.{moved_within}
 

@@ -1,8 +1,7 @@
 -- What the readers of an end give after an entry of that end is what the entry tells.
-use Rattle.duo_run.proofs.Common.{Deed, DuoStands, DuoView, End, Entry, IsNextEntry, IsRun, MasterIsAfter, MasterSettings, OfMaster, OfSlave, Setup, ShowsLast, SlaveIsAfter, SlaveSettings, State, deed_in, deeds, same_end, setup_of}
+use Rattle.duo_run.proofs.Common.{Deed, DuoStands, DuoView, End, Entry, IsNextEntry, IsRun, MasterIsAfter, MasterSettings, OfMaster, OfSlave, Setup, ShowsLast, SlaveIsAfter, SlaveSettings, State, Terms, deed_in, deeds, same_end, setup_of}
 use Rattle.std.proofs.Common.{◌≡◌, ℕ, List, ◌∷◌, Option, if◌then◌else◌, sym, ap, subst, ◌∙◌}
 use Rattle.fsoe_base.specs.declared.command.End.TheVariants as end_name
-use Rattle.param_load.specs.declared.terms.Terms.{Terms}
 use Rattle.end_model.specs.Readiness.{state_of, told_terms}
 use Rattle.end_model.specs.Outputs.{outputs, out}
 use Rattle.end_model.proofs.Shown.{looking_back}

@@ -1,9 +1,8 @@
 -- The run of one of two machines by the first line is a replay of the version that this line tells.
-use Rattle.duo_run.proofs.Common.{Ended, Outside, RanOver, RanPair, RanPairs, pairs_reporting, replay_reporting}
+use Rattle.duo_run.proofs.Common.{ByTitle, Ended, IsTitled, Outside, RanOver, RanPair, RanPairs, pairs_reporting, replay_reporting}
 use Rattle.std.proofs.Common.{ℕ, List, inl, inr}
 use Rattle.std.specs.Prelude.{◌⊎◌, IfSome, Some, None}
 use Rattle.std.specs.declared.option.Option.{Option}
-use Rattle.file_run.specs.ByTitle.{ByTitle, IsTitled}
 use Rattle.duo_run.specs.Version.{RanReplay, pairs_title}
 use Rattle.duo_run.proofs.Pair.FairReplay.{told_fairly, told_serve}
 use Rattle.duo_run.proofs.Pairs.Fair.{told_pairs_fairly}

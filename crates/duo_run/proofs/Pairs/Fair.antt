@@ -1,6 +1,6 @@
 -- The events of several pairs are proper at the ends of each pair, so that the law of the pair holds of the entries of
 -- each.
-use Rattle.duo_run.proofs.Common.{Event, Fair, Heading, IsPairOf, IsProperEvent, Pair, PairsEvent, PairsHeading, PairsLineFits, PairsRunFairly, before_other, done_after, events_by, events_done, events_to, fair_before, heading_profile, is_met, line_of_event, numbered, own_length, pairs_input, pairs_of, world_of}
+use Rattle.duo_run.proofs.Common.{Event, Fair, Heading, IsPairOf, IsProperEvent, Pair, PairsEvent, PairsHeading, PairsLineFits, PairsRunFairly, before_other, done_after, events_by, events_done, events_to, fair_before, heading_profile, is_met, line_of_event, numbered, own_length, pairs_events_fit, pairs_input, pairs_of, world_of}
 use Rattle.std.proofs.Common.{◌≡◌, ℕ, zero, suc, List, [], ◌∷◌, Bool, true, false, All, map, refl, sym, subst, ◌∙◌}
 use Rattle.std.specs.Prelude.{IfSome, Some, None, ◌==◌, slice_get, if◌then◌else◌}
 use Rattle.std.specs.List.{AllZip}
@@ -11,7 +11,6 @@ use Rattle.std.proofs.lemmas.Option.{IfSome_then}
 use Rattle.fsoe_base.specs.declared.command.End.TheVariants as end_name
 use Rattle.schedule_file.specs.declared.event.Event.TheVariants as event
 use Rattle.schedule_file.specs.declared.pairs_line.PairsEvent.TheVariants as common
-use Rattle.schedule_file.proofs.PairsFitting.{pairs_events_fit}
 use Rattle.duo_run.proofs.Pair.FairReplay.{proper, same_lengths}
 use Rattle.duo_run.proofs.Pairs.Fit.{FitsHeading, fits_heading}
 use Rattle.duo_run.proofs.Pairs.Ticking.{some_same}

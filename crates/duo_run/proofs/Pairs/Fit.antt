@@ -1,5 +1,5 @@
 -- An event that a line says to a pair fits this pair.
-use Rattle.duo_run.proofs.Common.{DuoView, End, Event, Fits, FitsEnds, FitsPair, Heading, IsPairOf, IsSaid, Pair, PairsEvent, PairsHeading, PairsStand, Profile, StandsOver, heading_profile, length_of, lengths_of, numbered, own_length, pairs_format, pairs_of, profile_of, profiles_of}
+use Rattle.duo_run.proofs.Common.{DuoView, End, Event, Fits, FitsEnds, FitsPair, Heading, IsPairOf, IsSaid, Pair, PairsEvent, PairsHeading, PairsStand, Profile, StandsOver, heading_profile, length_of, lengths_of, numbered, numbered_map, own_length, pairs_event_fits, pairs_format, pairs_of, profile_of, profiles_of}
 use Rattle.std.proofs.Common.{◌≡◌, ◌≤◌, ◌+◌, ◌-◌, ℕ, zero, suc, List, [], ◌∷◌, length, map, slice_get, slice_index_or, refl, arith, ap, sym, subst, ◌∙◌}
 use Rattle.std.specs.Prelude.{Some, None, option_map}
 use Rattle.std.specs.List.{AllZip}
@@ -7,8 +7,6 @@ use Rattle.std.specs.declared.option.Option.{Option}
 use Rattle.std.proofs.lemmas.Option.{slice_get-get_or}
 use Rattle.fsoe_base.specs.declared.command.End.TheVariants as end_name
 use Rattle.schedule_file.specs.declared.pairs_line.PairsEvent.TheVariants as common
-use Rattle.schedule_file.proofs.Pairs.{numbered_map}
-use Rattle.schedule_file.proofs.PairsFitting.{pairs_event_fits}
 use Rattle.duo_run.proofs.Pairs.Ticking.{found_below, some_same}
 use Rattle.duo_run.proofs.Pair.Replaying.{fits_ends, same_word}
 

@@ -1,10 +1,10 @@
 -- The least of numbers, one number after another; and whether pairs have room for an entry more.
 use Rattle.duo_run.proofs.Common.{PairsEvent, entries_by, least, less_of}
+use Rattle.schedule_file.specs.PairsInput.{entries_of}
 use Rattle.std.proofs.Common.{◌≡◌, ◌≤◌, ◌<◌, ◌+◌, ℕ, List, [], ◌∷◌, ◌++◌, length, take, slice_get, refl, arith, ap, ◌∙◌, add-one}
 use Rattle.std.specs.Prelude.{Some, None, nat_le, min}
 use Rattle.std.specs.declared.option.Option.{Option}
 use Rattle.std.proofs.lemmas.Bool.Decides.{nat_tests}
-use Rattle.schedule_file.specs.PairsInput.{entries_of}
 use Rattle.schedule_file.specs.declared.pairs_line.PairsEvent.TheVariants as common
 use Rattle.duo_run.proofs.Pairs.Ticking.{taken}
 

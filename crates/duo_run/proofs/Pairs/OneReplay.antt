@@ -1,10 +1,9 @@
 -- An input has one report of several pairs: its header says all that the ends of each are set to.
-use Rattle.duo_run.proofs.Common.{ArePairs, Ended, Heading, IsPairOf, MasterSettings, Pair, PairsEvent, PairsHeading, PairsInput, PairsReports, SlaveSettings, events_done, lines_of_events, pairs_ended, pairs_last_lines, pairs_of, pairs_stop}
+use Rattle.duo_run.proofs.Common.{ArePairs, Ended, Heading, IsPairOf, MasterSettings, Pair, PairsEvent, PairsHeading, PairsInput, PairsReports, SlaveSettings, events_done, lines_of_events, one_master, one_slave, pairs_ended, pairs_last_lines, pairs_of, pairs_stop}
 use Rattle.std.proofs.Common.{◌≡◌, ℕ, List, [], ◌∷◌, ◌++◌, refl, ap, sym, ◌∙◌}
 use Rattle.std.specs.Prelude.{Some, None}
 use Rattle.std.specs.List.{AllZip}
 use Rattle.std.specs.declared.option.Option.{Option}
-use Rattle.schedule_file.proofs.OneSetting.{one_master, one_slave}
 
 one_pair : (h : Heading) (p q : Pair) → IsPairOf h p → IsPairOf h q → p ≡ q
 one_pair h p q x y =

@@ -1,5 +1,6 @@
 -- Several pairs go on with the next event of all.
 use Rattle.duo_run.proofs.Common.{AllStandOver, CanStep, DuoView, EndsUnmet, Entry, Event, IsPairOf, Misses, NoFrame, NotesOthers, Pair, PairsEvent, PairsHeading, PairsStand, StandsOver, TellsNext, Ticks, entries_by, entries_over, entry_after, event_lines, events_by, events_to, is_met, is_met_by, line_if, lines_of_events, numbered, one_line, pair_line, pairs_of, pairs_reporting, steps_done, tick_lines, with_tick}
+use Rattle.schedule_file.specs.PairsInput.{entries_of}
 use Rattle.std.proofs.Common.{◌≡◌, ◌≤◌, ◌<◌, ◌+◌, ◌*◌, ◌^◌, ℕ, suc, Bool, true, false, List, [], ◌∷◌, ◌++◌, length, slice_get, slice_set, refl, arith, ap, sym, subst, ◌∙◌, append_assoc}
 use Rattle.std.specs.Prelude.{Some, None, is_some, if◌then◌else◌, ◌==◌}
 use Rattle.std.specs.declared.option.Option.{Option}
@@ -7,7 +8,6 @@ use Rattle.std.proofs.lemmas.Bool.{eqb-false, eqb-true}
 use Rattle.std.proofs.lemmas.Slice.Zip.{AllZip-long}
 use Rattle.std.proofs.lemmas.List.{append-nil, length_push, length-append, length-set}
 use Rattle.fsoe_base.specs.declared.command.End.TheVariants as end_name
-use Rattle.schedule_file.specs.PairsInput.{entries_of}
 use Rattle.schedule_file.specs.declared.event.Event.TheVariants as event
 use Rattle.schedule_file.specs.declared.pairs_line.PairsEvent.TheVariants as common
 use Rattle.duo_run.proofs.Pairs.At.{others_stay, named, set_at}

@@ -1,11 +1,9 @@
 -- In each world the outputs are those that looking back over the entries gives.
-use Rattle.exchange_model.proofs.Common.{Answers, Command, Deed, Did, End, Entry, IsRun, IsWorld, MasterSettings, Move, OutputsAreDue, Reaction, SameLengths, Setup, SlaveSettings, State, Terms, Took, data_after, deed_in, deeds, entries, entry_of, is_data, of_end, outputs_after, outputs_at, outputs_by, outputs_due, reacted, received_len, receives, setup_of, state_of, terms, ticked, told_in}
+use Rattle.exchange_model.proofs.Common.{Answers, Command, Deed, Did, End, Entry, IsRun, IsWorld, MasterSettings, Move, OutputsAreDue, Reaction, SameLengths, Setup, SlaveSettings, State, Terms, Took, data_after, deed_in, deeds, entries, entry_of, held_up, is_data, is_process, looking_back, of_end, out, out_after, outputs_after, outputs_at, outputs_by, outputs_due, reacted, received_len, receives, setup_of, state_of, terms, ticked, told_in, zeros}
 use Rattle.std.proofs.Common.{◌≡◌, ℕ, List, [], ◌∷◌, ◌&&◌, nat_lt, Option, Some, None, is_some, if◌then◌else◌, refl, ap, subst, sym, ◌∙◌}
 use Rattle.fsoe_base.specs.declared.command.End.TheVariants as end_name
 use Rattle.fsoe_base.specs.declared.command.State.TheVariants as state
 use Rattle.fsoe_base.specs.declared.command.Command.TheVariants as command
-use Rattle.end_model.specs.Outputs.{is_process, zeros, held_up, out_after, out}
-use Rattle.end_model.proofs.Shown.{looking_back}
 use Rattle.exchange_model.proofs.Worlds.Projection.{next_told, next_run, told}
 
 -- where ProcessData was taken, the state is Data

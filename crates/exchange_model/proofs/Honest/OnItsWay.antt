@@ -1,18 +1,16 @@
 -- A sealed frame on its way from one end to the other, whose chains agree. s sends it, r receives it, and u and v are
 -- the deeds of both in their sessions.
-use Rattle.exchange_model.proofs.Common.{Command, Deed, Frame, Setup, command_byte, count_crcs, count_groups, fits, frame_len, frame_of, has_command, is_length, is_reset, kept, low_high, newest_crc, own, own_link, read_back, receives, seal, sends, taken, taken_link, takes_frame, valid_length}
+use Rattle.exchange_model.proofs.Common.{Command, Deed, Frame, IsOtherThanNewest, NeighboursDiffer, Setup, command_byte, count_crcs, count_groups, fits, frame_len, frame_of, groups, has_command, is_length, is_reset, kept, low_high, newest_crc, own, own_link, read_back, receives, seal, sends, taken, taken_link, takes_frame, valid_length, with_crcs}
 use Rattle.std.proofs.Common.{◌≡◌, ◌≢◌, ℕ, suc, ◌+◌, ◌*◌, ◌/◌, List, [], ◌∷◌, length, true, false, Option, Some, None, IsTrue, refl, sym, ap, ap₂, subst, ◌∙◌, arith, inl, inr}
 use Rattle.std.proofs.lemmas.Bool.{cases_eq}
 use Rattle.std.proofs.lemmas.Bool.Decides.{nat_tests}
 use Rattle.std.proofs.lemmas.List.{length-append}
 use Rattle.std.specs.Cmp.Lexicographic.{bytes_decides}
 use Rattle.fsoe_base.specs.declared.command.Command.TheVariants as command
-use Rattle.fsoe_frame.specs.Layout.{groups, with_crcs}
 use Rattle.seq_chain.specs.declared.link.Link.{Link}
 use Rattle.seq_chain.specs.Cover.{first_of}
 use Rattle.seq_chain.specs.Sealing as sealing
 use Rattle.param_load.specs.declared.entry.Move.TheVariants as move
-use Rattle.end_model.specs.Neighbours.{IsOtherThanNewest, NeighboursDiffer}
 
 -- a frame that was taken is the newest of these, or a Reset frame where there is none
 abbrev pub IsNewestOf : List ℕ → List (List ℕ) → Type 0

@@ -1,10 +1,9 @@
 -- The Reset frame with code 0 passes all of its tests.
-use Rattle.exchange_model.proofs.Common.{Code, Deed, Frame, IsResetFrame, Setup, all_zero, bytes_of, code, command_of, count_crcs, count_groups, frame_len, frame_of, halves, is_length, kept, low_high, parts_made, receives, reset_crcs, reset_frame, reset_load, reset_view, since}
+use Rattle.exchange_model.proofs.Common.{Code, Deed, Frame, IsResetFrame, Setup, all_zero, bytes_of, code, command_of, count_crcs, count_groups, frame_len, frame_of, groups, halves, is_length, kept, low_high, parts_made, receives, reset_crcs, reset_frame, reset_load, reset_view, since, with_crcs}
 use Rattle.std.proofs.Common.{◌≡◌, ℕ, zero, suc, ◌+◌, ◌-◌, ◌*◌, ◌/◌, ◌<◌, List, ◌∷◌, length, replicate, Bool, true, not, Some, None, Ok, Err, IsTrue, if◌then◌else◌, refl, sym, ap, subst, ◌∙◌, arith}
 use Rattle.std.proofs.lemmas.Bool.Decides.{nat_tests}
 use Rattle.std.proofs.lemmas.List.{length-replicate, length-append}
 use Rattle.std.specs.Cmp.Lexicographic.{bytes_decides}
-use Rattle.fsoe_frame.specs.Layout.{groups, with_crcs}
 use Rattle.exchange_model.proofs.Honest.OnItsWay.{groups_long, lengths_add}
 
 pub zeros_all : (n : ℕ) → all_zero (replicate n 0) ≡ true

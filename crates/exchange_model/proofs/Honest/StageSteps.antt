@@ -1,6 +1,6 @@
 -- Each delivery of an honest run brings the next stage: of a Reset frame, and of a frame of a session, which its
 -- receiver answers.
-use Rattle.exchange_model.proofs.Common.{Command, Deed, End, Entry, Event, Frame, HasNoReset, IsNext, IsNextEntry, IsProper, IsRun, IsValid, IsWorld, Item, MasterSettings, OfMaster, Profile, Setup, State, TakesDataAfter, TakesDelivery, answer, answer_among, answers_to, count_in, data_taken, deeds, delivery, entry_at, entry_of, entry_on, exchanges, first_conn, frame_of, has_bytes, has_command, id_len, is_guarded, is_guarded_frame, is_other, is_reset, items, items_of, newest, nonce, number_if, offer_len, own, padded, phase_of, phase_sent, piece, received, reset_frame, same_phase, seal, sends, session_id, session_payload, setup_of, since, step}
+use Rattle.exchange_model.proofs.Common.{Command, Deed, End, Entry, Event, Frame, HasNoReset, IsNext, IsNextEntry, IsProper, IsRun, IsValid, IsWorld, Item, MasterSettings, NeighboursDiffer, OfMaster, Profile, Setup, State, TakesDataAfter, TakesDelivery, answer, answer_among, answers_to, back_th, count_in, data_taken, deeds, delivery, entry_at, entry_of, entry_on, exchanges, first_conn, frame_of, has_bytes, has_command, id_len, is_guarded, is_guarded_frame, is_other, is_reset, items, items_of, newest, nonce, number_if, offer_len, own, padded, phase_of, phase_sent, piece, received, reset_frame, same_phase, seal, sends, session_id, session_payload, setup_of, since, step}
 use Rattle.std.proofs.Common.{◌≡◌, ℕ, suc, List, [], ◌∷◌, length, Bool, true, false, not, ◌&&◌, Option, Some, None, if◌then◌else◌, refl, sym, ap, ap₂, ◌∙◌, nat_le, is_some, unwrap_or, ◌≢◌, ◌+◌, ◌<◌, subst, arith}
 use Rattle.std.specs.Option.{option_or}
 use Rattle.std.proofs.lemmas.Bool.{eq-eqb}
@@ -10,7 +10,6 @@ use Rattle.fsoe_base.specs.declared.command.State.TheVariants as state
 use Rattle.fsoe_base.specs.declared.command.Command.TheVariants as command
 use Rattle.param_load.specs.declared.entry.Move.TheVariants as move
 use Rattle.schedule_file.specs.declared.event.Event.TheVariants as event
-use Rattle.black_channel.specs.Altered.{back_th}
 use Rattle.exchange_model.proofs.Alone.Pieces.{piece_filled}
 use Rattle.exchange_model.proofs.Honest.MasterTurn.{next, Next, master_valid, master_after}
 use Rattle.exchange_model.proofs.Honest.OnItsWay.{answering, fresh, first_on_its_way, OnItsWay, next_on_its_way, head_on}
@@ -19,7 +18,6 @@ use Rattle.exchange_model.proofs.Honest.ResetFrames.{zero_load, is_reset_frame}
 use Rattle.exchange_model.proofs.Honest.Stages.{both, NewestAnswers, IsAsked, IsReplied, Stage, Replied, Down, IsDown, IsUp, Up}
 use Rattle.exchange_model.proofs.Honest.Turns.{Partner, partner, master_of, slave_of, width, Starts, none_yet, session_pieces, connection_pieces, parameter_pieces, more, Spot, spot_after, SlaveAt, MasterAt, at_least, spot_data}
 use Rattle.param_load.specs.declared.profile.Profile.TheVariants as profile
-use Rattle.end_model.specs.Neighbours.{NeighboursDiffer}
 use Rattle.end_model.proofs.Neighbours.{neighbours}
 use Rattle.exchange_model.proofs.Worlds.Projection.{deeds_are_run}
 use Rattle.exchange_model.proofs.Alone.Uploads.{since_on}

@@ -1,11 +1,10 @@
 -- Where a handshake stands: the pieces of each payload that were sent and taken so far, and whose turn it is.
-use Rattle.exchange_model.proofs.Common.{Command, Deed, MasterSettings, OfMaster, OfSlave, Profile, Setup, SlaveSettings, State, allows_id, connection_payload, count_in, exchanges, first_conn, id_len, id_sent, is_acceptable, is_length, joined, own, parameter_payload, pay, phase_of, phase_sent, phase_taken, piece_len, pieces, pieces_for, same_phase, session_payload, since, taken}
+use Rattle.exchange_model.proofs.Common.{AppRule, Command, Deed, MasterSettings, OfMaster, OfSlave, Profile, Setup, SlaveSettings, State, allows_id, connection_payload, count_in, exchanges, first_conn, id_len, id_sent, is_acceptable, is_length, joined, own, parameter_payload, pay, phase_of, phase_sent, phase_taken, piece_len, pieces, pieces_for, same_phase, session_payload, since, taken}
 use Rattle.std.proofs.Common.{◌≡◌, ℕ, zero, suc, ◌+◌, ◌<◌, ◌≤◌, List, length, Bool, true, false, nat_lt, Option, Some, None, IsTrue, if◌then◌else◌, arith, nat_le, refl}
 use Rattle.std.proofs.lemmas.Bool.Decides.{nat_tests}
 use Rattle.std.proofs.lemmas.Bool.{lt-ltb, le-ltb}
 use Rattle.fsoe_base.specs.declared.command.State.TheVariants as state
 use Rattle.fsoe_base.specs.declared.command.Command.TheVariants as command
-use Rattle.param_load.specs.declared.app_rule.AppRule.{AppRule}
 use Rattle.exchange_model.proofs.Alone.Pieces.{front}
 use Rattle.param_load.specs.declared.profile.Profile.TheVariants as profile
 

@@ -1,10 +1,9 @@
 -- The first pieces of a master's payloads pass a slave's tests of their contents, where the settings of both match.
-use Rattle.exchange_model.proofs.Common.{Code, Profile, all_zero, allows, code, connection_payload, contents_fault, expected_len, fails, id_len, number_at, padding_fault, parameter_payload, rule_len, session_payload, word_is}
+use Rattle.exchange_model.proofs.Common.{AppRule, Code, Profile, all_zero, allows, code, connection_payload, contents_fault, expected_len, fails, id_len, number_at, padding_fault, parameter_payload, rule_len, session_payload, word_is}
 use Rattle.std.proofs.Common.{◌≡◌, ℕ, ◌+◌, ◌*◌, ◌/◌, ◌%◌, ◌<◌, ◌≤◌, ◌==◌, nat_le, nat_lt, List, ◌++◌, length, take, drop, replicate, Bool, true, false, ◌&&◌, not, Option, Some, None, if◌then◌else◌, refl, sym, ap, ap₂, ◌∙◌, arith}
 use Rattle.std.specs.Option.{option_or}
 use Rattle.std.proofs.lemmas.Bool.{eq-eqb, lt-ltb, le-leb, ltb-true}
 use Rattle.std.proofs.Math.Seq.{take-append_seam}
-use Rattle.param_load.specs.declared.app_rule.AppRule.{AppRule}
 use Rattle.param_load.specs.declared.contents.Expected.{Expected}
 use Rattle.param_load.specs.declared.contents.Expected.TheVariants as expected
 use Rattle.param_load.specs.declared.profile.Profile.TheVariants as profile

@@ -1,11 +1,9 @@
 -- What a monitor with lists has after an entry is what the definitions say of the entries with it, by the newest of
 -- listed items.
-use Rattle.exchange_model.proofs.Common.{End, Entry, Item, ListView, ListsEntry, answer_among, answer_in, delivered, first_of_both, first_other, is_answer_to, is_empty, item_of, item_taken, items, items_of, last_answer, last_sent, later, list_after, list_of, listed, listed_next, listing, lists_after, looked_up, newest, newest_answer, peer, side_in}
+use Rattle.exchange_model.proofs.Common.{End, Entry, Item, ListView, ListsEntry, Sent, Side, answer_among, answer_in, delivered, first_of_both, first_other, is_answer_to, is_empty, is_other_to, item_of, item_taken, items, items_of, kept_of, last_answer, last_sent, later, list_after, list_of, listed, listed_next, listing, lists_after, looked_up, newest, newest_answer, next_sent, number_taken, peer, sent_of, side_in}
 use Rattle.std.proofs.Common.{◌≡◌, ℕ, suc, List, [], ◌∷◌, ◌++◌, length, Bool, true, false, Option, Some, None, if◌then◌else◌, refl, sym, ap, ap₂, ◌∙◌, ◌+◌, ◌<◌, take, get_or, arith, take_all}
 use Rattle.fsoe_base.specs.declared.command.End.TheVariants as end_name
-use Rattle.exchange_model.specs.declared.side.Sent.{Sent}
 use Rattle.exchange_model.specs.declared.list_monitor.Listed.{Listed}
-use Rattle.exchange_model.specs.Monitor.{Side, sent_of, kept_of, next_sent, is_other_to, number_taken}
 use Rattle.exchange_model.proofs.Worlds.Numbered.{numbered}
 use Rattle.exchange_model.proofs.Monitors.Noted.{newest_next, number_taken_is, other_is}
 use Rattle.std.proofs.lemmas.List.{take_more}

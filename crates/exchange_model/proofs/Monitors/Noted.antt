@@ -1,13 +1,11 @@
 -- What a monitor keeps after an entry is what the definitions say of the entries with it.
-use Rattle.exchange_model.proofs.Common.{Did, End, Entry, Item, Took, answer_among, answers_to, awaited, delivered, first_of_both, first_other, has_bytes, has_command, is_empty, is_guarded, is_guarded_frame, is_other, item_number, item_of, item_taken, items, items_of, newest, newest_answer, number_if, peer, same_end}
+use Rattle.exchange_model.proofs.Common.{Did, End, Entry, HasParts, Item, MonitorView, NotesEntry, NotesParts, Sent, Side, Took, answer_among, answers_to, awaited, delivered, first_of_both, first_other, has, has_bytes, has_command, heard_next, is_answer, is_empty, is_guarded, is_guarded_frame, is_other, is_other_to, item_number, item_of, item_taken, items, items_of, kept_of, master_after, newest, newest_answer, next_number, noted_next, number_if, number_of, number_taken, own_after, peer, peer_after, same_end, sent_next, sent_number, sent_of, side_of, slave_after, view_of}
 use Rattle.std.proofs.Common.{◌≡◌, ℕ, suc, ◌≤◌, nat_eq, List, [], ◌∷◌, length, Bool, true, false, ◌&&◌, not, Option, Some, None, if◌then◌else◌, refl, sym, ap, ap₂, subst, ◌∙◌, arith}
 use Rattle.std.specs.Cmp.Lexicographic.{pointwise}
 use Rattle.std.specs.List.{AllByRecursion}
 use Rattle.std.proofs.lemmas.Bool.Decides.{nat_tests}
 use Rattle.fsoe_base.specs.declared.command.End.TheVariants as end_name
 use Rattle.fsoe_base.specs.declared.command.Command.TheVariants as command
-use Rattle.exchange_model.specs.declared.side.Sent.{Sent}
-use Rattle.exchange_model.specs.Monitor.{Side, sent_of, kept_of, MonitorView, view_of, HasParts, NotesEntry, NotesParts, sent_number, has, number_of, next_number, is_answer, is_other_to, number_taken, sent_next, heard_next, own_after, peer_after, side_of, master_after, slave_after, noted_next}
 use Rattle.exchange_model.proofs.Worlds.Projection.{same}
 use Rattle.exchange_model.proofs.Worlds.Numbered.{Numbered, Grown, Same, More, grown, numbered}
 use Rattle.exchange_model.proofs.Joint.Awaited.{awaited_found}

@@ -1,13 +1,10 @@
 -- Where a bit of an end's outputs is 1, its peer offered it as 1 not long ago; and the watchdog that the end tells is
 -- the master's.
-use Rattle.exchange_model.proofs.Common.{Deed, End, Entry, IsFromItem, IsRun, IsTakenFrom, IsWorld, Item, MasterSettings, NoOther, Offered, SameLengths, Setup, SlaveSettings, State, Terms, Took, Values, WasOffered, awaited, data_taken, deed_in, deeds, frame_if, frame_with, in_time, is_data_frame, items, next_offered, of_end, offered_of, offers_bit, outputs_due, received_len, receives, same_end, setup_of, state_of, terms, terms_of, ticked, ticks, ticks_of, told_in, told_terms}
+use Rattle.exchange_model.proofs.Common.{Deed, End, Entry, IsFromItem, IsRun, IsTakenFrom, IsWorld, Item, MasterSettings, NoOther, Offered, SameLengths, Setup, SlaveSettings, State, Terms, Took, Values, WasOffered, awaited, bit_of, data_taken, deed_in, deeds, fail_safe, frame_if, frame_with, in_time, is_data_frame, items, looking_back, next_offered, of_end, offered_of, offers_bit, outputs, outputs_due, received_len, receives, same_end, setup_of, state_of, terms, terms_of, ticked, ticks, ticks_of, told_in, told_terms}
 use Rattle.std.proofs.Common.{◌≡◌, ℕ, ◌+◌, ◌-◌, ◌*◌, ◌<◌, ◌≤◌, nat_lt, List, ◌∷◌, ◌++◌, replicate, Bool, true, false, Option, Some, None, IsSomeAnd, if◌then◌else◌, refl, ap, sym, subst, ◌∙◌, append_assoc, arith}
 use Rattle.std.proofs.lemmas.Bool.{ltb-true}
 use Rattle.fsoe_base.specs.declared.command.End.TheVariants as end_name
 use Rattle.fsoe_base.specs.declared.command.State.TheVariants as state
-use Rattle.fsoe_base.specs.Image.{bit_of}
-use Rattle.end_model.specs.Outputs.{outputs}
-use Rattle.end_model.proofs.Shown.{looking_back, fail_safe}
 use Rattle.exchange_model.proofs.Worlds.Projection.{next_told, told, deeds_are_run, entry_reacted}
 use Rattle.exchange_model.proofs.Joint.Related.{related}
 use Rattle.exchange_model.proofs.Terms.Told.{terms_agree}

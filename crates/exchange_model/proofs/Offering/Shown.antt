@@ -1,9 +1,8 @@
 -- The entry whose data an end shows, where a bit of its outputs is 1.
-use Rattle.exchange_model.proofs.Common.{Command, End, Entry, Took, data_taken, in_time, of_end, outputs_after, outputs_at, outputs_by, same_end, ticked, ticks_of}
+use Rattle.exchange_model.proofs.Common.{Command, End, Entry, Took, bit_of, data_taken, in_time, of_end, outputs_after, outputs_at, outputs_by, same_end, ticked, ticks_of}
 use Rattle.std.proofs.Common.{◌≡◌, ℕ, suc, ◌+◌, ◌/◌, ◌%◌, ◌^◌, ◌==◌, bit_and, slice_index, List, [], ◌∷◌, ◌++◌, replicate, Bool, true, false, not, Option, Some, None, is_some, if◌then◌else◌, refl, ap, sym, ◌∙◌, arith}
 use Rattle.std.specs.Int.Bits.{and_zero_l}
 use Rattle.fsoe_base.specs.declared.command.Command.TheVariants as command
-use Rattle.fsoe_base.specs.Image.{bit_of}
 use Rattle.exchange_model.proofs.Worlds.Projection.{same}
 use Rattle.exchange_model.proofs.Offering.Older.{ticked_across}
 

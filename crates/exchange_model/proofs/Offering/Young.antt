@@ -1,9 +1,9 @@
 -- An end takes data before its watchdog expires: the watchdog in the terms that it tells then.
 use Rattle.exchange_model.proofs.Common.{Answers, Command, Deed, Did, IsRun, Move, OfMaster, OfSlave, Reaction, Setup, SlaveFirstData, SlaveGoesOn, SlaveMoreData, SlaveNextPhase, SlaveSettings, State, Taking, Took, age, data_after, data_taken, handshake-data, is_data, limit, next-data, number_at, phase_of_data, slave_age, slave_limit, state_of, terms, ticked, ticks, upload_is_whole, uploaded, whole, with_answer}
+use Rattle.end_model.specs.Reactions.{IsInSession}
 use Rattle.std.proofs.Common.{◌≡◌, ◌≢◌, ℕ, ◌<◌, List, ◌∷◌, Bool, true, false, Some, None, if◌then◌else◌, refl, sym, ap, ◌∙◌, arith}
 use Rattle.fsoe_base.specs.declared.command.State.TheVariants as state
 use Rattle.fsoe_base.specs.declared.command.Command.TheVariants as command
-use Rattle.end_model.specs.Reactions.{IsInSession}
 use Rattle.end_model.proofs.AgeBelow.{age_below}
 use Rattle.exchange_model.proofs.Alone.Pieces.{deed}
 

@@ -1,9 +1,8 @@
 -- Each end of a world runs as it runs alone.
-use Rattle.exchange_model.proofs.Common.{Deed, End, Entry, Event, IsNext, IsNextEntry, IsProper, IsProperEvent, IsReaction, IsRun, IsWorld, MasterSettings, Move, Setup, SlaveSettings, altered_delivery, deed_in, deeds, delivery, end_of_event, entries, entry_at, entry_of, entry_on, frames_of, going_on, move_from, moves, of_end, peer, reacted, run, same_end, setup_of, step, world, world_after}
+use Rattle.exchange_model.proofs.Common.{Deed, End, Entry, Event, IsNext, IsNextEntry, IsProper, IsProperEvent, IsReaction, IsRun, IsWorld, MasterSettings, Move, Setup, SlaveSettings, altered_delivery, back_th, deed_in, deeds, delivery, end_of_event, entries, entry_at, entry_of, entry_on, frames_of, going_on, move_from, moves, of_end, peer, reacted, run, same_end, setup_of, step, world, world_after}
 use Rattle.std.proofs.Common.{◌≡◌, ℕ, List, [], ◌∷◌, ◌++◌, Bool, true, false, if◌then◌else◌, refl, ap, subst, sym, ◌∙◌, All, Option, Some, None}
 use Rattle.std.proofs.lemmas.List.Elements.{All-head, All-tail}
 use Rattle.fsoe_base.specs.declared.command.End.TheVariants as end_name
-use Rattle.black_channel.specs.Altered.{back_th}
 use Rattle.schedule_file.specs.declared.event.Event.TheVariants as event
 use Rattle.end_model.proofs.Runs.{run_append}
 

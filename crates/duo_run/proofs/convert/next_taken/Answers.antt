@@ -1,6 +1,5 @@
+use Rattle.duo_run.proofs.Common.{input_cause, took_one}
 use Rattle.std.proofs.Common.{◌+◌, ◌∙◌}
-use Rattle.file_run.proofs.Taken.{took_one}
-use Rattle.file_run.specs.Refusal.{input_cause}
 use Rattle.duo_run.proofs.Conversion.Converting.{next_refused}
 use Rattle.duo_run.proofs.convert.next_taken.Goals as goal
 

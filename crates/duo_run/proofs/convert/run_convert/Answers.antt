@@ -1,6 +1,6 @@
+use Rattle.duo_run.proofs.Common.{rose_since}
 use Rattle.std.proofs.Common.{Bool, ℕ, length, ap, refl, arith, ◌∙◌}
 use Rattle.file_run.proofs.Counted.{counted_halted, counted_last, counted_write}
-use Rattle.file_run.proofs.Sending.{rose_since}
 use Rattle.duo_run.proofs.Conversion.Converting.{converting_line, converting_sent, converting_start, ends_at_end, ends_halted, ends_lost, ends_unsent, ran_by}
 use Rattle.duo_run.proofs.convert.run_convert.Goals as goal
 

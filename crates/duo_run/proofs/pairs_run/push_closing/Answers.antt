@@ -1,10 +1,9 @@
-use Rattle.duo_run.proofs.Common.{closing_line}
+use Rattle.duo_run.proofs.Common.{WaitingText, closing_line}
 use Rattle.std.proofs.Common.{◌≡◌, ◌+◌, ◌++◌, ℕ, List, length, slice_index_or, refl, sym, ap, ◌∙◌, arith}
 use Rattle.std.specs.Prelude.{None}
 use Rattle.std.specs.declared.option.Option.{Option}
 use Rattle.std.proofs.lemmas.List.{length-append}
 use Rattle.std.proofs.lemmas.Option.{slice_get-get_or}
-use Rattle.file_run.specs.Waiting.{WaitingText}
 use Rattle.duo_run.proofs.Pairs.Closing.{closing_more}
 use Rattle.duo_run.proofs.pairs_run.push_closing.Goals as goal
 

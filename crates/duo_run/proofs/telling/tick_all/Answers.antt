@@ -1,9 +1,8 @@
-use Rattle.duo_run.proofs.Common.{DuoView}
+use Rattle.duo_run.proofs.Common.{DuoView, WaitingText}
 use Rattle.std.proofs.Common.{◌≡◌, ◌+◌, ◌++◌, ℕ, List, length, slice_get, slice_index_or, refl, ap, ◌∙◌, arith}
 use Rattle.std.specs.Prelude.{Some}
 use Rattle.std.proofs.lemmas.List.{length-append}
 use Rattle.std.proofs.lemmas.Option.{slice_get-get_or}
-use Rattle.file_run.specs.Waiting.{WaitingText}
 use Rattle.duo_run.proofs.Pairs.Ticking.{next_counted, next_ticks, ticked_all, ticked_more, ticked_none}
 use Rattle.duo_run.proofs.Numbers.Summarizing.{never_err}
 use Rattle.duo_run.proofs.telling.tick_all.Goals as goal

@@ -1,9 +1,9 @@
 use Rattle.exchange_model.proofs.Common.{answer_under_way_run, before_other, first_data_run, forged_data_run, held_slave_run, old_connection_run, old_session_run, profile_two_run}
+use Rattle.exchange_model.specs.WorkedRuns.{FirstDataFair, AnswerUnderWayFair, OldSessionFair, HeldSlaveFair, ProfileTwoFair, ForgedDataFair, OldConnectionFair}
 use Rattle.std.proofs.Common.{refl}
 use Rattle.hex.proofs.OnLiterals.{hex_on_literals}
 use Rattle.fsoe_crc.specs.Remainder.{computing}
 use Rattle.end_model.specs.WorkedRuns.{two_and_two}
-use Rattle.exchange_model.specs.WorkedRuns.{FirstDataFair, AnswerUnderWayFair, OldSessionFair, HeldSlaveFair, ProfileTwoFair, ForgedDataFair, OldConnectionFair}
 use Rattle.exchange_model.proofs.Fairness.Deciding.{fair, unfair}
 use Rattle.exchange_model.proofs.laws.fair_runs.Goals as goal
 

@@ -1,6 +1,5 @@
-use Rattle.process_image.proofs.Common.{WaitingText, encode_lower, lower_digits}
+use Rattle.process_image.proofs.Common.{WaitingText, encode_lower, length-encode_with, lower_digits}
 use Rattle.std.proofs.Common.{codes, length, length-append, ap, arith}
-use Rattle.hex.proofs.HexLemmas.{length-encode_with}
 use Rattle.process_image.proofs.run.push_last.Goals as goal
 
 pub push-requires-2 : goal.push-requires-2

@@ -1,4 +1,4 @@
-use Rattle.memchr.specs.Find.{Nowhere, Passes, is_byte}
+use Rattle.schedule_file.proofs.Common.{Nowhere, Passes, is_byte}
 use Rattle.schedule_file.proofs.field.space.Given as goal
 
 abbrev pub invariant-loop-at : goal.invariant-loop-at

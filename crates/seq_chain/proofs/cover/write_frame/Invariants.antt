@@ -1,7 +1,6 @@
-use Rattle.seq_chain.proofs.Common.{crcs, crcs_from, groups}
+use Rattle.seq_chain.proofs.Common.{IsNumbered, crcs, crcs_from, groups}
 use Rattle.std.proofs.Common.{◌≡◌, ℕ, ◌*◌, ◌++◌, drop}
 use Rattle.arrayvec.specs.ArrayVec.{array_vec_len}
-use Rattle.seq_chain.specs.Numbered.{IsNumbered}
 use Rattle.seq_chain.proofs.cover.write_frame.Given as goal
 
 -- the CRCs so far and those to come are all

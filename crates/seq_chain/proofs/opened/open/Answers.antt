@@ -1,6 +1,5 @@
-use Rattle.seq_chain.proofs.Common.{Frame}
+use Rattle.seq_chain.proofs.Common.{Frame, whole}
 use Rattle.std.proofs.Common.{length, refl, ap, ◌∙◌}
-use Rattle.fsoe_frame.proofs.Places.{whole}
 use Rattle.seq_chain.specs.SessionFrame.{SessionFrameView}
 use Rattle.seq_chain.proofs.opened.open.Goals as goal
 

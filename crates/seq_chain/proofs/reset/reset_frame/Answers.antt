@@ -1,7 +1,6 @@
-use Rattle.seq_chain.proofs.Common.{layout}
+use Rattle.seq_chain.proofs.Common.{layout, reset_crcs, reset_load}
 use Rattle.std.proofs.Common.{◌≡◌, ◌≤◌, ◌∷◌, ℕ, zero, suc, List, take, replicate, ap, refl, arith}
 use Rattle.std.proofs.lemmas.List.{take-replicate}
-use Rattle.seq_chain.specs.Reset.{reset_load, reset_crcs}
 use Rattle.seq_chain.proofs.reset.reset_frame.Goals as goal
 
 load-is : (code l : ℕ) → l ≤ 126 → take l (code ∷ replicate 125 0) ≡ reset_load code l

@@ -1,6 +1,5 @@
-use Rattle.process_image.proofs.Common.{Setup, numbered, profile_of, setups_of}
+use Rattle.process_image.proofs.Common.{Setup, allows_id, numbered, profile_of, setups_of}
 use Rattle.std.proofs.Common.{◌-◌, IfSome, IsTrue, length, refl, sym, subst, arith}
-use Rattle.param_load.specs.Profile.{allows_id}
 use Rattle.param_load.specs.declared.entry.Move.TheVariants as move
 use Rattle.process_image.proofs.Counts.{seat_there}
 use Rattle.process_image.proofs.One.{nonce_follows}

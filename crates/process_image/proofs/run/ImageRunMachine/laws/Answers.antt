@@ -1,6 +1,5 @@
-use Rattle.process_image.proofs.Common.{image_format, input_read}
+use Rattle.process_image.proofs.Common.{ended_at, image_format, input_read}
 use Rattle.std.proofs.Common.{refl}
-use Rattle.file_run.specs.Reporting.{ended_at}
 use Rattle.process_image.proofs.Runs.{so_far}
 use Rattle.process_image.proofs.SomeReport.{some_report}
 use Rattle.process_image.proofs.run.ImageRunMachine.laws.Goals as goal

@@ -1,5 +1,4 @@
-use Rattle.trace_diag.proofs.Common.{judge_reporting}
-use Rattle.file_run.proofs.OnePart.{ends_one}
+use Rattle.trace_diag.proofs.Common.{ends_one, judge_reporting}
 use Rattle.trace_diag.proofs.Inputs.{close_ends, close_whole}
 use Rattle.trace_diag.proofs.diagnosis.DiagnosisMachine.close.Goals as goal
 

@@ -1,6 +1,5 @@
-use Rattle.trace_diag.proofs.Common.{NotesFrame}
+use Rattle.trace_diag.proofs.Common.{NotesFrame, takes_one}
 use Rattle.std.proofs.Common.{ℕ, List, length, ◌<◌, ◌≤◌, sym, subst}
-use Rattle.file_run.proofs.OnePart.{takes_one}
 use Rattle.trace_diag.proofs.Inputs.{few_noted, frame_long, takes_frame}
 use Rattle.trace_diag.proofs.diagnosis.DiagnosisMachine.report.Goals as goal
 
