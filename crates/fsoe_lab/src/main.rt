@@ -1,5 +1,6 @@
-//! A second program for trials. Both commands run a plant over a script from standard input, and may be given the rates
-//! at which its channel loses, alters, repeats or delays a frame. `rates` writes the report, `journal` the journal.
+//! A second program for trials. Its commands `rates` and `journal` run a plant over a script from standard input; the
+//! rates at which its channel loses, alters, repeats or delays a frame may be given. `rates` writes the report of the
+//! plant, `journal` its journal.
 #![tactic(auto)]
 
 mod command;

@@ -1,6 +1,5 @@
 //! Parses the lines of node files, pair files and files of several pairs: the header with the settings, and then the
-//! events. A refused line has one cause. A `Maker` makes a schedule from a number. Only the header of several pairs
-//! allocates.
+//! events. A refused line has one cause. A `Maker` makes a schedule from a number. Only `PairsHeader` allocates.
 //!
 //! ```rust
 //! use fsoe_base::End;
