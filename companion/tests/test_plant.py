@@ -132,6 +132,12 @@ LINES = strategies.sampled_from(PUTS + [line.format(link) for line in OTHERS for
 
 
 @WITH_LAB
+def test_the_program_of_journals_takes_no_word_more():
+    usage = "usage: fsoe_lab journal|rates <file> [<lose> <alter> <repeat> <late>]\n"
+    assert LAB.ask("journal", "file", *"12345") == LAB.ask("journal") == (2, usage)
+
+
+@WITH_LAB
 @settings(max_examples=12)
 @given(strategies.lists(strategies.integers(1, 9).map("t {}".format) | LINES, max_size=25), strategies.integers(0, 99))
 def test_replay_of_a_journal_says_what_the_report_says(lines, seed):
