@@ -6,6 +6,7 @@ use Rattle.fsoe_base.specs.declared.command.Command.TheVariants as command
 use Rattle.fsoe_frame.proofs.Places.{Whole, whole}
 use Rattle.seq_chain.specs.Sealing as sealing
 use Rattle.param_load.specs.declared.entry.Move.TheVariants as move
+use Rattle.end_model.proofs.SealedFrames.{padded_len}
 use Rattle.master_core.proofs.SameVerdict.{came}
 
 -- a frame of the slave's length
@@ -49,8 +50,5 @@ chain_after ms e bytes c conn c2 load r h =
 short : (payload : List ℕ) (from c : ℕ) → length (piece_from payload from c) ≤ c
 short payload from c = grind (arith, common_steps)
 
-pub filled : (piece : List ℕ) (l : ℕ) → length piece ≤ l → length (padded piece l) ≡ l
-filled piece l h = grind (arith, common_steps)
-
 pub filled_piece : (payload : List ℕ) (from c l : ℕ) → c ≤ l → length (padded (piece_from payload from c) l) ≡ l
-filled_piece payload from c l h = filled (piece_from payload from c) l (let p : length (piece_from payload from c) ≤ c = short payload from c in omega arith)
+filled_piece payload from c l h = padded_len (piece_from payload from c) l (let p : length (piece_from payload from c) ≤ c = short payload from c in omega arith)

@@ -1,7 +1,7 @@
 -- What follows where no row of the table applies to an answer of the slave: it carries what an answer does in its turn.
 use Rattle.trace_diag.proofs.Common.{Before, Command, Frame, MasterSettings, Profile, Replies, State, all_zero, command_byte, conn_holds, connection_payload, first_failing, id_holds, is_guarded, is_padded, is_reset, padded, padded_len, padded_twice, parameter_payload, payload_holds, piece, piece_holds, piece_short, session_long, session_payload, width, wrong_byte, wrong_in_echo, zeros_all}
-use Rattle.std.proofs.Common.{◌≡◌, ℕ, suc, ◌+◌, ◌-◌, ◌*◌, ◌<◌, ◌≤◌, ◌==◌, nat_lt, min, List, ◌++◌, length, take, drop, replicate, Bool, true, false, ◌||◌, None, refl, sym, ap, ap₂, ◌∙◌, arith, ◌⊎◌, inl, inr, if◌then◌else◌}
-use Rattle.std.proofs.lemmas.Bool.{eqb-true, lt-ltb, le-ltb}
+use Rattle.std.proofs.Common.{◌≡◌, ℕ, suc, ◌+◌, ◌-◌, ◌*◌, ◌<◌, ◌≤◌, ◌==◌, nat_lt, min, List, ◌++◌, length, take, drop, replicate, Bool, true, false, ◌||◌, None, refl, sym, ap, ap₂, ◌∙◌, arith, inl, inr, if◌then◌else◌}
+use Rattle.std.proofs.lemmas.Bool.{cases_lt, eqb-true, lt-ltb, le-ltb}
 use Rattle.std.proofs.lemmas.List.{ext_get_or, get_or-drop, length-take, length-drop, length-replicate}
 use Rattle.fsoe_base.specs.declared.command.Command.TheVariants as command
 use Rattle.fsoe_base.specs.declared.command.End.TheVariants as end_name
@@ -29,9 +29,6 @@ zero-else false b e h = eqb-true b 0 h
 id-padded : (id w n conn : ℕ) (u load : List ℕ) → AllHold (piece_holds w (payload_holds state.Session conn u) (n * w)) 0 load → is_padded (piece (session_payload id profile.One) w (suc n)) load ≡ true
 id-padded id w n conn u load all = zeros-after (length q) load (λ i past h. byte i past (held i h))
   where
-    less-or : (a b : ℕ) → (a < b) ⊎ (b ≤ a)
-    less-or a b = grind arith
-
     q : List ℕ
     q = piece (session_payload id profile.One) w (suc n)
 
@@ -46,7 +43,7 @@ id-padded id w n conn u load all = zeros-after (length q) load (λ i past h. byt
 
     byte : (i : ℕ) → length q ≤ i → (if nat_lt i w then id_holds (n * w + i) (at load i) else at load i == 0) ≡ true → at load i ≡ 0
     byte i past e =
-        elim (less-or i w) [
+        elim (cases_lt i w) [
           | inl within ↦ zero-else (nat_lt (n * w + i) 2) (at load i) (le-ltb (n * w + i) 2 (omega (arith, long, past, within))) (ap (λ (t : Bool). if t then id_holds (n * w + i) (at load i) else at load i == 0) (sym (lt-ltb i w within)) ∙ e)
           | inr after ↦ eqb-true (at load i) 0 (ap (λ (t : Bool). if t then id_holds (n * w + i) (at load i) else at load i == 0) (sym (le-ltb i w after)) ∙ e)
         ]

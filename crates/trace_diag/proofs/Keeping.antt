@@ -1,6 +1,7 @@
 -- What is kept of a trace is what looking back over it says, with one more frame that is as it must be too.
 use Rattle.trace_diag.proofs.Common.{Before, Chain, Command, End, Frame, Lengths, Noted, State, before, chain_after, chain_of, chain_with, command_byte, conn_in, conn_with, connection_from, connection_with, first_conn, frame_of, frames_from, fresh, goes_on, has_all, has_come, has_command, kept_from, length_of, newest_load, newest_piece, number_at, parameters_from, parameters_with, payload_from, peer, phase_due, phase_from, phase_of, phase_of_frame, phase_when, piece_asked, piece_len, piece_of, piece_place, place_when, same_end, same_phase, turn, whole}
-use Rattle.std.proofs.Common.{◌≡◌, ℕ, ◌+◌, ◌*◌, ◌<◌, ◌≤◌, ◌&&◌, nat_le, List, [], ◌∷◌, ◌++◌, length, take, drop, Bool, true, false, Option, Some, None, refl, sym, ap, ap₂, ◌∙◌, arith, ◌⊎◌, inl, inr, if◌then◌else◌}
+use Rattle.std.proofs.Common.{◌≡◌, ℕ, ◌+◌, ◌*◌, ◌<◌, ◌≤◌, ◌&&◌, nat_le, List, [], ◌∷◌, ◌++◌, length, take, drop, Bool, true, false, Option, Some, None, refl, sym, ap, ap₂, ◌∙◌, arith, inl, inr, if◌then◌else◌}
+use Rattle.std.proofs.lemmas.Bool.{cases_lt}
 use Rattle.std.proofs.lemmas.List.{get_or-take, length-take, take_all, take-append-le}
 use Rattle.std.specs.Option.{option_or}
 use Rattle.fsoe_base.specs.declared.command.Command.TheVariants as command
@@ -12,7 +13,7 @@ use Rattle.trace_diag.proofs.Heads.{head_of, HasHead}
 use Rattle.trace_diag.proofs.NoField.{IsInTurn}
 use Rattle.trace_diag.proofs.PayloadBytes.{payload_grows}
 use Rattle.trace_diag.proofs.PayloadRows.{due_is, is_from, same_end_is, IsFrom}
-use Rattle.trace_diag.proofs.RowsHold.{phase_by, piece_long, AllInTurn}
+use Rattle.trace_diag.proofs.RowsHold.{own-end, phase_by, piece_long, AllInTurn}
 
 -- the phases in order
 abbrev rank : State → ℕ
@@ -71,10 +72,6 @@ no-later-more lengths t which x h before phase less =
     ∙ none-if (same_end end_name.Master x.from) (same_phase phase (phase_of_frame x.frame)) (payload_from lengths end_name.Master phase t) _
     (ap (same_phase phase) (sym (due_is lengths t which x h)) ∙ other-phase phase (phase_due lengths t) earlier) (before phase earlier)
 
-own-end : (which : End) → same_end which which ≡ true
-own-end end_name.Master = refl
-own-end end_name.Slave = refl
-
 -- the end whose turn it was
 from-turn : (lengths : Lengths) (t : List Noted) (x : Noted) → IsInTurn lengths (before lengths t) x → IsFrom lengths t (turn t) x
 from-turn lengths t x h = is_from lengths t (turn t) x (ap (same_end (turn t)) (sym (same_end_is x.from (turn t) h.turn)) ∙ own-end (turn t)) h
@@ -95,12 +92,9 @@ same-kept a b h0 h1 h2 h3 h4 h5 h6 h7 =
     ∙ ap₂ (λ (x : List ℕ) (y : Chain). kept b.turn b.due b.place b.conn b.connection b.parameters x y) h6 h7))
 
 -- the first bytes of a payload with more of it
-less-or : (a b : ℕ) → (a < b) ⊎ (b ≤ a)
-less-or a b = grind arith
-
 take-front : (n : ℕ) (u part : List ℕ) → take n (u ++ part) ≡ take n (take n u ++ part)
 take-front n u part =
-    elim (less-or (length u) n) [
+    elim (cases_lt (length u) n) [
       | inl few ↦ ap (λ (v : List ℕ). take n (v ++ part)) (sym (take_all n u (omega (arith, few))))
       | inr many ↦
           let long : length (take n u) ≡ n = omega (arith, length-take n u, many) in

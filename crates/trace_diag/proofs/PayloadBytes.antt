@@ -1,8 +1,8 @@
 -- The bytes of the payloads of a trace: they are bytes, each frame of a phase brings as many as a piece has, and what
 -- came stays at the beginning.
 use Rattle.trace_diag.proofs.Common.{AreBytes, AreOfBytes, End, Lengths, Noted, State, carried, conn_in, first_conn, frame_len, frame_of, frames_from, has_length, is_length, length_of, payload_from, phase_of_frame, piece_len, same_end, same_phase, whole}
-use Rattle.std.proofs.Common.{◌≡◌, ◌&&◌, ℕ, zero, suc, ◌<◌, ◌≤◌, List, [], ◌∷◌, ◌++◌, length, take, Bool, true, false, Option, Some, None, IsTrue, refl, sym, ap, subst, ◌∙◌, arith, ◌⊎◌, inl, inr, if◌then◌else◌}
-use Rattle.std.proofs.lemmas.Bool.{eqb-true}
+use Rattle.std.proofs.Common.{◌≡◌, ◌&&◌, ℕ, zero, suc, ◌<◌, ◌≤◌, List, [], ◌∷◌, ◌++◌, length, take, Bool, true, false, Option, Some, None, IsTrue, refl, sym, ap, subst, ◌∙◌, arith, inl, inr, if◌then◌else◌}
+use Rattle.std.proofs.lemmas.Bool.{cases_lt, eqb-true}
 use Rattle.std.proofs.lemmas.List.{append-nil, append_assoc, get_or-take, get_or_append_left, get_or_past, length-append, length-take}
 use Rattle.std.proofs.lemmas.List.Elements.{All-head, All-tail}
 use Rattle.std.specs.List.{list_all}
@@ -44,12 +44,9 @@ pub bytes_append : (u v : List ℕ) → AreBytes u → AreBytes v → AreBytes (
 bytes_append [] v a b = b
 bytes_append (x ∷ u) v a b = first-and x (u ++ v) (a 0) (bytes_append u v (λ j. a (suc j)) b)
 
-less-or : (a b : ℕ) → (a < b) ⊎ (b ≤ a)
-less-or a b = grind arith
-
 pub bytes_take : (n : ℕ) (u : List ℕ) → AreBytes u → AreBytes (take n u)
 bytes_take n u a i =
-    elim (less-or i n) [
+    elim (cases_lt i n) [
       | inl within ↦ subst (λ (b : ℕ). b < 256) (sym (get_or-take n u i 0 within)) (a i)
       | inr past ↦ subst (λ (b : ℕ). b < 256) (sym (get_or_past (take n u) i 0 (omega (arith, length-take n u, past)))) (omega arith)
     ]

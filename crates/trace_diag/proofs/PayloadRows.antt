@@ -1,7 +1,7 @@
 -- Where no row of the table applies to the frames of a trace, each byte of its payloads may stand where it stands.
 use Rattle.trace_diag.proofs.Common.{Before, Command, End, Frame, Lengths, Noted, State, before, command_in, command_of, first_failing, frame_at, frame_len, frame_of, is_length, is_of, length_of, number_at, parameter_holds, parameters_from, payload_holds, phase_due, phase_of, phase_of_frame, phase_of_known, piece_holds, piece_len, piece_place, same_end, same_phase, turn, wrong_byte, wrong_in_piece}
-use Rattle.std.proofs.Common.{◌≡◌, ◌==◌, ◌||◌, ℕ, zero, suc, ◌+◌, ◌-◌, ◌*◌, ◌<◌, ◌≤◌, nat_lt, nat_le, List, [], ◌∷◌, ◌++◌, length, take, Bool, true, Option, Some, None, IsTrue, refl, sym, ap, ap₂, subst, ◌∙◌, arith, ◌⊎◌, inl, inr, if◌then◌else◌}
-use Rattle.std.proofs.lemmas.Bool.{lt-ltb}
+use Rattle.std.proofs.Common.{◌≡◌, ◌==◌, ◌||◌, ℕ, zero, suc, ◌+◌, ◌-◌, ◌*◌, ◌<◌, ◌≤◌, nat_lt, nat_le, List, [], ◌∷◌, ◌++◌, length, take, Bool, true, Option, Some, None, IsTrue, refl, sym, ap, ap₂, subst, ◌∙◌, arith, inl, inr, if◌then◌else◌}
+use Rattle.std.proofs.lemmas.Bool.{cases_lt, lt-ltb}
 use Rattle.std.proofs.lemmas.List.{get_or-take, get_or_append_left, get_or-append-add, length-append, length-take, take_all}
 use Rattle.fsoe_base.specs.declared.command.End.TheVariants as end_name
 use Rattle.fsoe_base.specs.declared.command.State.TheVariants as state
@@ -30,13 +30,10 @@ parameter_same u v (suc (suc (suc (suc (suc (suc j)))))) b h =
     ∙ (ap₂ (λ (x y : ℕ). nat_lt (suc (suc (suc (suc (suc (suc j)))))) (6 + (x + 256 * y)) || b == 0) (h 4 (omega arith) (omega arith)) (h 5 (omega arith) (omega arith))
     ∙ sym (past_count v (suc (suc (suc (suc (suc (suc j)))))) b (omega arith)))
 
-less-or : (a b : ℕ) → (a < b) ⊎ (b ≤ a)
-less-or a b = grind arith
-
 -- the first six bytes are enough
 pub six_enough : (u part : List ℕ) (k : ℕ) → k < 6 → at (take 6 u ++ part) k ≡ at (u ++ part) k
 six_enough u part k six =
-    elim (less-or 6 (length u)) [
+    elim (cases_lt 6 (length u)) [
       | inl many ↦
           get_or_append_left (take 6 u) part 0 k (omega (arith, length-take 6 u, six, many))
           ∙ (get_or-take 6 u k 0 six ∙ sym (get_or_append_left u part 0 k (omega (arith, six, many))))
@@ -59,7 +56,7 @@ AllAt holds u = (i : ℕ) → i < length u → holds i (at u i) ≡ true
 
 pub more_hold : (holds : ℕ → ℕ → Bool) (u load : List ℕ) (c : ℕ) → AllAt holds u → ((j : ℕ) → j < c → j < length load → holds (length u + j) (at load j) ≡ true) → AllAt holds (u ++ take c load)
 more_hold holds u load c before part i h =
-    elim (less-or i (length u)) [
+    elim (cases_lt i (length u)) [
       | inl within ↦ ap (holds i) (at_front u (take c load) i within) ∙ before i within
       | inr past ↦
           let j : ℕ = i - length u in

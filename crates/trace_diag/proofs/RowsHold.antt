@@ -264,7 +264,7 @@ even-more lengths x t end_name.Slave turned from h even =
     ∙ (ap (λ (p : State). length (payload_from lengths end_name.Slave state.Session t) + (if same_phase state.Session p then piece_len lengths else 0)) same
     ∙ (sym even.1 ∙ sym (ap (length {A = ℕ}) theirs))))
 
-own-end : (which : End) → same_end which which ≡ true
+pub own-end : (which : End) → same_end which which ≡ true
 own-end end_name.Master = refl
 own-end end_name.Slave = refl
 

@@ -1,8 +1,8 @@
 -- The settings that are read off a trace to which no row of the table applies: there are such settings, and the bytes
 -- of its payloads are theirs.
 use Rattle.trace_diag.proofs.Common.{Accepts, AreBytes, AreOfBytes, AreReadOff, Lengths, MasterSettings, Noted, Partner, byte_or, connection_from, connection_payload, first_conn, frames_from, number_at, parameter_holds, parameter_payload, parameters_from, partner, payload_from, read_address, read_app, read_app_len, read_conn, read_id, read_watchdog, session_payload, word_or}
-use Rattle.std.proofs.Common.{◌≡◌, ℕ, ◌+◌, ◌*◌, ◌<◌, ◌≤◌, nat_lt, nat_le, List, length, Bool, true, false, Option, Some, None, unwrap_or, refl, sym, ap, ap₂, subst, arith, ◌⊎◌, inl, inr, if◌then◌else◌}
-use Rattle.std.proofs.lemmas.Bool.{eq-eqb, le-leb, leb-true, lt-ltb, le-ltb, ltb-true}
+use Rattle.std.proofs.Common.{◌≡◌, ℕ, ◌+◌, ◌*◌, ◌<◌, ◌≤◌, nat_lt, nat_le, List, length, Bool, true, false, Option, Some, None, unwrap_or, refl, sym, ap, ap₂, subst, arith, inl, inr, if◌then◌else◌}
+use Rattle.std.proofs.lemmas.Bool.{cases_lt, eq-eqb, le-leb, leb-true, lt-ltb, le-ltb, ltb-true}
 use Rattle.fsoe_base.specs.declared.command.End.TheVariants as end_name
 use Rattle.fsoe_base.specs.declared.command.State.TheVariants as state
 use Rattle.param_load.specs.declared.app_rule.AppRule.TheVariants as rule
@@ -13,9 +13,6 @@ use Rattle.trace_diag.proofs.PayloadRows.{AllAt}
 use Rattle.trace_diag.proofs.PieceRows.{at}
 use Rattle.trace_diag.proofs.ReadBytes.{app_long, connection_read, id_read, parameters_read}
 use Rattle.trace_diag.proofs.RowsHold.{RowsHold}
-
-less-or : (a b : ℕ) → (a < b) ⊎ (b ≤ a)
-less-or a b = grind arith
 
 -- a byte that the trace reaches, or doesn't
 there : (missing i : ℕ) (u : List ℕ) → i < length u → byte_or missing i u ≡ at u i
@@ -37,7 +34,7 @@ word_most missing i u are h = omega (arith, byte-most 0 i u are (omega arith), b
 -- the watchdog isn't 0
 watchdog-some : (u : List ℕ) → AllAt (parameter_holds u) u → 0 < word_or 1 2 u
 watchdog-some u rows =
-    elim (less-or 3 (length u)) [
+    elim (cases_lt 3 (length u)) [
       | inl come ↦
           let known : number_at 2 u ≡ word_or 1 2 u = ap₂ (λ (x y : ℕ). x + 256 * y) (sym (there 0 2 u (omega (arith, come)))) (sym (there 1 3 u come)) in
           subst (λ (n : ℕ). 0 < n) known (ltb-true 0 (number_at 2 u) (rows 3 come))
@@ -47,7 +44,7 @@ watchdog-some u rows =
 -- the application parameters are at most 512
 app-most : (u : List ℕ) → AreBytes u → AllAt (parameter_holds u) u → word_or 0 4 u ≤ 512
 app-most u are rows =
-    elim (less-or 5 (length u)) [
+    elim (cases_lt 5 (length u)) [
       | inl come ↦
           let known : number_at 4 u ≡ word_or 0 4 u = ap₂ (λ (x y : ℕ). x + 256 * y) (sym (there 0 4 u (omega (arith, come)))) (sym (there 0 5 u come)) in
           subst (λ (n : ℕ). n ≤ 512) known (leb-true (number_at 4 u) 512 (rows 5 come))

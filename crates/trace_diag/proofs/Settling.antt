@@ -18,7 +18,7 @@ use Rattle.trace_diag.proofs.NoField.{IsInTurn}
 use Rattle.trace_diag.proofs.Nonces.{LeaveNonce}
 use Rattle.trace_diag.proofs.PayloadBytes.{valid_at}
 use Rattle.trace_diag.proofs.PayloadRows.{is_from, same_end_is, IsFrom}
-use Rattle.trace_diag.proofs.RowsHold.{rows_hold, slave_place, AllInTurn}
+use Rattle.trace_diag.proofs.RowsHold.{own-end, rows_hold, slave_place, AllInTurn}
 use Rattle.trace_diag.proofs.Running.{IsSetFor, Reaches}
 use Rattle.trace_diag.proofs.SentBack.{master_same, reset_same, same_bytes, slave_same}
 use Rattle.trace_diag.proofs.Sets.{carries_id, carries_set, CarriesSet}
@@ -162,10 +162,6 @@ settle-first ms r x plain h are =
     same_bytes ms.lengths.master x.frame (reset_frame 0 ms.lengths.master) ms.lengths.valid_master from.long are (reset_made ms.lengths.master) (reset_long ms r end_name.Master)
     (reset_same ms.lengths [] end_name.Master x refl from ∙ sym (reset_parts ms.lengths.master ms.lengths.valid_master)) in
     subst (λ (x : Noted). Good ms r (x ∷ [])) (sym (same-noted x end_name.Master (reset_frame 0 ms.lengths.master) (sym from-is) frame-is)) (good_first ms r plain)
-
-own-end : (which : End) → same_end which which ≡ true
-own-end end_name.Master = refl
-own-end end_name.Slave = refl
 
 settle-more : (ms : MasterSettings) (r : Partner ms) (all later : List Noted) (x y : Noted) (t : List Noted) → Accepts ms r → IsPlain ms → Read ms r all → all ≡ later ++ x ∷ y ∷ t → IsInTurn ms.lengths (before ms.lengths (y ∷ t)) x → AllInTurn ms.lengths (y ∷ t) → AreBytes x.frame
     → Good ms r (y ∷ t) → Good ms r (x ∷ y ∷ t)

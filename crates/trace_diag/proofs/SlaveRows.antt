@@ -1,7 +1,7 @@
 -- A frame that carries what a slave's answer does in its turn, with the CRCs of its chain, is as it must be.
 use Rattle.trace_diag.proofs.Common.{Before, Command, Frame, MasterSettings, Profile, Replies, State, all_zero, command_byte, command_of, conn_after, conn_holds, connection_payload, crcs_due, first_differing, first_failing, id_holds, is_of, is_padded, is_reset, is_slave_conn, padded, padded_twice, parameter_payload, payload_holds, phase_of, piece, piece_holds, piece_short, sealed_by, session_long, session_payload, turned, width, wrong_byte, wrong_in_echo}
-use Rattle.std.proofs.Common.{◌≡◌, ℕ, suc, ◌+◌, ◌-◌, ◌*◌, ◌<◌, ◌≤◌, ◌==◌, nat_lt, min, List, ◌++◌, length, take, drop, replicate, Bool, true, false, ◌||◌, Option, None, refl, sym, ap, ap₂, subst, ◌∙◌, arith, ◌⊎◌, inl, inr, if◌then◌else◌}
-use Rattle.std.proofs.lemmas.Bool.{eq-eqb, lt-ltb, le-ltb}
+use Rattle.std.proofs.Common.{◌≡◌, ℕ, suc, ◌+◌, ◌-◌, ◌*◌, ◌≤◌, ◌==◌, nat_lt, min, List, ◌++◌, length, take, drop, replicate, Bool, true, false, ◌||◌, Option, None, refl, sym, ap, ap₂, subst, ◌∙◌, arith, inl, inr, if◌then◌else◌}
+use Rattle.std.proofs.lemmas.Bool.{cases_lt, eq-eqb, lt-ltb, le-ltb}
 use Rattle.std.proofs.lemmas.List.{get_or-drop, length-take, length-drop}
 use Rattle.fsoe_base.specs.declared.command.Command.TheVariants as command
 use Rattle.fsoe_base.specs.declared.command.End.TheVariants as end_name
@@ -42,9 +42,6 @@ id-rows : (id w n conn : ℕ) (u load : List ℕ) → is_padded (piece (session_
     → AllHold (piece_holds w (payload_holds state.Session conn u) (n * w)) 0 load
 id-rows id w n conn u load h = hold_each (piece_holds w (payload_holds state.Session conn u) (n * w)) 0 load (λ i. let none : 0 + i ≡ i = omega arith in ap (λ (p : ℕ). piece_holds w (payload_holds state.Session conn u) (n * w) p (at load i)) none ∙ byte i)
   where
-    less-or : (a b : ℕ) → (a < b) ⊎ (b ≤ a)
-    less-or a b = grind arith
-
     or-true : (t : Bool) → (t || true) ≡ true
     or-true true = refl
     or-true false = refl
@@ -60,10 +57,10 @@ id-rows id w n conn u load h = hold_each (piece_holds w (payload_holds state.Ses
 
     byte : (i : ℕ) → piece_holds w (payload_holds state.Session conn u) (n * w) i (at load i) ≡ true
     byte i =
-        elim (less-or i w) [
+        elim (cases_lt i w) [
           | inl within ↦
               ap (λ (t : Bool). if t then id_holds (n * w + i) (at load i) else at load i == 0) (lt-ltb i w within)
-              ∙ elim (less-or (n * w + i) 2) [
+              ∙ elim (cases_lt (n * w + i) 2) [
                 | inl in_id ↦ ap (λ (t : Bool). t || at load i == 0) (lt-ltb (n * w + i) 2 in_id)
                 | inr past ↦ ap (λ (b : ℕ). nat_lt (n * w + i) 2 || b == 0) (zero-from (length q) load i h (omega (arith, long, past))) ∙ or-true (nat_lt (n * w + i) 2)
               ]

@@ -1,15 +1,15 @@
 -- What a slave uploads with the frames that it takes, and what it has tested of it.
 use Rattle.exchange_model.proofs.Common.{Answers, Code, Command, Deed, Did, Expires, IsRun, Move, OfSlave, PeerResets, Profile, Reaction, Refuses, ResetsItself, SendsAgain, SlaveSettings, State, Taking, answer_is, app_fault, app_part, code, command_in, communication_fault, contents_fault, exchange_of, fails, field_fault, frame_of, has_command, id_len, joined, joined_with, number_at, of_session, padding_fault, phase_of, phase_of_frame, phase_taken, piece_len, reacted, receives, rule_len, same_phase, since, state_of, takes_frame, uploaded, with_answer, word_is}
 use Rattle.std.proofs.Common.{◌≡◌, ◌≢◌, ◌==◌, ℕ, ◌+◌, ◌<◌, ◌≤◌, nat_le, nat_lt, List, [], ◌∷◌, ◌++◌, length, take, drop, Bool, true, false, ◌&&◌, Option, Some, None, if◌then◌else◌, refl, sym, ap, subst, ◌∙◌, arith, inl, inr}
-use Rattle.std.specs.Option.{option_or}
 use Rattle.std.proofs.lemmas.Bool.{eqb-true, cases_lt}
 use Rattle.std.proofs.lemmas.Bool.Decides.{nat_tests}
-use Rattle.std.proofs.lemmas.List.{get_or_append_left}
 use Rattle.fsoe_base.specs.declared.command.State.TheVariants as state
 use Rattle.fsoe_base.specs.declared.command.Command.TheVariants as command
 use Rattle.param_load.specs.declared.contents.Expected.TheVariants as expected
 use Rattle.param_load.specs.declared.entry.Move.TheVariants as move
 use Rattle.param_load.specs.declared.profile.Profile.TheVariants as profile
+use Rattle.param_load.proofs.Watchdog.{first}
+use Rattle.end_model.proofs.Counted.{stays}
 use Rattle.exchange_model.proofs.Joint.Joint.{with_part, Uploads}
 use Rattle.exchange_model.proofs.Alone.Framed.{phase_by}
 use Rattle.exchange_model.proofs.Alone.Pieces.{deed}
@@ -61,10 +61,6 @@ passed : (a watchdog b : Bool) (x y z : Code) (w : Option Code) → (if a then S
 passed false false false x y z w h = record { version = refl; word = refl }
 passed _ _ _ x y z w h = absurd (cc h)
 
-first : (a b : Option Code) → option_or a b ≡ None → a ≡ None
-first None b h = refl
-first (Some x) b h = absurd (cc h)
-
 abbrev version_fails : SlaveSettings → ℕ → List ℕ → Bool
 version_fails ss before u = fails before u 1 (number_at 0 u == id_len ss.profile)
 
@@ -88,13 +84,9 @@ comes-now before last u false h a b =
     let k : true ≡ false = simp (p, q) at h in
     cc
 
--- a field that came before stays
-number-stays : (u p : List ℕ) (k : ℕ) → k + 1 < length u → number_at k (u ++ p) ≡ number_at k u
-number-stays u p k h = grind (arith, get_or_append_left u p 0 k (omega arith), get_or_append_left u p 0 (k + 1) h)
-
 word-stays : (q : Profile) (u p : List ℕ) → 6 ≤ length u → word_is q u ≡ true → word_is q (u ++ p) ≡ true
 word-stays profile.One u p h k = refl
-word-stays (profile.Two word) u p h k = ap (λ n. n == word) (number-stays u p 4 (omega arith)) ∙ k
+word-stays (profile.Two word) u p h k = ap (λ n. n == word) (stays u p 4 (omega arith)) ∙ k
 
 word-next : (q : Profile) (u p : List ℕ) → (6 ≤ length u → word_is q u ≡ true) → fails (length u) (u ++ p) (id_len q + 1) (word_is q (u ++ p)) ≡ false → 6 ≤ length (u ++ p) → word_is q (u ++ p) ≡ true
 word-next profile.One u p h k n = refl
@@ -110,7 +102,7 @@ tested-next ss u p rest t h =
     record {
       version = λ n. elim (cases_lt (length u) 2) [
         | inl a ↦ eqb-true _ _ (comes-now (length u) 1 (u ++ p) (number_at 0 (u ++ p) == id_len ss.profile) k.version (omega arith) n)
-        | inr a ↦ number-stays u p 0 (omega arith) ∙ t.version a
+        | inr a ↦ stays u p 0 (omega arith) ∙ t.version a
       ];
       word = word-next ss.profile u p t.word k.word;
     }

@@ -7,9 +7,10 @@ use Rattle.std.proofs.lemmas.Bool.Decides.{nat_tests}
 use Rattle.fsoe_base.specs.declared.command.End.TheVariants as end_name
 use Rattle.fsoe_base.specs.declared.command.Command.TheVariants as command
 use Rattle.exchange_model.proofs.Worlds.Projection.{same}
-use Rattle.exchange_model.proofs.Worlds.Numbered.{Numbered, Grown, Same, More, grown, numbered}
+use Rattle.exchange_model.proofs.Worlds.Numbered.{Numbered, grown, numbered}
 use Rattle.exchange_model.proofs.Joint.Awaited.{awaited_found}
 use Rattle.exchange_model.proofs.Alone.Loads.{all_items}
+use Rattle.exchange_model.proofs.Offering.Sending.{grown-length, newest-within}
 
 -- an item answers one of the first n
 record Within (n : ℕ) (i : Item) : Type 0 where
@@ -29,10 +30,6 @@ number-found bytes (Some i) k h = by-bytes (pointwise nat_eq i.bytes bytes) h
     by-bytes true h = record { item = i; is = refl; number_is = cc }
     by-bytes false h = cc
 
-newest-within : (found : List Item) (j : Item) → Numbered found → newest found ≡ Some j → j.number ≤ length found
-newest-within [] j num h = cc
-newest-within (i ∷ found) j num h = let q : i ≡ j = cc in let k : j.number ≡ suc (length found) = subst (λ (x : Item). x.number ≡ suc (length found)) q num.0 in omega arith
-
 taken-within : (w : List Entry) (which : End) (bytes : List ℕ) (took : Option Took) (k : ℕ) → item_taken (items w) which bytes took ≡ Some k → k ≤ length (items_of (peer which) (items w))
 taken-within w which bytes None k h = cc
 taken-within w which bytes (Some t) k h = by-command (is_guarded t.command) h
@@ -45,10 +42,6 @@ taken-within w which bytes (Some t) k h = by-command (is_guarded t.command) h
     by-command false h =
         let it : HasNumber k (newest (items_of (peer which) (items w))) = number-found bytes (newest (items_of (peer which) (items w))) k h in
         subst (λ (k : ℕ). k ≤ length (items_of (peer which) (items w))) it.number_is (newest-within (items_of (peer which) (items w)) it.item (numbered (peer which) w) it.is)
-
-grown-length : (old new : List Item) → Grown old new → length old ≤ length new
-grown-length old new (Same e) = let q : length new ≡ length old = ap length e in omega arith
-grown-length old new (More i e h) = let q : length new ≡ suc (length old) = ap length e in omega arith
 
 all-within : (n m : ℕ) (found : List Item) → n ≤ m → AllByRecursion (Within n) found → AllByRecursion (Within m) found
 all-within n m [] h all = tt

@@ -60,7 +60,7 @@ number-within bytes count k (Some i) within h =
     let l : i.number ≤ count = within i refl in
     omega arith
 
-newest-within : (theirs : List Item) (i : Item) → Numbered theirs → newest theirs ≡ Some i → i.number ≤ length theirs
+pub newest-within : (theirs : List Item) (i : Item) → Numbered theirs → newest theirs ≡ Some i → i.number ≤ length theirs
 newest-within [] i num h = cc
 newest-within (j ∷ theirs) i num h =
     let q : j ≡ i = cc in
