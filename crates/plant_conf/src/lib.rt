@@ -1,6 +1,6 @@
 //! Reads the configuration of a plant from TOML text. A plant is many connections with both ends, an application and a
-//! channel. The result is the connections, the net of function blocks and the bounds that are watched, or the first
-//! fault with its table, the table's number and the key.
+//! channel. The result has the connections, the net of function blocks, the bounds that are watched, and the names of
+//! the application and of the channel. Or it is the first fault, with the key that is at fault, if one is.
 //!
 //! ```rust
 //! use plant_conf::read_conf;

@@ -20,7 +20,7 @@
 //!
 //! - Two equal frames one after the other are seen as one. A slave's Reset frame after a local reset has the same bytes
 //!   as its answer to the master's Reset(0). So the master doesn't see that answer, and waits. Write other bytes into
-//!   the master's slot, sample, and write the answer again.
+//!   the master's slot, `sample`, and write the answer again.
 //! - Zeros are a frame, too, if the slot had other bytes at the sample before. A bus that fills its image with zeros
 //!   ends each session.
 //! - Bytes of the input image that are overwritten before they were sampled are lost. A frame in the output image is

@@ -1,5 +1,5 @@
-//! A black channel for trials with chosen rates: a user says how many of 10,000 frames are lost, altered, repeated and
-//! late. Nothing here tests a frame.
+//! A black channel for trials with chosen rates: a user says about how many of 10,000 frames are lost, altered and
+//! repeated, and about how many of 10,000 pulls give nothing, so that frames come late. Nothing here tests a frame.
 //!
 //! ```rust
 //! use black_channel::{Channel, Place};

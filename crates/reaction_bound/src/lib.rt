@@ -1,5 +1,5 @@
 //! How old the outputs of both ends of a connection are, and whether an emergency stop switches a drive off in time.
-//! The laws say how old outputs can be. For each bound of its configuration, a plant counts how old the outputs of the
+//! The laws say how old outputs can be. A plant counts for each bound of its configuration how old the outputs of the
 //! bound's two connections are, and watches whether the drive is off in time. Time is counted in ticks; no clock is
 //! read.
 //!

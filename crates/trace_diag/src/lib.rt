@@ -1,6 +1,6 @@
 //! Judges a recorded trace of one connection in profile One, for the command `diagnose`. The trace conforms if two ends
-//! of this profile would send exactly these frames, with none lost and no end reset. Else the verdict names the first
-//! frame that differs, and the field. The judge sees only the frames, and runs no end.
+//! of this profile would send exactly these frames, with no loss and no reset. Else the verdict names the first frame
+//! that differs, and the field. The judge sees only the frames, and runs no end.
 //!
 //! ```rust
 //! use fsoe_base::{End, Lengths};
