@@ -1,14 +1,15 @@
 -- What a channel holds stays one of the forms.
-use Rattle.std.proofs.Common.{ℕ, ◌/◌, ◌%◌, ◌^◌, List, [], ◌∷◌, ◌++◌, length, Bool, true, false, if◌then◌else◌, nat_le, ◌==◌, Some, None, arith}
-use Rattle.std.specs.Prelude.{IfSome, bit_xor, slice_index}
+use Rattle.std.proofs.Common.{ℕ, ◌%◌, List, [], ◌∷◌, ◌++◌, Bool, if◌then◌else◌, nat_le, ◌==◌, Some, None, arith}
+use Rattle.std.specs.Prelude.{IfSome}
 use Rattle.std.specs.Option.{option_or}
 use Rattle.std.specs.declared.option.Option.{Option}
-use Rattle.std.proofs.lemmas.List.{length-set, length-append}
+use Rattle.std.proofs.lemmas.List.{length-append}
 use Rattle.std.proofs.lemmas.List.Elements.{All-nil, All-cons, All-append, All-drop}
 use Rattle.rand_pcg.specs.Lcg.{Lcg}
 use Rattle.rand_pcg.specs.Pcg.{pcg32}
 use Rattle.black_channel.specs.Holds.{HasFrame, IsRing, IsForm, Given, taken, turned, given_by, with_last, pulled, Chance}
 use Rattle.black_channel.specs.declared.channel.Parcel.{Parcel}
+use Rattle.std.proofs.lemmas.Grind.{common_steps}
 
 -- what is given has a frame, and what is left is a ring
 pub record IsSound (given : Given) : Type 0 where
@@ -32,16 +33,10 @@ moved oldest others ring = record {
 }
 
 has_turned : (word : ℕ) (parcel : Parcel) → HasFrame parcel → HasFrame (turned word parcel)
-has_turned word parcel has =
-    let place : ℕ = word / 2 ^ 8 % length parcel.frame in
-    let same = length-set parcel.frame place (bit_xor (slice_index parcel.frame place) (2 ^ (word / 2 ^ 16 % 8))) in
-    let some = has.some in
-    let most = has.most in
-    record { some = omega (arith, same); most = omega (arith, same) }
+has_turned word parcel h = grind (arith, common_steps)
 
 either : (test : Bool) (a b : Given) → IsSound a → IsSound b → IsSound (if test then a else b)
-either true a b p q = p
-either false a b p q = q
+either test a b h k = grind arith
 
 pub sound_given : (by word : ℕ) (oldest : Parcel) (others : List Parcel) (last : Option Parcel) → IsRing (oldest ∷ others) → IfSome last HasFrame
     → IsSound (given_by by word oldest others last)

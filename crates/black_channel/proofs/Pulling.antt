@@ -1,5 +1,5 @@
 -- A pull of a channel that tells what it holds.
-use Rattle.std.proofs.Common.{◌≡◌, ℕ, ◌^◌, ◌≤◌, ◌<◌, List, Some, None, refl, sym, ap, subst, ◌∙◌, arith}
+use Rattle.std.proofs.Common.{◌≡◌, ℕ, ◌^◌, ◌≤◌, ◌<◌, List, Some, None, refl, sym, ap, subst, ◌∙◌, arith, rules}
 use Rattle.std.specs.Option.{option_or}
 use Rattle.std.specs.declared.option.Option.{Option}
 use Rattle.fsoe_io.specs.Faults.{Rose}
@@ -12,17 +12,14 @@ use Rattle.black_channel.specs.declared.channel.Place.{Place}
 use Rattle.black_channel.proofs.Forms.{sound_taken, form_after}
 
 grows : (answer : Option Place) (n : ℕ) → n < 2 ^ 64 → n ≤ empties_after answer n
-grows None n h = omega arith
-grows (Some place) n h = omega arith
+grows answer n h = grind arith
 
 rises : (answer : Option Place) (frame : List ℕ) (n : ℕ) → n < 2 ^ 64 → parcel_of answer frame ≡ None → Rose n (empties_after answer n)
-rises None frame n h e = λ below. omega arith
-rises (Some place) frame n h e = cc
+rises answer frame n h k = grind arith
 
 -- a list that isn't told stays untold
 untold : (answer : Option Place) (frame : List ℕ) → GrowsByGift (parcel_of answer frame) None None
-untold None frame = refl
-untold (Some place) frame = tt
+untold answer frame = grind arith
 
 -- a channel that tells no parcels
 pub pulls_by : (old new : Holds) (answer : Option Place) (frame : List ℕ) (before now : ℕ) → before < 2 ^ 64 → now ≡ empties_after answer before
@@ -44,8 +41,7 @@ ring_left old new ring is = subst IsRing (sym is) (sound_taken old ring).left
 -- a channel of chance that notes what it gives
 pub form_left : (ring left : List Parcel) (last now gift : Option Parcel) (words next : Lcg) → IsForm (Chance ring last words)
     → Chance left (option_or gift last) next ≡ (pulled (Chance ring last words)).holds → now ≡ option_or gift last → IsForm (Chance left now next)
-form_left ring left last now gift words next form holds is =
-    subst (λ (l : Option Parcel). IsForm (Chance left l next)) (sym is) (subst IsForm (sym holds) (form_after ring last words form))
+form_left ring left last now gift words next h k l = search (rules, form_after)
 
 pub chance_pulls : (ring left : List Parcel) (last now : Option Parcel) (words next : Lcg) (answer : Option Place) (frame : List ℕ) (before count : ℕ)
     → before < 2 ^ 64 → count ≡ empties_after answer before → IsForm (Chance ring last words) → parcel_of answer frame ≡ (pulled (Chance ring last words)).gift

@@ -1,5 +1,5 @@
 -- A window that is pushed a frame stands for the frames with it, and gives each of them back.
-use Rattle.std.proofs.Common.{◌≡◌, ◌⊎◌, inl, inr, ℕ, zero, suc, ◌+◌, ◌-◌, ◌%◌, ◌^◌, ◌<◌, ◌≤◌, min, List, [], ◌∷◌, ◌++◌, length, get_or, set, take, drop, reverse, slice_get, Option, Some, None, refl, sym, ap, ap₂, ◌∙◌, append_assoc, add-one, arith}
+use Rattle.std.proofs.Common.{◌≡◌, ◌⊎◌, inl, inr, ℕ, zero, suc, ◌+◌, ◌-◌, ◌%◌, ◌^◌, ◌<◌, ◌≤◌, min, List, [], ◌∷◌, ◌++◌, length, get_or, set, take, drop, reverse, slice_get, Option, Some, None, refl, sym, ap, ap₂, ◌∙◌, append_assoc, add-one, arith, rules}
 use Rattle.std.specs.List.{refill}
 use Rattle.std.proofs.lemmas.List.{reverse-append, length-reverse, take_more_set, drop-set-lt, length-append, length-take, length-drop, length-set, get_or-reverse, get_or-append_right, get_or-take, get_or-drop, append-nil}
 use Rattle.std.proofs.lemmas.Option.{slice_get_past, slice_get-get_or}
@@ -8,29 +8,20 @@ use Rattle.std.proofs.Math.Nat.{mod-eq_of_lt}
 use Rattle.std.proofs.Math.Seq.{drop-cons}
 use Rattle.black_channel.specs.Window.{WindowView, Pushes, Tells, newest_first}
 use Rattle.black_channel.specs.Altered.{back_th}
+use Rattle.std.proofs.lemmas.Grind.{common_steps}
 
 order : (a b : ℕ) → (a < b) ⊎ (b ≤ a)
-order zero (suc b) = inl (omega arith)
-order _ zero = inr (omega arith)
-order (suc a) (suc b) = elim (order a b) [ inl h ↦ inl (omega arith) | inr h ↦ inr (omega arith) ]
+order a b = grind arith
 
 take-whole : (xs ys : List (List ℕ)) (n : ℕ) → length xs ≡ n → take n (xs ++ ys) ≡ xs
-take-whole [] ys zero h = refl
-take-whole (x ∷ xs) ys (suc n) h = ap (λ (l : List (List ℕ)). x ∷ l) (take-whole xs ys n (omega arith))
-take-whole _ ys _ h = cc
+take-whole xs ys n h = grind (arith, common_steps)
 
 take-short : (xs : List (List ℕ)) (n : ℕ) → length xs ≤ n → take n xs ≡ xs
-take-short [] zero h = refl
-take-short [] (suc n) h = refl
-take-short (x ∷ xs) zero h = absurd (omega arith)
-take-short (x ∷ xs) (suc n) h = ap (λ (l : List (List ℕ)). x ∷ l) (take-short xs n (omega arith))
+take-short xs n h = grind (arith, common_steps)
 
 -- a list without its first item and with another one at its end, from its end
 turned-list : (k : ℕ) (xs : List (List ℕ)) (x : List ℕ) → length xs ≡ suc k → reverse (drop 1 xs ++ x ∷ []) ≡ x ∷ take k (reverse xs)
-turned-list k [] x h = cc
-turned-list k (y ∷ xs) x h =
-    let n : length (reverse xs) ≡ k = length-reverse xs ∙ omega arith in
-    reverse-append xs (x ∷ []) ∙ ap (λ (l : List (List ℕ)). x ∷ l) (sym (ap (take k) (reverse-append (y ∷ []) xs) ∙ take-whole (reverse xs) (y ∷ []) k n))
+turned-list k xs x h = grind (arith, common_steps)
 
 -- the places of a ring after a frame came in place of the oldest
 next-place : (ring : List (List ℕ)) (next : ℕ) (frame : List ℕ) → next < length ring
@@ -101,19 +92,14 @@ found-back ring next k place x within place-in low high is =
 
 pub found_at : (ring : List (List ℕ)) (next j place : ℕ) (x : List ℕ) → 1 ≤ j → j ≤ length ring → next ≤ length ring
     → (j ≤ next → place ≡ next - j) → (next < j → place ≡ next + length ring - j) → x ≡ get_or ring place x → Some x ≡ back_th j (newest_first next ring)
-found_at ring next zero place x some within place-in low high is = absurd (omega arith)
-found_at ring next (suc k) place x some within place-in low high is = found-back ring next k place x within place-in low high is
+found_at ring next j place x h k l m n o = search (rules, found-back)
 
 pub not_found : (ring : List (List ℕ)) (next j : ℕ) → next ≤ length ring → length ring < j → None ≡ back_th j (newest_first next ring)
-not_found ring next zero p h = absurd (omega arith)
-not_found ring next (suc k) p h =
-    let l : List (List ℕ) = drop next ring ++ take next ring in
-    sym (slice_get_past (reverse l) k (omega (arith, length-reverse l, length-append (drop next ring) (take next ring), length-drop next ring, length-take next ring)))
+not_found ring next j h k = grind (arith, common_steps, slice_get_past)
 
 -- the first of the first of a list
 fewer : (n : ℕ) (xs : List (List ℕ)) → take n (take (suc n) xs) ≡ take n xs
-fewer (suc n) (x ∷ xs) = ap (λ (l : List (List ℕ)). x ∷ l) (fewer n xs)
-fewer _ _ = refl
+fewer n xs = grind (arith, common_steps)
 
 one-more : (n most : ℕ) → min (min n most + 1) most ≡ min (suc n) most
 one-more n most = omega arith
@@ -136,8 +122,7 @@ within (suc n) zero (x ∷ xs) h = refl
 within (suc n) (suc k) (x ∷ xs) h = within n k xs (omega arith)
 
 pub back_within : (n j : ℕ) (frames : List (List ℕ)) → j ≤ n → back_th j (take n frames) ≡ back_th j frames
-back_within n zero frames h = refl
-back_within n (suc k) frames h = within n k frames (omega arith)
+back_within n j frames h = search (rules, within)
 
 pub tells_by : (v : WindowView) (j : ℕ) (told : Option (List ℕ)) → j ≤ 64 → told ≡ back_th j v.frames → Tells v j told
 tells_by v j told h is = record { tells = λ frames e. is ∙ ap (λ (v : WindowView). back_th j v.frames) e ∙ back_within 64 j frames h }

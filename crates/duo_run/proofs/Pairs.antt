@@ -2,7 +2,6 @@
 pub mod At
 pub mod Sound
 pub mod Ticking
-pub mod Told
 pub mod Noted
 pub mod Running
 pub mod Stepping

@@ -1,15 +1,13 @@
 -- What holds of a master, and what holds of a slave, holds of an end.
-use Rattle.std.proofs.Common.{◌≡◌, ℕ, List, [], ◌∷◌, false, refl, sym, ap, subst}
+use Rattle.std.proofs.Common.{◌≡◌, ℕ, List, [], false, sym, ap, subst, arith}
 use Rattle.fsoe_base.specs.Did.{nothing}
 use Rattle.fsoe_base.specs.declared.did.Did.{Did}
 use Rattle.param_load.specs.declared.entry.Move.{Move}
-use Rattle.param_load.specs.declared.entry.Move.TheVariants as move
 use Rattle.param_load.specs.declared.master_settings.MasterSettings.{MasterSettings}
 use Rattle.param_load.specs.declared.slave_settings.SlaveSettings.{SlaveSettings}
 use Rattle.end_model.specs.Setup.{Setup, OfMaster, OfSlave}
 use Rattle.end_model.specs.Deed.{Deed}
 use Rattle.end_model.specs.Runs.{IsSetting}
-use Rattle.end_model.specs.Step.{step}
 use Rattle.master_core.specs.MasterView.{MasterView}
 use Rattle.master_core.specs.Now.{is_due}
 use Rattle.master_core.specs.Standing as master_core
@@ -22,19 +20,11 @@ use Rattle.end_core.specs.declared.one_end.Core.TheVariants as core
 
 -- an end that is after some deeds is set as they say
 pub setup_is : (s : Setup) (end : Core) (e : List Deed) → IsAfter s end e → setup_of end ≡ s
-setup_is (OfMaster ms) (core.Master m) e h = ap (λ (v : MasterView). OfMaster v.kit.settings) h.is
-setup_is (OfMaster ms) (core.Slave v) e h = absurd h
-setup_is (OfSlave ss) (core.Master m) e h = absurd h
-setup_is (OfSlave ss) (core.Slave v) e h = ap (λ (v : SlaveView). OfSlave v.kit.settings) h.is
+setup_is s end e h = grind arith
 
 -- a put, a hold and a nonce do nothing else and send nothing
 pub set_answers : (old : Core) (what : Move) → IsSetting what → Answers old what nothing []
-set_answers old (move.Put load) k = record { did = λ s e h. refl; sent = λ s e h. refl }
-set_answers old (move.Hold failsafe) k = record { did = λ s e h. refl; sent = λ s e h. refl }
-set_answers old (move.Nonce id) k = record { did = λ s e h. refl; sent = λ s e h. refl }
-set_answers old (move.Deliver bytes) k = absurd k
-set_answers old move.Tick k = absurd k
-set_answers old move.Local k = absurd k
+set_answers old what h = grind arith
 
 -- a new end, and what it is set to
 pub master_set : (settings : MasterSettings) (m : MasterView) → master_core.MasterIsAfter settings m [] → setup_of (core.Master m) ≡ OfMaster settings
@@ -52,52 +42,20 @@ new_master settings m h rest = record {
 pub new_slave : (settings : SlaveSettings) (v : SlaveView) → slave_core.SlaveIsAfter settings v [] → IsNew (core.Slave v)
 new_slave settings v h = record { is_after = subst (λ (s : Setup). IsAfter s (core.Slave v) []) (sym (slave_set settings v h)) h; rest = tt }
 
-master-after : (old new : MasterView) (what : Move) → master_core.Follows old what new → (s : Setup) (e : List Deed) → IsAfter s (core.Master old) e → IsAfter s (core.Master new) (step s e what ∷ e)
-master-after old new what f (OfMaster ms) e is = f.is_after ms e is
-master-after old new what f (OfSlave ss) e is = absurd is
-
-slave-after : (old new : SlaveView) (what : Move) → slave_core.Follows old what new → (s : Setup) (e : List Deed) → IsAfter s (core.Slave old) e → IsAfter s (core.Slave new) (step s e what ∷ e)
-slave-after old new what f (OfMaster ms) e is = absurd is
-slave-after old new what f (OfSlave ss) e is = f.is_after ss e is
-
 pub master_follows : (old new : MasterView) (what : Move) → master_core.Follows old what new → Follows (core.Master old) what (core.Master new)
-master_follows old new what f = record { is_after = master-after old new what f }
+master_follows old new what h = grind arith
 
 pub slave_follows : (old new : SlaveView) (what : Move) → slave_core.Follows old what new → Follows (core.Slave old) what (core.Slave new)
-slave_follows old new what f = record { is_after = slave-after old new what f }
-
-master-did : (old : MasterView) (what : Move) (done : Did) (frame : List ℕ) → master_core.Answers old what done frame → (s : Setup) (e : List Deed) → IsAfter s (core.Master old) e → done ≡ (step s e what).did
-master-did old what done frame a (OfMaster ms) e is = a.did ms e is
-master-did old what done frame a (OfSlave ss) e is = absurd is
-
-master-sent : (old : MasterView) (what : Move) (done : Did) (frame : List ℕ) → master_core.Answers old what done frame → (s : Setup) (e : List Deed) → IsAfter s (core.Master old) e → frame ≡ (step s e what).sent
-master-sent old what done frame a (OfMaster ms) e is = a.sent ms e is
-master-sent old what done frame a (OfSlave ss) e is = absurd is
-
-slave-did : (old : SlaveView) (what : Move) (done : Did) (frame : List ℕ) → slave_core.Answers old what done frame → (s : Setup) (e : List Deed) → IsAfter s (core.Slave old) e → done ≡ (step s e what).did
-slave-did old what done frame a (OfMaster ms) e is = absurd is
-slave-did old what done frame a (OfSlave ss) e is = a.did ss e is
-
-slave-sent : (old : SlaveView) (what : Move) (done : Did) (frame : List ℕ) → slave_core.Answers old what done frame → (s : Setup) (e : List Deed) → IsAfter s (core.Slave old) e → frame ≡ (step s e what).sent
-slave-sent old what done frame a (OfMaster ms) e is = absurd is
-slave-sent old what done frame a (OfSlave ss) e is = a.sent ss e is
+slave_follows old new what h = grind arith
 
 pub master_answers : (old : MasterView) (what : Move) (done : Did) (frame : List ℕ) → master_core.Answers old what done frame → Answers (core.Master old) what done frame
-master_answers old what done frame a = record { did = master-did old what done frame a; sent = master-sent old what done frame a }
+master_answers old what done frame h = grind arith
 
 pub slave_answers : (old : SlaveView) (what : Move) (done : Did) (frame : List ℕ) → slave_core.Answers old what done frame → Answers (core.Slave old) what done frame
-slave_answers old what done frame a = record { did = slave-did old what done frame a; sent = slave-sent old what done frame a }
-
-master-shown : {X : Type 0} (m : MasterView) (shown : X) (word : Setup → List Deed → X) → master_core.Shows m shown word → (s : Setup) (e : List Deed) → IsAfter s (core.Master m) e → shown ≡ word s e
-master-shown m shown word h (OfMaster ms) e is = h.shows ms e is
-master-shown m shown word h (OfSlave ss) e is = absurd is
-
-slave-shown : {X : Type 0} (v : SlaveView) (shown : X) (word : Setup → List Deed → X) → slave_core.Shows v shown word → (s : Setup) (e : List Deed) → IsAfter s (core.Slave v) e → shown ≡ word s e
-slave-shown v shown word h (OfMaster ms) e is = absurd is
-slave-shown v shown word h (OfSlave ss) e is = h.shows ss e is
+slave_answers old what done frame h = grind arith
 
 pub master_shows : {X : Type 0} (m : MasterView) (shown : X) (word : Setup → List Deed → X) → master_core.Shows m shown word → Shows (core.Master m) shown word
-master_shows m shown word h = record { shows = master-shown m shown word h }
+master_shows m shown word h = grind arith
 
 pub slave_shows : {X : Type 0} (v : SlaveView) (shown : X) (word : Setup → List Deed → X) → slave_core.Shows v shown word → Shows (core.Slave v) shown word
-slave_shows v shown word h = record { shows = slave-shown v shown word h }
+slave_shows v shown word h = grind arith

@@ -1,5 +1,6 @@
 -- A frame that an end would take, at another end that refuses its CRCs alone.
-use Rattle.end_model.proofs.Common.{Code, Command, Deed, Fails, IsRead, IsValid, NotAllowed, Refused, Setup, UnknownCommand, Valid, Verdict, WrongConnection, WrongContents, WrongCrc, WrongReset, allowed, fits, has_conn, parts, since, verdict, wrong_crc}
+use Rattle.end_model.proofs.Common.{Code, Command, Deed, Fails, IsRead, IsValid, NotAllowed, Refused, Setup, UnknownCommand, Valid, Verdict, WrongConnection, WrongContents, WrongCrc, WrongReset, allowed, fits, has_conn, parts, since, verdict}
+use Rattle.fsoe_base.specs.Codes.{wrong_crc}
 use Rattle.std.proofs.Common.{◌≡◌, ◌≢◌, ℕ, List, Bool, true, false, Some, None, refl, sym, ap, subst, ◌∙◌}
 use Rattle.fsoe_base.specs.declared.command.Command.TheVariants as command
 use Rattle.end_model.proofs.Judged.{Judged, HasOtherLength, IsKept, FailsTest, FailsContents, ResetsFrame, IsNext, is_judged}

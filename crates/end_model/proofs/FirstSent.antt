@@ -1,8 +1,7 @@
 -- A master in state Session that took no frame of the session yet: it sent one frame, which carries the first piece of
 -- its session id.
-use Rattle.end_model.proofs.Common.{AfterConnection, AfterSession, Answers, Cause, Command, Deed, Did, Dropped, Expires, Frame, HasNoSession, IsInSession, IsNextPhase, IsResetFrame, IsRun, MasterFirstData, MasterGoesOn, MasterMoreData, MasterNextPhase, MasterSettings, MasterStarts, Move, OfMaster, PeerResets, Reaction, Refuses, ResetsItself, Rests, SendsAgain, Setup, Taking, command_of, crc_0, download_frame, first_of, frame_of, id_sent, is_reset, kept, newest_crc, nonce, own, padded, piece, piece_len, received, receives, seal, sends, session_payload, since, state_of, taken, with_answer}
-use Rattle.std.proofs.Common.{◌≡◌, ℕ, List, [], ◌∷◌, Bool, false, Option, Some, None, unwrap_or, refl, sym, ap, subst, ◌∙◌}
-use Rattle.std.specs.Option.{option_or}
+use Rattle.end_model.proofs.Common.{Answers, Cause, Command, Deed, Did, Dropped, Expires, Frame, HasNoSession, IsInSession, IsNextPhase, IsResetFrame, IsRun, MasterFirstData, MasterGoesOn, MasterMoreData, MasterNextPhase, MasterSettings, MasterStarts, Move, OfMaster, PeerResets, Reaction, Refuses, ResetsItself, Rests, SendsAgain, Setup, Taking, command_of, crc_0, download_frame, first_of, frame_of, id_sent, is_reset, kept, newest_crc, nonce, option_or, own, padded, piece, piece_len, received, receives, seal, sends, session_payload, since, state_of, taken, with_answer}
+use Rattle.std.proofs.Common.{◌≡◌, ℕ, List, [], ◌∷◌, Bool, false, Option, Some, None, unwrap_or, refl, sym, ap, subst, ◌∙◌, arith}
 use Rattle.fsoe_base.specs.declared.command.State.TheVariants as state
 use Rattle.fsoe_base.specs.declared.command.Command.TheVariants as command
 use Rattle.seq_chain.specs.Sealing as sealing
@@ -51,8 +50,7 @@ later : (e : List Deed) (bytes load : List ℕ) (c : Command) (answer : List ℕ
 later e bytes load c answer here other h = let both : bytes ∷ taken (since e) ≡ [] = sym (taken_more e bytes load c answer here other) ∙ h in cc
 
 before_not_reset : (before c : Command) → IsNextPhase before c → is_reset before ≡ false
-before_not_reset before c AfterSession = refl
-before_not_reset before c AfterConnection = refl
+before_not_reset before c h = grind arith
 
 answers : (ms : MasterSettings) (e : List Deed) (bytes load : List ℕ) (c : Command) (answer : List ℕ) → Taking e bytes load (OfMaster ms) c answer
     → taken (since (with_answer bytes c load answer e)) ≡ [] → (id : ℕ) × SentFirst ms (with_answer bytes c load answer e) id

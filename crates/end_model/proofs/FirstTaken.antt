@@ -1,8 +1,7 @@
 -- A slave that took one frame of a session: it is the first Session frame, and the slave's answer to it carries the
 -- first piece of its session id.
-use Rattle.end_model.proofs.Common.{AfterConnection, AfterSession, Answers, Cause, Command, Deed, Did, Dropped, DropsReset, Expires, Frame, HasNoSession, IsHandshake, IsInSession, IsNextPhase, IsRun, IsValid, Move, OfSession, OfSlave, PeerResets, Reaction, Refuses, ResetsItself, SendsAgain, Setup, SlaveFirstData, SlaveGoesOn, SlaveMoreData, SlaveNextPhase, SlaveRejoins, SlaveSettings, SlaveStarts, State, Taking, count_in, crc_0, first_of, frame_len, frame_of, id_piece, id_sent, is_data, is_reset, kept, newest_crc, nonce, own, padded, phase_of, phase_of_frame, piece, piece_len, received, receives, same_phase, seal, sends, session_payload, since, slave_answer, state_of, taken, taken_link, uploaded, with_answer}
-use Rattle.std.proofs.Common.{◌≡◌, ◌≢◌, ℕ, suc, List, [], ◌∷◌, ◌++◌, length, take, Bool, false, Option, Some, None, if◌then◌else◌, unwrap_or, IsTrue, refl, sym, ap, subst, ◌∙◌}
-use Rattle.std.specs.Option.{option_or}
+use Rattle.end_model.proofs.Common.{Answers, Cause, Command, Deed, Did, Dropped, DropsReset, Expires, Frame, HasNoSession, IsHandshake, IsInSession, IsNextPhase, IsRun, IsValid, Move, OfSlave, PeerResets, Reaction, Refuses, ResetsItself, SendsAgain, Setup, SlaveFirstData, SlaveGoesOn, SlaveMoreData, SlaveNextPhase, SlaveRejoins, SlaveSettings, SlaveStarts, State, Taking, count_in, crc_0, first_of, frame_len, frame_of, id_piece, id_sent, is_data, is_reset, kept, newest_crc, nonce, option_or, own, padded, phase_of, piece, piece_len, received, receives, same_phase, seal, sends, session_payload, since, slave_answer, state_of, taken, taken_link, uploaded, with_answer}
+use Rattle.std.proofs.Common.{◌≡◌, ◌≢◌, ℕ, suc, List, [], ◌∷◌, ◌++◌, length, take, Bool, false, Option, Some, None, if◌then◌else◌, IsTrue, refl, sym, ap, subst, ◌∙◌, arith, rules}
 use Rattle.fsoe_base.specs.declared.command.State.TheVariants as state
 use Rattle.fsoe_base.specs.declared.command.Command.TheVariants as command
 use Rattle.seq_chain.specs.Sealing as sealing
@@ -10,7 +9,7 @@ use Rattle.end_model.proofs.Runs.{deed}
 use Rattle.end_model.proofs.SoundRuns.{handshake-on, reacted}
 use Rattle.end_model.proofs.ReadBack.{read_back}
 use Rattle.end_model.proofs.IdFront.{first_load, first_piece, load_len}
-use Rattle.end_model.proofs.NoneYet.{none_own_link, none_taken_link, none_phase, none_joined, none_id, phase_is}
+use Rattle.end_model.proofs.NoneYet.{none_own_link, none_taken_link, none_phase, none_joined, none_id}
 
 -- a slave took this frame first, and no other one, and answered it by this session id
 pub record TookFirst (ss : SlaveSettings) (e : List Deed) (first : List ℕ) (id : ℕ) : Type 0 where
@@ -25,8 +24,7 @@ pub record TookFirst (ss : SlaveSettings) (e : List Deed) (first : List ℕ) (id
 -- nothing is taken and nothing is sent
 quiet : (ss : SlaveSettings) (m : Move) (passed sent : Bool) (reset : Option Cause) (because : Option Dropped) (e : List Deed) (first : List ℕ) (id : ℕ) → TookFirst ss e first id
     → TookFirst ss (deed m (record { took = None; passed = passed; sent = sent; reset = reset; dropped = because }) [] ∷ e) first id
-quiet ss m passed sent reset because e first id h =
-    record { len_is = h.len_is; state_is = h.state_is; kept_is = h.kept_is; uploaded_is = h.uploaded_is; link_is = h.link_is; crc_is = h.crc_is; id_is = h.id_is }
+quiet ss m passed sent reset because e first id h = assumption
 
 -- the first Session frame is one
 count_one : (frames : List (List ℕ)) (phase : State) → frames ≡ [] → phase ≡ state.Session → (if same_phase state.Session phase then suc (count_in state.Session frames) else count_in state.Session frames) ≡ 1
@@ -35,11 +33,7 @@ count_one frames phase none is = rw (is, none) refl
 -- the piece of the session id that answers it is the first
 id_piece_is : (ss : SlaveSettings) (e : List Deed) (bytes load : List ℕ) → HasNoSession e → IsValid (OfSlave ss) e bytes command.Session load
     → id_piece ss (received bytes command.Session load e) ≡ take (piece_len (OfSlave ss)) (session_payload (nonce (OfSlave ss) e) ss.profile)
-id_piece_is ss e bytes load none valid =
-    let phase = phase_is (OfSlave ss) bytes command.Session valid.is_read.has_length valid.is_read.command_is in
-    ap (λ id. piece (session_payload (unwrap_or id (nonce (OfSlave ss) e)) ss.profile) (piece_len (OfSlave ss)) (count_in state.Session (bytes ∷ taken (since e)))) (none_id (OfSlave ss) e none.none_sent)
-    ∙ ap (piece (session_payload (nonce (OfSlave ss) e) ss.profile) (piece_len (OfSlave ss))) (count_one (taken (since e)) (phase_of_frame bytes) none.none_taken phase)
-    ∙ first_piece (session_payload (nonce (OfSlave ss) e) ss.profile) (piece_len (OfSlave ss))
+id_piece_is ss e bytes load h k = search (rules, none_id, count_one, first_piece)
 
 -- a slave that takes its first Session frame
 starts : (ss : SlaveSettings) (e : List Deed) (bytes load : List ℕ) → HasNoSession e → IsValid (OfSlave ss) e bytes command.Session load
@@ -71,26 +65,19 @@ taken_more e bytes load c answer here other = rw (here.in_session, other) refl
 -- a slave that was in a session has taken a frame before
 later : (ss : SlaveSettings) (e : List Deed) (bytes load : List ℕ) (c : Command) (answer first : List ℕ) (now : State) → IsInSession answer → is_reset c ≡ false → state_of (OfSlave ss) e ≡ now → now ≢ state.Reset
     → taken (since (with_answer bytes c load answer e)) ≡ first ∷ [] → ⊥
-later ss e bytes load c answer first now here other is began h =
-    let both : bytes ∷ taken (since e) ≡ first ∷ [] = sym (taken_more e bytes load c answer here other) ∙ h in
-    let none : taken (since e) ≡ [] = cc in
-    began (sym is ∙ none_phase (since e) none)
+later ss e bytes load c answer first now h k l m n = search (rules, none_phase)
 
 pub not_reset : (c : Command) → IsHandshake c → is_reset c ≡ false
-not_reset c OfSession = refl
-not_reset c _ = refl
+not_reset c h = grind arith
 
 pub next_not_reset : (before c : Command) → IsNextPhase before c → is_reset c ≡ false
-next_not_reset before c AfterSession = refl
-next_not_reset before c AfterConnection = refl
+next_not_reset before c h = grind arith
 
 pub data_not_reset : (c : Command) → IsTrue (is_data c) → is_reset c ≡ false
-data_not_reset command.Reset h = cc
-data_not_reset _ h = refl
+data_not_reset c h = grind arith
 
 before_next : (before c : Command) → IsNextPhase before c → phase_of before ≢ state.Reset
-before_next before c AfterSession = λ k. cc
-before_next before c AfterConnection = λ k. cc
+before_next before c h = grind arith
 
 answers : (ss : SlaveSettings) (e : List Deed) (bytes load : List ℕ) (c : Command) (answer first : List ℕ) → Taking e bytes load (OfSlave ss) c answer
     → taken (since (with_answer bytes c load answer e)) ≡ first ∷ [] → (id : ℕ) × TookFirst ss (with_answer bytes c load answer e) first id

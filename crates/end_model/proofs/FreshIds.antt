@@ -1,8 +1,6 @@
 -- What a fresh session id excludes for certain, at a slave and at a master.
-use Rattle.end_model.proofs.Common.{Command, Deed, DifferInFront, EndsByCrcs, Frame, IsRun, IsValid, Link, MasterSettings, NotByStep, OfMaster, OfSlave, Profile, Refused, Setup, SlaveSettings, Valid, allowed, command_of, crc_0, first_conn, first_number, first_of, fits, frame_of, has_conn, id_front, id_len, is_guarded, is_slave_conn, kept, master_allows, newest_crc, nonce, on_fault, on_verdict, own, parts, piece_len, receives, sends, session_id, since, slave_allows, state_of, step_in_last, taken, taken_link, upload_is_whole, verdict, whole, wrong_crc}
-use Rattle.std.proofs.Common.{◌≡◌, ◌≢◌, ℕ, ◌<◌, ◌≤◌, ◌==◌, nat_le, List, [], ◌∷◌, length, take, bit_xor, true, false, Option, Some, None, IsTrue, if◌then◌else◌, unwrap_or, refl, sym, ap, ◌∙◌, arith}
-use Rattle.std.proofs.lemmas.Bool.Decides.{nat_tests}
-use Rattle.std.proofs.lemmas.List.{length-take}
+use Rattle.end_model.proofs.Common.{Command, Deed, DifferInFront, EndsByCrcs, Frame, IsRun, IsValid, Link, MasterSettings, NotByStep, OfMaster, OfSlave, Profile, Setup, SlaveSettings, Valid, allowed, command_of, crc_0, first_of, fits, frame_of, has_conn, id_front, id_len, kept, length-take, master_allows, nat_tests, newest_crc, nonce, own, parts, piece_len, receives, sends, session_id, since, slave_allows, state_of, step_in_last, taken, taken_link, verdict, whole}
+use Rattle.std.proofs.Common.{◌≡◌, ◌≢◌, ℕ, ◌<◌, ◌≤◌, nat_le, List, [], ◌∷◌, length, take, bit_xor, true, false, Option, Some, None, IsTrue, unwrap_or, sym, ap, ◌∙◌, arith, rules}
 use Rattle.fsoe_base.specs.declared.command.State.TheVariants as state
 use Rattle.fsoe_base.specs.declared.command.Command.TheVariants as command
 use Rattle.fsoe_frame.proofs.Places as places
@@ -24,9 +22,7 @@ crc_differs s p last id id' differ =
 
 -- and these differ by the step only where the ids do
 not_by_step : (s : Setup) (p : Profile) (last id id' : ℕ) → NotByStep s id id' → bit_xor (crc_0 last 0 1 0x4E (first_load s p id)) (crc_0 last 0 1 0x4E (first_load s p id')) ≢ step_in_last
-not_by_step s p last id id' by e =
-    by (ap (λ k. bit_xor k (id_front s id')) (sym (front_is s p id)) ∙ ap (bit_xor (first_number (first_load s p id))) (sym (front_is s p id'))
-    ∙ differ_in_load last 0 1 0x4E (first_load s p id) (first_load s p id') (load_len s p id ∙ sym (load_len s p id')) (load_bytes s p id) (load_bytes s p id') e)
+not_by_step s p last id id' h = search (rules, front_is, differ_in_load, load_len, load_bytes)
 
 -- a frame that was read has safe data
 some_load : (s : Setup) (e : List Deed) (bytes : List ℕ) (c : Command) (load : List ℕ) → IsValid s e bytes c load → 0 < length (parts s bytes).load
@@ -38,19 +34,15 @@ fits_by s e f last before own_is taken_is = ap (λ n. sealing.fits n (taken_link
 
 -- a frame of a session that is refused by its CRCs ends the session in state Session
 ends : (s : Setup) (e : List Deed) (bytes : List ℕ) (c : Command) → state_of s e ≡ state.Session → ComesToCrcs s e bytes c → EndsByCrcs s e bytes
-ends s e bytes c now comes =
-    let refused : verdict s e bytes ≡ Refused wrong_crc = crc_refused s e bytes c comes in
-    record { refused = refused; ends = ap (on_verdict (state_of s e) s) refused ∙ ap (λ now. on_fault now false wrong_crc) now }
+ends s e bytes c h k = search (rules, crc_refused)
 
 -- at a slave what is allowed, and which connection ids are right, doesn't depend on its session id
 slave_allowed : (ss : SlaveSettings) (e : List Deed) (first : List ℕ) (id : ℕ) (c : Command) → TookFirst ss e first id
     → allowed (OfSlave ss) e c ≡ slave_allows state.Session (whole ss.profile state.Session (take (piece_len (OfSlave ss)) (frame_of (receives (OfSlave ss)) first).load)) c
-slave_allowed ss e first id c t =
-    ap (λ now. slave_allows now (upload_is_whole ss now e) c) t.state_is ∙ ap (λ u. slave_allows state.Session (whole ss.profile state.Session u) c) t.uploaded_is
+slave_allowed ss e first id c h = cc
 
 slave_conn_right : (ss : SlaveSettings) (e e' : List Deed) (first : List ℕ) (c : Command) (field : ℕ) → taken (since e) ≡ first ∷ [] → taken (since e') ≡ first ∷ [] → has_conn (OfSlave ss) e c field ≡ has_conn (OfSlave ss) e' c field
-slave_conn_right ss e e' first c field h h' =
-    ap (λ frames. if is_guarded c then is_slave_conn (first_conn ss.lengths.master frames) field else field == 0) (h ∙ sym h')
+slave_conn_right ss e e' first c field h k = cc
 
 slave_refuses : (ss : SlaveSettings) (e e' : List Deed) (first bytes load : List ℕ) (c : Command) (id id' : ℕ) → TookFirst ss e first id → TookFirst ss e' first id' → taken (since e) ≡ first ∷ [] → taken (since e') ≡ first ∷ []
     → DifferInFront (OfSlave ss) id id' → NotByStep (OfSlave ss) id id' → c ≢ command.Reset → IsValid (OfSlave ss) e bytes c load → EndsByCrcs (OfSlave ss) e' bytes
@@ -98,12 +90,10 @@ allowed_by_len : (ss : SlaveSettings) (e : List Deed) (first : List ℕ) (id : �
 allowed_by_len ss e first id c t = slave_allowed ss e first id c t ∙ ap (λ n. slave_allows state.Session (nat_le (id_len ss.profile) n) c) (first_len ss e first id t)
 
 after_whole : (c : Command) → slave_allows state.Session true c ≡ true → c ≡ command.Connection
-after_whole command.Connection h = refl
-after_whole _ h = cc
+after_whole c h = grind arith
 
 after_part : (c : Command) → slave_allows state.Session false c ≡ true → c ≡ command.Session
-after_part command.Session h = refl
-after_part _ h = cc
+after_part c h = grind arith
 
 pub connection_next : (ss : SlaveSettings) (e : List Deed) (first bytes load : List ℕ) (c : Command) → IsRun (OfSlave ss) e → taken (since e) ≡ first ∷ [] → id_len ss.profile ≤ piece_len (OfSlave ss)
     → c ≢ command.Reset → verdict (OfSlave ss) e bytes ≡ Valid c load → c ≡ command.Connection
@@ -123,11 +113,7 @@ session_next ss e first bytes load c r h short n v =
 
 -- the Reset frame that a master keeps isn't an answer
 not_kept : (ms : MasterSettings) (e : List Deed) (bytes : List ℕ) (id : ℕ) (c : Command) → SentFirst ms e id → c ≢ command.Reset → command_of (parts (OfMaster ms) bytes).cmd ≡ Some c → kept (since e) ≢ Some bytes
-not_kept ms e bytes id c t n command_is k =
-    let same : Some t.reset ≡ Some bytes = sym t.kept_is ∙ k in
-    let frames : t.reset ≡ bytes = cc in
-    let commands : Some c ≡ Some command.Reset = sym command_is ∙ ap (λ f. command_of (frame_of (receives (OfMaster ms)) f).cmd) (sym frames) ∙ t.reset_is in
-    n (cc)
+not_kept ms e bytes id c h k l = grind arith
 
 master_refuses : (ms : MasterSettings) (e e' : List Deed) (bytes load : List ℕ) (c : Command) (id id' : ℕ) → SentFirst ms e id → SentFirst ms e' id' → state_of (OfMaster ms) e ≡ state.Session → state_of (OfMaster ms) e' ≡ state.Session
     → taken (since e) ≡ [] → taken (since e') ≡ [] → DifferInFront (OfMaster ms) id id' → c ≢ command.Reset → IsValid (OfMaster ms) e bytes c load → EndsByCrcs (OfMaster ms) e' bytes

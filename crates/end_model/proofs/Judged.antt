@@ -1,7 +1,8 @@
 -- What each verdict says of the frame that it is on.
-use Rattle.end_model.proofs.Common.{Code, Command, Deed, Drop, Fails, IsRead, IsResetFrame, IsValid, NotAllowed, Opened, Refused, Setup, UnknownCommand, Valid, Verdict, Wrong, WrongConnection, WrongContents, WrongCrc, WrongReset, allowed, code, contents, fits, frame_len, has_conn, is_repeat, judged, judged_contents, judged_session, kept, parts, receives, session_fault, since, verdict}
-use Rattle.std.proofs.Common.{◌≡◌, ◌≢◌, ℕ, List, length, Bool, true, false, Option, Some, None, Ok, refl, ap, sym, ◌∙◌}
-use Rattle.std.specs.Cmp.Lexicographic.{same_text, other_text}
+use Rattle.end_model.proofs.Common.{Code, Command, Deed, Drop, Fails, IsRead, IsResetFrame, IsValid, NotAllowed, Refused, Setup, UnknownCommand, Valid, Verdict, Wrong, WrongConnection, WrongContents, WrongCrc, WrongReset, allowed, code, contents, fits, frame_len, has_conn, is_repeat, judged, judged_contents, judged_session, kept, parts, receives, session_fault, since, verdict}
+use Rattle.seq_chain.specs.declared.opened.Opened.{Opened}
+use Rattle.std.proofs.Common.{◌≡◌, ◌≢◌, ℕ, List, length, Bool, true, false, Option, Some, None, Ok, refl, ap, sym, ◌∙◌, rules}
+use Rattle.std.specs.Cmp.Lexicographic.{same_text}
 use Rattle.fsoe_base.specs.declared.command.Command.TheVariants as command
 use Rattle.fsoe_base.specs.declared.did.Dropped.TheVariants as why
 use Rattle.seq_chain.proofs.OpenedFrame as opens
@@ -19,10 +20,6 @@ pub data Judged (s : Setup) (e : List Deed) (bytes : List ℕ) : Verdict → Typ
 is-kept : (o : Option (List ℕ)) (bytes : List ℕ) → is_repeat o bytes ≡ true → o ≡ Some bytes
 is-kept None bytes h = cc
 is-kept (Some last) bytes h = ap Some (same_text last bytes (sym h))
-
-is-other : (o : Option (List ℕ)) (bytes : List ℕ) → is_repeat o bytes ≡ false → o ≢ Some bytes
-is-other None bytes h = λ k. cc
-is-other (Some last) bytes h = λ k. let same : last ≡ bytes = cc in other_text last bytes (sym h) same
 
 -- a frame of a session, by its contents
 by-contents : (s : Setup) (e : List Deed) (bytes : List ℕ) (c : Command) (w : Option Code) → c ≢ command.Reset → IsRead s e bytes (Some c)
@@ -42,7 +39,7 @@ by-session s e bytes c false b k n is h i j = FailsTest (code 0x01) (NotAllowed 
 
 -- how far a frame came
 read : (s : Setup) (e : List Deed) (bytes : List ℕ) (c : Option Command) → ComesToCommand (receives s) (is_repeat (kept (since e)) bytes) bytes c → IsRead s e bytes c
-read s e bytes c is = record { has_length = is.len; is_new = is-other (kept (since e)) bytes is.is_new; command_is = is.named }
+read s e bytes c h = search (rules, kept)
 
 by-opened : (s : Setup) (e : List Deed) (bytes : List ℕ) (w : Opened) → Tested (receives s) (is_repeat (kept (since e)) bytes) bytes w → Judged s e bytes (judged s e w)
 by-opened s e bytes w (opens.HasOtherLength other) = HasOtherLength other

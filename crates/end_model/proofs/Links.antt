@@ -1,17 +1,15 @@
 -- What is noted of the last frames of a session.
 use Rattle.end_model.proofs.Common.{Deed, Link, Setup, delivered, first_of, frame_of, is_empty, newest_crc, of_session, own, own_link, receives, sends, taken, taken_link}
-use Rattle.std.proofs.Common.{◌≡◌, ℕ, List, [], ◌∷◌, Bool, true, false, Option, Some, is_some, if◌then◌else◌, refl}
+use Rattle.std.proofs.Common.{◌≡◌, ℕ, List, [], ◌∷◌, Bool, Option, Some, is_some, if◌then◌else◌, refl, arith}
 use Rattle.seq_chain.specs.Numbers.{last_crc}
 
 skips : (l : ℕ) (b : Bool) (before : Option Link) (noted : Link) (frames : List (List ℕ)) (f : List ℕ) → last_crc before ≡ newest_crc l frames → noted.crc ≡ first_of (frame_of l f).crcs
     → last_crc (if b then before else Some noted) ≡ newest_crc l (if b then frames else f ∷ frames)
-skips l true before noted frames f h k = h
-skips l false before noted frames f h k = k
+skips l b before noted frames f h k = grind arith
 
 adds : (l : ℕ) (b : Bool) (before : Option Link) (noted : Link) (frames : List (List ℕ)) (f : List ℕ) → last_crc before ≡ newest_crc l frames → noted.crc ≡ first_of (frame_of l f).crcs
     → last_crc (if b then Some noted else before) ≡ newest_crc l (if b then f ∷ frames else frames)
-adds l true before noted frames f h k = k
-adds l false before noted frames f h k = h
+adds l b before noted frames f h k = grind arith
 
 pub own_crc : (s : Setup) (e : List Deed) → last_crc (own_link s e) ≡ newest_crc (sends s) (own e)
 own_crc s [] = refl

@@ -1,6 +1,6 @@
 -- The outputs of a master are those that looking back gives.
 use Rattle.end_model.proofs.Common.{Ages, Answers, Command, Deed, Did, Expires, IsInSession, MasterFirstData, MasterGoesOn, MasterMoreData, MasterNextPhase, MasterSettings, MasterStarts, Move, OfMaster, PeerResets, Reaction, Refuses, ResetsItself, Rests, SendsAgain, Setup, State, Taking, out_after, outputs, phase_of, phase_of_frame, received, state_of, takes_frame, ticks, with_data, zeros}
-use Rattle.std.proofs.Common.{◌≡◌, ◌≢◌, ℕ, suc, ◌+◌, ◌<◌, List, ◌∷◌, Bool, true, false, nat_lt, if◌then◌else◌, refl, sym, subst, ◌∙◌, arith}
+use Rattle.std.proofs.Common.{◌≡◌, ◌≢◌, ℕ, suc, ◌+◌, ◌<◌, List, ◌∷◌, Bool, true, nat_lt, if◌then◌else◌, refl, sym, subst, ◌∙◌, arith}
 use Rattle.fsoe_base.specs.declared.command.State.TheVariants as state
 use Rattle.fsoe_base.specs.declared.command.Command.TheVariants as command
 use Rattle.param_load.specs.declared.entry.Move.TheVariants as move
@@ -14,12 +14,10 @@ shown_in s state.Data true load = load
 shown_in s _ _ load = zeros s
 
 pub shown-zeros : (s : Setup) (now : State) (b : Bool) → shown_in s now b (zeros s) ≡ zeros s
-shown-zeros s state.Data true = refl
-shown-zeros s _ _ = refl
+shown-zeros s now b = grind arith
 
 pub shown-data : (s : Setup) (b : Bool) (load : List ℕ) → (if b then load else zeros s) ≡ shown_in s state.Data b load
-shown-data s true load = refl
-shown-data s false load = refl
+shown-data s b load = grind arith
 
 -- what looking back past n ticks gives
 pub record MasterShows (ms : MasterSettings) (e : List Deed) : Type 0 where

@@ -1,6 +1,6 @@
 -- Frames that one end sends after one another in a session have different CRC_0.
 use Rattle.end_model.proofs.Common.{Answers, Command, Deed, Did, Expires, Frame, IsRun, Link, Move, OfMaster, OfSlave, PeerResets, Reaction, Refuses, ResetsItself, SendsAgain, Setup, Taking, command_byte, first_of, frame_of, is_empty, newest_crc, offer, own, own_link, received, receives, sends, since, taken, takes_frame, with_answer}
-use Rattle.std.proofs.Common.{◌≡◌, ℕ, ◌<◌, List, [], ◌∷◌, length, Bool, true, false, Option, Some, None, IfSome, if◌then◌else◌, refl, sym, subst, ◌∙◌, arith}
+use Rattle.std.proofs.Common.{◌≡◌, ℕ, ◌<◌, List, [], ◌∷◌, length, Bool, Option, Some, None, IfSome, if◌then◌else◌, refl, sym, subst, arith, rules}
 use Rattle.fsoe_base.specs.declared.command.Command.TheVariants as command
 use Rattle.seq_chain.specs.Sealing as sealing
 use Rattle.seq_chain.proofs.Steps.{number_within, after_link}
@@ -20,14 +20,11 @@ IsNoted l (Some link) (f ∷ frames) = (link.number < 65536) × (link.crc ≡ fi
 IsNoted _ _ _ = ⊥
 
 within : (l : ℕ) (before : Option Link) (frames : List (List ℕ)) → IsNoted l before frames → IfSome before (λ link. link.number < 65536)
-within l None frames h = tt
-within l (Some link) (f ∷ frames) h = h.0
-within l (Some link) [] h = absurd h
+within l before frames h = grind arith
 
 adds : (l : ℕ) (none : Bool) (before : Option Link) (link : Link) (frames : List (List ℕ)) (f : List ℕ) → IsNoted l before frames → link.number < 65536 → link.crc ≡ first_of (frame_of l f).crcs
     → IsNoted l (if none then before else Some link) (if none then frames else f ∷ frames)
-adds l true before link frames f h below crc = h
-adds l false before link frames f h below crc = (below, crc)
+adds l none before link frames f h k m = grind arith
 
 noted : (s : Setup) (e : List Deed) → IsNoted (sends s) (own_link s e) (own e)
 noted s [] = tt
@@ -40,9 +37,7 @@ noted s (x ∷ e) =
 -- what is sealed next has another CRC_0
 other : (l last conn cmd : ℕ) (before : Option Link) (load : List ℕ) (frames : List (List ℕ)) → IsNoted l before frames → 0 < length load
     → IsOtherThanNewest l (first_of (sealing.sealed last before conn cmd load).crcs) frames
-other l last conn cmd before load [] h some = tt
-other l last conn cmd (Some link) load (f ∷ frames) h some = λ e. after_link last conn cmd link load h.0 some (e ∙ sym h.1)
-other l last conn cmd None load (f ∷ frames) h some = absurd h
+other l last conn cmd before load frames h k = search (rules, after_link)
 
 other_sent : (s : Setup) (m : Move) (did : Did) (e : List Deed) (f : List ℕ) → IsSealed s (record { what = m; did = did; sent = [] } ∷ e) f → IsOtherThanNewest (sends s) (first_of (frame_of (sends s) f).crcs) (own (since e))
 other_sent s m did e f h =
@@ -58,8 +53,7 @@ newest s e x h = rw (h.in_session, h.sent)
 
 goes_on : (s : Setup) (e : List Deed) (m : Move) (did : Did) (f : List ℕ) → IsInSession f → IsSealed s (record { what = m; did = did; sent = [] } ∷ e) f
     → NeighboursDiffer (sends s) (own (since e)) → NeighboursDiffer (sends s) (own (since (record { what = m; did = did; sent = f } ∷ e)))
-goes_on s e m did f here h so_far =
-    subst (NeighboursDiffer (sends s)) (sym (newest s e (record { what = m; did = did; sent = f }) here)) (other_sent s m did e f h, so_far)
+goes_on s e m did f h k l = search (rules, newest, other_sent)
 
 answers : (s : Setup) (e : List Deed) (bytes load : List ℕ) (c : Command) (f : List ℕ) → Taking e bytes load s c f → length (offer s e) ≡ sends s → NeighboursDiffer (sends s) (own (since e))
     → NeighboursDiffer (sends s) (own (since (with_answer bytes c load f e)))

@@ -1,14 +1,13 @@
 -- In each run, what an end does at its next event is one of the reactions.
-use Rattle.end_model.proofs.Common.{AfterConnection, AfterSession, Ages, Answers, Code, Command, Deed, DropsInReset, DropsLength, DropsRepeat, DropsReset, Expires, Fails, HasNoSession, Holds, IsExchange, IsHandshake, IsProper, IsReaction, IsResetFrame, IsValid, MasterFirstData, MasterGoesOn, MasterMoreData, MasterNextPhase, MasterSettings, MasterStarts, Move, OfConnection, OfMaster, OfParameter, OfSession, OfSlave, PeerResets, Puts, Refuses, ResetsItself, Rests, SendsAgain, SetsNonce, Setup, SlaveFirstData, SlaveGoesOn, SlaveMoreData, SlaveNextPhase, SlaveRejoins, SlaveSettings, SlaveStarts, State, Taking, Verdict, after_phase, age, all_pieces, deed_of, download_frame, dropped, failed_with, first_of, is_data, is_reset, kept, limit, nothing, on_expiry, on_fault, on_reset_frame, on_verdict, phase_of, phase_of_frame, pieces_sent, received, since, slave_answer, state_of, step, takes_frame, upload_is_whole, verdict, with_answer, with_data}
-use Rattle.std.proofs.Common.{◌≡◌, ◌≢◌, ℕ, suc, List, Bool, true, false, nat_lt, nat_le, Some, None, ◌==◌, if◌then◌else◌, refl, sym, subst, ◌∙◌}
-use Rattle.std.proofs.lemmas.Bool.{eqb-true, eqb-false, ltb-true, ltb-false, leb-true, leb-false}
+use Rattle.end_model.proofs.Common.{AfterConnection, AfterSession, Ages, Answers, Code, Command, Deed, DropsInReset, DropsLength, DropsRepeat, DropsReset, Expires, Fails, HasNoSession, Holds, IsExchange, IsHandshake, IsProper, IsReaction, IsResetFrame, IsValid, MasterFirstData, MasterGoesOn, MasterMoreData, MasterNextPhase, MasterSettings, MasterStarts, Move, OfConnection, OfMaster, OfParameter, OfSession, OfSlave, PeerResets, Puts, Refuses, ResetsItself, Rests, SendsAgain, SetsNonce, Setup, SlaveFirstData, SlaveGoesOn, SlaveMoreData, SlaveNextPhase, SlaveRejoins, SlaveSettings, SlaveStarts, State, Taking, Verdict, after_phase, age, all_pieces, deed_of, download_frame, dropped, eqb-false, eqb-true, failed_with, first_of, is_data, kept, leb-false, leb-true, limit, ltb-false, ltb-true, nothing, on_expiry, on_fault, on_reset_frame, on_verdict, phase_of, pieces_sent, received, since, slave_answer, state_of, step, takes_frame, upload_is_whole, verdict, with_answer, with_data}
+use Rattle.std.proofs.Common.{◌≡◌, ◌≢◌, ℕ, suc, List, Bool, true, false, nat_lt, nat_le, Some, None, ◌==◌, if◌then◌else◌, refl, sym, subst, ◌∙◌, arith, rules}
 use Rattle.fsoe_base.specs.declared.command.State.TheVariants as state
 use Rattle.fsoe_base.specs.declared.command.Command.TheVariants as command
 use Rattle.fsoe_base.specs.declared.did.Dropped.TheVariants as why
 use Rattle.param_load.specs.declared.entry.Move.TheVariants as move
-use Rattle.end_model.proofs.Heads.{IsInSession, master_frame, slave_frame, data_phase}
+use Rattle.end_model.proofs.Heads.{IsInSession}
 use Rattle.end_model.proofs.Judged.{Judged, HasOtherLength, IsKept, FailsTest, FailsContents, ResetsFrame, IsNext, is_judged}
-use Rattle.end_model.proofs.Ways.{SlaveWay, Start, More, Next, First, Data, slave_way, MasterWay, Echo, Reply, master_way}
+use Rattle.end_model.proofs.Ways.{SlaveWay, Start, More, Next, First, Data, slave_way, MasterWay, master_way}
 
 -- in state Data a slave has the whole parameters
 abbrev pub IsLoaded : Setup → List Deed → Type 0
@@ -23,42 +22,21 @@ pub record Sound (s : Setup) (e : List Deed) : Type 0 where
 elsewhere : (now p : State) → now ≡ p → p ≢ state.Reset → now ≢ state.Reset
 elsewhere now p h n = λ k. n (sym h ∙ k)
 
--- a slave is in the phase of the frame that it took
-slave-after : (ss : SlaveSettings) (e : List Deed) (bytes load : List ℕ) (c : Command) (answer : List ℕ) → is_reset c ≡ false → IsInSession answer → state_of (OfSlave ss) (with_answer bytes c load answer e) ≡ phase_of c
-slave-after ss e bytes load command.Reset answer n f = cc
-slave-after ss e bytes load _ answer n f = let a = f.in_session in simp a
-
--- a master is in the phase of the frame that it sent
-master-after : (ms : MasterSettings) (e : List Deed) (bytes load : List ℕ) (c : Command) (answer : List ℕ) (p : State) → IsInSession answer → phase_of_frame answer ≡ p → state_of (OfMaster ms) (with_answer bytes c load answer e) ≡ p
-master-after ms e bytes load c answer p f h = let a = f.in_session in let b = f.sent in simp (a, b) h
-
-no-reset : (c : Command) → c ≢ command.Reset → is_reset c ≡ false
-no-reset command.Reset n = absurd (n refl)
-no-reset _ n = refl
-
 pub slave_data : (ss : SlaveSettings) (e : List Deed) (c : Command) (load : List ℕ) → is_data c ≡ true → slave_answer ss e c load ≡ with_data (OfSlave ss) e
-slave_data ss e command.FailSafeData load h = refl
-slave_data ss e command.ProcessData load h = refl
-slave_data ss e _ load h = cc
+slave_data ss e c load h = grind arith
 
 -- a slave takes a frame of a session, and answers it
 slave-exchange : (ss : SlaveSettings) (e : List Deed) (bytes load : List ℕ) (c : Command) → c ≢ command.Reset → IsValid (OfSlave ss) e bytes c load
     → IsExchange (OfSlave ss) e bytes load c (slave_answer ss (received bytes c load e) c load) (slave_answer ss (received bytes c load e) c load) (phase_of c)
-slave-exchange ss e bytes load c n valid =
-    let f : IsInSession (slave_answer ss (received bytes c load e) c load) = slave_frame ss (received bytes c load e) c load (no-reset c n) in
-    record { valid = valid; is_made = refl; in_session = f; after = slave-after ss e bytes load c (slave_answer ss (received bytes c load e) c load) (no-reset c n) f }
+slave-exchange ss e bytes load c h k = grind arith
 
 pub phase_of_data : (c : Command) → is_data c ≡ true → phase_of c ≡ state.Data
-phase_of_data command.FailSafeData h = refl
-phase_of_data command.ProcessData h = refl
-phase_of_data _ h = cc
+phase_of_data c h = grind arith
 
 -- a slave takes data, and answers with data
 slave-data-exchange : (ss : SlaveSettings) (e : List Deed) (bytes load : List ℕ) (c : Command) → c ≢ command.Reset → IsValid (OfSlave ss) e bytes c load → is_data c ≡ true
     → IsExchange (OfSlave ss) e bytes load c (slave_answer ss (received bytes c load e) c load) (with_data (OfSlave ss) (received bytes c load e)) state.Data
-slave-data-exchange ss e bytes load c n valid is =
-    let x : IsExchange (OfSlave ss) e bytes load c (slave_answer ss (received bytes c load e) c load) (slave_answer ss (received bytes c load e) c load) (phase_of c) = slave-exchange ss e bytes load c n valid in
-    record { valid = valid; is_made = slave_data ss (received bytes c load e) c load is; in_session = x.in_session; after = x.after ∙ phase_of_data c is }
+slave-data-exchange ss e bytes load c h k l = search rules
 
 slave-takes : (ss : SlaveSettings) (e : List Deed) (bytes load : List ℕ) (c : Command) → c ≢ command.Reset → Sound (OfSlave ss) e → IsValid (OfSlave ss) e bytes c load
     → SlaveWay (λ phase. upload_is_whole ss phase e) (state_of (OfSlave ss) e) c → Taking e bytes load (OfSlave ss) c (slave_answer ss (received bytes c load e) c load)
@@ -72,36 +50,22 @@ slave-takes ss e bytes load c n sound valid (Data is now) = SlaveMoreData ss c _
 
 -- a piece is a frame of its phase
 piece-in : (ms : MasterSettings) (e : List Deed) (c : Command) (k : ℕ) → IsHandshake c → IsInSession (download_frame ms e c k)
-piece-in ms e c k OfSession = record { in_session = refl; sent = refl }
-piece-in ms e c k _ = record { in_session = refl; sent = refl }
-
-piece-phase : (ms : MasterSettings) (e : List Deed) (c : Command) (k : ℕ) → IsHandshake c → phase_of_frame (download_frame ms e c k) ≡ phase_of c
-piece-phase ms e c k OfSession = refl
-piece-phase ms e c k _ = refl
+piece-in ms e c k h = grind arith
 
 -- the state after a master sent a piece
 piece-after : (ms : MasterSettings) (e : List Deed) (bytes load : List ℕ) (c next : Command) (k : ℕ) → IsHandshake next
     → state_of (OfMaster ms) (with_answer bytes c load (download_frame ms (received bytes c load e) next k) e) ≡ phase_of next
-piece-after ms e bytes load c next k is =
-    master-after ms e bytes load c (download_frame ms (received bytes c load e) next k) (phase_of next) (piece-in ms (received bytes c load e) next k is) (piece-phase ms (received bytes c load e) next k is)
+piece-after ms e bytes load c next k h = grind arith
 
 -- a master takes a frame of a session, and answers it with a piece
 piece-exchange : (ms : MasterSettings) (e : List Deed) (bytes load : List ℕ) (c next : Command) (k : ℕ) → IsHandshake next → IsValid (OfMaster ms) e bytes c load
     → IsExchange (OfMaster ms) e bytes load c (download_frame ms (received bytes c load e) next k) (download_frame ms (received bytes c load e) next k) (phase_of next)
-piece-exchange ms e bytes load c next k is valid =
-    record { valid = valid; is_made = refl; in_session = piece-in ms (received bytes c load e) next k is; after = piece-after ms e bytes load c next k is }
+piece-exchange ms e bytes load c next k h l = search (rules, piece-in, piece-after)
 
 -- a master takes a frame of a session, and answers it with data
 data-exchange : (ms : MasterSettings) (e : List Deed) (bytes load : List ℕ) (c : Command) → IsValid (OfMaster ms) e bytes c load
     → IsExchange (OfMaster ms) e bytes load c (with_data (OfMaster ms) (received bytes c load e)) (with_data (OfMaster ms) (received bytes c load e)) state.Data
-data-exchange ms e bytes load c valid =
-    let f : IsInSession (with_data (OfMaster ms) (received bytes c load e)) = master_frame ms (received bytes c load e) command.ProcessData in
-    record {
-      valid = valid;
-      is_made = refl;
-      in_session = f;
-      after = master-after ms e bytes load c (with_data (OfMaster ms) (received bytes c load e)) state.Data f (data_phase (OfMaster ms) (received bytes c load e));
-    }
+data-exchange ms e bytes load c h = grind arith
 
 -- a master goes on with the next piece, or with what comes after the phase
 master-next : (ms : MasterSettings) (e : List Deed) (bytes load : List ℕ) (c : Command) (b : Bool) → IsHandshake c → state_of (OfMaster ms) e ≡ phase_of c → IsValid (OfMaster ms) e bytes c load
@@ -131,8 +95,7 @@ master-reply ms e bytes load command.ProcessData h now valid = Answers bytes loa
 master-reply ms e bytes load _ h now valid = absurd (cc h)
 
 master-takes : (ms : MasterSettings) (e : List Deed) (bytes load : List ℕ) (c : Command) → IsValid (OfMaster ms) e bytes c load → MasterWay (state_of (OfMaster ms) e) c → is_next (OfMaster ms) e bytes load c
-master-takes ms e bytes load c valid (Echo is now) = master-echo ms e bytes load c is now valid
-master-takes ms e bytes load c valid (Reply is now) = master-reply ms e bytes load c is now valid
+master-takes ms e bytes load c h k = search (rules, master-echo, master-reply)
 
 by-valid : (s : Setup) (e : List Deed) (bytes load : List ℕ) (c : Command) → Sound s e → c ≢ command.Reset → IsValid s e bytes c load → is_next s e bytes load c
 by-valid (OfMaster ms) e bytes load c sound n valid = master-takes ms e bytes load c valid (master_way (state_of (OfMaster ms) e) c n valid.is_allowed)
@@ -178,8 +141,7 @@ below (OfSlave ss) e state.Reset h t = Rests tt h
 below (OfSlave ss) e _ h t = Ages (elsewhere _ _ h (λ k. cc)) (leb-false (limit (OfSlave ss) e) (suc (age (OfSlave ss) e)) t)
 
 by-tick : (s : Setup) (e : List Deed) (b : Bool) → nat_le (limit s e) (suc (age s e)) ≡ b → IsReaction s e (deed_of s e move.Tick (if b then on_expiry (state_of s e) s else nothing))
-by-tick s e true t = by-expiry s e (state_of s e) refl t
-by-tick s e false t = below s e (state_of s e) refl t
+by-tick s e b h = search (rules, by-expiry, below)
 
 -- what an end does next
 pub next_reaction : (s : Setup) (e : List Deed) (m : Move) → Sound s e → IsProper s m → IsReaction s e (step s e m)

@@ -1,14 +1,12 @@
 -- A frame that an end seals is read back as it was made.
-use Rattle.end_model.proofs.Common.{Command, Deed, Frame, OfMaster, OfSlave, Setup, bytes_of, command_byte, crcs_from, frame_layout, frame_of, group_count, is_length, newest_crc, own_link, receives, seal, sends, taken}
+use Rattle.end_model.proofs.Common.{Command, Deed, Frame, Setup, bytes_of, command_byte, crcs_from, frame_layout, frame_of, group_count, is_length, newest_crc, own_link, receives, seal, sends, taken}
 use Rattle.std.proofs.Common.{◌≡◌, ℕ, suc, ◌+◌, ◌/◌, List, [], ◌∷◌, length, IsTrue, refl, sym, ap, subst, ◌∙◌, arith}
-use Rattle.std.proofs.lemmas.Bool.Decides.{nat_tests}
 use Rattle.fsoe_frame.specs.Layout.{groups}
 use Rattle.seq_chain.specs.Sealing as sealing
 
 -- an end sends a valid number of safe data bytes
 pub valid_length : (s : Setup) → IsTrue (is_length (sends s))
-valid_length (OfMaster ms) = ms.lengths.valid_master
-valid_length (OfSlave ss) = ss.lengths.valid_slave
+valid_length s = grind arith
 
 -- there are as many CRCs as groups
 pub count_crcs : (last conn seq cmd i : ℕ) (gs : List (List ℕ)) → length (crcs_from last conn seq cmd i gs) ≡ length gs
@@ -20,7 +18,7 @@ count_groups (d ∷ d' ∷ load) = let e = count_groups load in omega arith
 count_groups _ = refl
 
 pub halves : (l : ℕ) → IsTrue (is_length l) → (l + 1) / 2 ≡ group_count l
-halves l h = grind (arith, nat_tests)
+halves l h = grind arith
 
 -- a frame with as many CRCs as its load has groups
 pub parts_made : (f : Frame) → IsTrue (is_length (length f.load)) → length f.crcs ≡ group_count (length f.load) → frame_of (length f.load) (bytes_of f) ≡ f

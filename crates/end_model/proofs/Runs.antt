@@ -1,8 +1,7 @@
 -- Runs of an end.
 use Rattle.end_model.proofs.Common.{Deed, Did, IsProper, IsRun, IsSetting, Move, Setup, begun, continued, events_of, nothing, run, step}
-use Rattle.std.proofs.Common.{◌≡◌, ℕ, List, [], ◌∷◌, ◌++◌, refl, sym, ap, ◌∙◌, All}
+use Rattle.std.proofs.Common.{◌≡◌, ℕ, List, [], ◌∷◌, ◌++◌, refl, sym, ap, ◌∙◌, All, arith}
 use Rattle.std.proofs.lemmas.List.Elements.{All-head, All-tail}
-use Rattle.param_load.specs.declared.entry.Move.TheVariants as move
 
 abbrev pub deed : Move → Did → List ℕ → Deed
 deed what did sent = record { what = what; did = did; sent = sent }
@@ -12,10 +11,7 @@ same_deed what did did' sent sent' h i = rw (h, i) refl
 
 -- a put, a hold and a nonce are noted alone: nothing is done, and no frame is sent
 pub set_deed : (s : Setup) (e : List Deed) (m : Move) → IsSetting m → begun m nothing ≡ step s e m
-set_deed s e (move.Deliver bytes) k = absurd k
-set_deed s e move.Tick k = absurd k
-set_deed s e move.Local k = absurd k
-set_deed s e _ k = refl
+set_deed s e m h = grind arith
 
 continued_append : (s : Setup) (front rest : List Move) (e : List Deed) → continued s e (front ++ rest) ≡ continued s (continued s e front) rest
 continued_append s [] rest e = refl

@@ -1,9 +1,7 @@
 -- What an end sends in a session is sealed, with as many safe data bytes as it sends.
-use Rattle.end_model.proofs.Common.{Command, Deed, IsProper, IsRun, MasterSettings, Move, OfMaster, OfSlave, Setup, SlaveSettings, after_phase, after_pieces, conn_id, count_in, download_frame, held, is_guarded, is_reset, master_answer, offer, offer_after, own, padded, pay, phase_of, piece_len, pieces, seal, sealed, sends, session_id, since, slave_answer, with_data, with_piece}
-use Rattle.std.proofs.Common.{◌≡◌, ℕ, suc, ◌-◌, ◌*◌, ◌≤◌, List, [], ◌∷◌, length, min, take, drop, replicate, Bool, true, false, nat_lt, if◌then◌else◌, refl, arith}
-use Rattle.std.proofs.lemmas.List.{length-take, length-replicate, length-append}
+use Rattle.end_model.proofs.Common.{Command, Deed, IsProper, IsRun, MasterSettings, Move, OfMaster, OfSlave, Setup, SlaveSettings, after_phase, after_pieces, conn_id, count_in, download_frame, is_guarded, is_reset, length-append, length-replicate, length-take, master_answer, offer, offer_after, own, padded, pay, phase_of, piece_len, seal, sealed, sends, session_id, since, slave_answer, with_data, with_piece}
+use Rattle.std.proofs.Common.{◌≡◌, ℕ, ◌-◌, ◌*◌, ◌≤◌, List, [], ◌∷◌, length, min, take, drop, Bool, true, false, if◌then◌else◌, refl, arith, rules}
 use Rattle.fsoe_base.specs.declared.command.Command.TheVariants as command
-use Rattle.param_load.specs.declared.entry.Move.TheVariants as move
 
 -- a frame that is sealed over the deeds so far
 pub record IsSealed (s : Setup) (e : List Deed) (f : List ℕ) : Type 0 where
@@ -26,26 +24,14 @@ padded_len bytes n h = simp (length-append, length-replicate) (omega arith)
 min_left : (m n : ℕ) → min m n ≤ m
 min_left m n = omega arith
 
-min_right : (m n : ℕ) → min m n ≤ n
-min_right m n = omega arith
-
--- the piece of a payload has place in a frame
-pub piece_place : (s : Setup) → piece_len s ≤ sends s
-piece_place (OfMaster ms) = min_left ms.lengths.master ms.lengths.slave
-piece_place (OfSlave ss) = min_right ss.lengths.master ss.lengths.slave
-
 pub taken_len : (n : ℕ) (xs : List ℕ) → length (take n xs) ≤ n
 taken_len n xs = simp length-take (min_left n (length xs))
 
 piece_sealed : (s : Setup) (e : List Deed) (c : Command) (xs : List ℕ) → IsSealed s e (with_piece s e c (take (piece_len s) xs))
-piece_sealed s e c xs =
-    let fits : length (take (piece_len s) xs) ≤ sends s = let a = taken_len (piece_len s) xs in let b = piece_place s in omega arith in
-    seals s e c (padded (take (piece_len s) xs) (sends s)) (padded_len (take (piece_len s) xs) (sends s) fits)
+piece_sealed s e c xs = search (rules, taken_len, padded_len)
 
 data_sealed : (s : Setup) (e : List Deed) → length (offer s e) ≡ sends s → IsSealed s e (with_data s e)
-data_sealed s e h =
-    sealed-if s e (held e) (sealed s e command.FailSafeData (replicate (sends s) 0)) (sealed s e command.ProcessData (offer s e))
-    (seals s e command.FailSafeData (replicate (sends s) 0) (length-replicate (sends s) 0)) (seals s e command.ProcessData (offer s e) h)
+data_sealed s e h = search (rules, sealed-if, seals, length-replicate)
 
 download_sealed : (ms : MasterSettings) (e : List Deed) (c : Command) (k : ℕ) → IsSealed (OfMaster ms) e (download_frame ms e c k)
 download_sealed ms e c k = piece_sealed (OfMaster ms) e c (drop ((k - 1) * piece_len (OfMaster ms)) (pay ms (session_id (OfMaster ms) e) (phase_of c)))
@@ -57,9 +43,7 @@ first_sealed ms e command.Connection h = download_sealed ms e command.Parameter 
 first_sealed ms e _ h = data_sealed (OfMaster ms) e h
 
 next_sealed : (ms : MasterSettings) (e : List Deed) (c : Command) (k : ℕ) → length (offer (OfMaster ms) e) ≡ sends (OfMaster ms) → IsSealed (OfMaster ms) e (after_pieces ms e c k)
-next_sealed ms e c k h =
-    sealed-if (OfMaster ms) e (nat_lt k (pieces (pay ms (session_id (OfMaster ms) e) (phase_of c)) (piece_len (OfMaster ms)))) (download_frame ms e c (suc k)) (after_phase ms e c)
-    (download_sealed ms e c (suc k)) (first_sealed ms e c h)
+next_sealed ms e c k h = search (rules, sealed-if, download_sealed, first_sealed)
 
 pub master_sealed : (ms : MasterSettings) (e : List Deed) (c : Command) → length (offer (OfMaster ms) e) ≡ sends (OfMaster ms) → IsSealed (OfMaster ms) e (master_answer ms e c)
 master_sealed ms e command.Reset h = first_sealed ms e command.Reset h
@@ -76,8 +60,7 @@ slave_sealed ss e c load other h = piece_sealed (OfSlave ss) e c load
 
 -- an end offers as many safe data bytes as it sends
 offer_stays : (s : Setup) (m : Move) (before : List ℕ) → IsProper s m → length before ≡ sends s → length (offer_after m before) ≡ sends s
-offer_stays s (move.Put load) before proper h = proper
-offer_stays s _ before proper h = h
+offer_stays s m before h k = grind arith
 
 pub offer_len : (s : Setup) (e : List Deed) → IsRun s e → length (offer s e) ≡ sends s
 offer_len s [] r = length-replicate (sends s) 0

@@ -1,7 +1,6 @@
 -- The outputs of an end are those that looking back gives, and zeros outside Data.
-use Rattle.end_model.proofs.Common.{Deed, IsRun, MasterSettings, OfMaster, OfSlave, Setup, SlaveSettings, State, out, outputs, slave_limit, state_of, ticks, zeros}
-use Rattle.std.proofs.Common.{◌≡◌, ◌≢◌, ℕ, ◌+◌, ◌<◌, List, [], ◌∷◌, Bool, true, false, nat_lt, refl, sym, ◌∙◌, arith}
-use Rattle.std.proofs.lemmas.Bool.{lt-ltb}
+use Rattle.end_model.proofs.Common.{Deed, IsRun, MasterSettings, OfMaster, OfSlave, Setup, SlaveSettings, State, lt-ltb, out, outputs, slave_limit, state_of, ticks, zeros}
+use Rattle.std.proofs.Common.{◌≡◌, ◌≢◌, ℕ, ◌+◌, ◌<◌, List, [], ◌∷◌, Bool, true, nat_lt, refl, sym, ◌∙◌, arith, rules}
 use Rattle.fsoe_base.specs.declared.command.State.TheVariants as state
 use Rattle.end_model.proofs.SoundRuns.{reacted}
 use Rattle.end_model.proofs.MasterShown.{MasterShows, shown_in, master-shows}
@@ -17,9 +16,7 @@ slave-run ss (x ∷ e) r = slave-shows ss e x.what x.did x.sent (slave-run ss e 
 
 -- what is shown while the watchdog hasn't expired
 shown : (s : Setup) (now : State) (b : Bool) (load : List ℕ) → (now ≡ state.Data → b ≡ true) → (now ≢ state.Data → load ≡ zeros s) → load ≡ shown_in s now b load
-shown s state.Data true load y z = refl
-shown s state.Data false load y z = let k : false ≡ true = y refl in cc
-shown s _ b load y z = z (λ k. cc)
+shown s now b load h k = grind arith
 
 pub looking_back : (s : Setup) (e : List Deed) → IsRun s e → outputs s e ≡ out s e
 looking_back (OfMaster ms) e r =
@@ -30,5 +27,4 @@ looking_back (OfSlave ss) e r =
     shown (OfSlave ss) (state_of (OfSlave ss) e) (nat_lt (0 + ticks (OfSlave ss) e) (slave_limit ss (parameters ss e))) (outputs (OfSlave ss) e) (λ k. let t : ticks (OfSlave ss) e < slave_limit ss (parameters ss e) = h.young k in lt-ltb (0 + ticks (OfSlave ss) e) (slave_limit ss (parameters ss e)) (omega arith)) h.none ∙ sym (h.outs 0)
 
 pub fail_safe : (s : Setup) (e : List Deed) → IsRun s e → state_of s e ≢ state.Data → outputs s e ≡ zeros s
-fail_safe (OfMaster ms) e r k = let h : MasterShows ms e = master-run ms e r in h.none k
-fail_safe (OfSlave ss) e r k = let h : SlaveShows ss e = slave-run ss e r in h.none k
+fail_safe s e h k = search (rules, master-run, slave-run)

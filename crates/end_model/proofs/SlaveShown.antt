@@ -1,7 +1,6 @@
 -- The outputs of a slave are those that looking back gives.
-use Rattle.end_model.proofs.Common.{Ages, Answers, Command, Deed, Did, DropsReset, Expires, IsInSession, IsValid, Move, OfSlave, PeerResets, Profile, Reaction, Refuses, ResetsItself, Rests, SendsAgain, SlaveFirstData, SlaveGoesOn, SlaveMoreData, SlaveNextPhase, SlaveRejoins, SlaveSettings, SlaveStarts, Taking, has_all, id_len, joined_watchdog, number_at, out_after, outputs, parts, phase_of, piece_len, rule_len, slave_limit, state_of, takes_frame, ticks, upload_is_whole, uploaded, whole, zeros}
-use Rattle.std.proofs.Common.{◌≡◌, ◌≢◌, ℕ, suc, ◌+◌, ◌<◌, ◌≤◌, List, [], ◌∷◌, ◌++◌, length, take, drop, Bool, true, false, Some, None, nat_lt, nat_le, if◌then◌else◌, refl, sym, subst, ◌∙◌, arith}
-use Rattle.std.proofs.lemmas.Bool.{leb-true}
+use Rattle.end_model.proofs.Common.{Ages, Answers, Command, Deed, Did, DropsReset, Expires, IsInSession, IsValid, Move, OfSlave, PeerResets, Reaction, Refuses, ResetsItself, Rests, SendsAgain, SlaveFirstData, SlaveGoesOn, SlaveMoreData, SlaveNextPhase, SlaveRejoins, SlaveSettings, SlaveStarts, Taking, id_len, joined_watchdog, number_at, out_after, outputs, parts, phase_of, piece_len, rule_len, slave_limit, state_of, takes_frame, ticks, upload_is_whole, uploaded, whole, zeros}
+use Rattle.std.proofs.Common.{◌≡◌, ◌≢◌, ℕ, suc, ◌+◌, ◌<◌, ◌≤◌, List, [], ◌∷◌, ◌++◌, length, take, drop, true, nat_lt, refl, subst, ◌∙◌, arith, rules}
 use Rattle.fsoe_base.specs.declared.command.State.TheVariants as state
 use Rattle.fsoe_base.specs.declared.command.Command.TheVariants as command
 use Rattle.param_load.specs.declared.contents.Expected.TheVariants as expected
@@ -9,7 +8,7 @@ use Rattle.param_load.specs.declared.entry.Move.TheVariants as move
 use Rattle.end_model.proofs.Runs.{deed}
 use Rattle.end_model.proofs.Counted.{joined_count}
 use Rattle.end_model.proofs.SoundRuns.{handshake-on, handshake-data, next-on, next-data, data-on}
-use Rattle.end_model.proofs.MasterShown.{shown_in, shown-zeros, shown-data}
+use Rattle.end_model.proofs.MasterShown.{shown_in, shown-zeros}
 
 -- the parameters that were uploaded so far
 abbrev pub parameters : SlaveSettings → List Deed → List ℕ
@@ -31,19 +30,12 @@ pub record SlaveShows (ss : SlaveSettings) (e : List Deed) : Type 0 where
   pub none : state_of (OfSlave ss) e ≢ state.Data → outputs (OfSlave ss) e ≡ zeros (OfSlave ss)
   pub tested : IsTested ss (parameters ss e)
 
-whole-long : (p : Profile) (u : List ℕ) (b : Bool) → nat_le (id_len p + 4) (length u) ≡ b → has_all (if b then Some (id_len p + 4 + number_at (id_len p + 2) u) else None) (length u) ≡ true → 4 ≤ length u
-whole-long p u true h k = let q : id_len p + 4 ≤ length u = leb-true (id_len p + 4) (length u) h in omega arith
-whole-long p u false h k = cc
-
 pub record Limits (ss : SlaveSettings) (u : List ℕ) : Type 0 where
   pub limit_is : slave_limit ss u ≡ number_at 2 u
   pub some : 0 < slave_limit ss u
 
 pub limits : (ss : SlaveSettings) (u : List ℕ) → IsTested ss u → whole ss.profile state.Parameter u ≡ true → Limits ss u
-limits ss u t w =
-    let e : slave_limit ss u ≡ number_at 2 u = simp w in
-    let p : 0 < number_at 2 u = t.watchdog (whole-long ss.profile u _ refl w) in
-    record { limit_is = e; some = omega arith }
+limits ss u h k = grind arith
 
 -- a watchdog that comes with a frame was tested
 tested-more : (ss : SlaveSettings) (e : List Deed) (bytes load : List ℕ) → IsTested ss (parameters ss e) → IsValid (OfSlave ss) e bytes command.Parameter load → IsTested ss (parameters ss e ++ take (piece_len (OfSlave ss)) load)
@@ -59,26 +51,7 @@ tested-more ss e bytes load t a =
 -- a slave takes a frame of a session; data after the whole parameters
 slave-taken : (ss : SlaveSettings) (e : List Deed) (bytes load : List ℕ) (c : Command) (f : List ℕ) → SlaveShows ss e → IsValid (OfSlave ss) e bytes c load → IsInSession f → (phase_of c ≡ state.Data → upload_is_whole ss state.Parameter e ≡ true) → phase_of c ≢ state.Reset
     → SlaveShows ss (deed (move.Deliver bytes) (takes_frame c load) f ∷ e)
-slave-taken ss e bytes load command.Reset f h a k w n = absurd (n refl)
-slave-taken ss e bytes load command.Parameter f h a k w n =
-    let b = k.in_session in
-    record { outs = λ i. simp b; young = simp b (λ k. cc); none = λ k. simp b; tested = simp b (tested-more ss e bytes load h.tested a) }
-slave-taken ss e bytes load command.FailSafeData f h a k w n =
-    let b = k.in_session in
-    let g = k.sent in
-    let l : Limits ss (parameters ss e) = limits ss (parameters ss e) h.tested (w refl) in
-    record { outs = λ i. simp b (sym (shown-zeros (OfSlave ss) state.Data _)); young = simp (b, g) (λ y. l.some); none = λ k. simp b; tested = simp b h.tested }
-slave-taken ss e bytes load command.ProcessData f h a k w n =
-    let b = k.in_session in
-    let g = k.sent in
-    let l : Limits ss (parameters ss e) = limits ss (parameters ss e) h.tested (w refl) in
-    record {
-      outs = λ i. let z : i + 0 ≡ i = omega arith in simp (b, g, z) (simp l.limit_is (shown-data (OfSlave ss) (nat_lt i (number_at 2 (parameters ss e))) load));
-      young = simp (b, g) (λ y. l.some);
-      none = λ k. absurd (k (simp b));
-      tested = simp b h.tested;
-    }
-slave-taken ss e bytes load _ f h a k w n = let b = k.in_session in record { outs = λ i. simp b; young = simp b (λ k. cc); none = λ k. simp b; tested = simp b h.tested }
+slave-taken ss e bytes load c f h k l m n = search (rules, tested-more, limits, shown-zeros)
 
 pub slave-took : (ss : SlaveSettings) (e : List Deed) (bytes load : List ℕ) (c : Command) (f : List ℕ) → SlaveShows ss e → Taking e bytes load (OfSlave ss) c f → SlaveShows ss (deed (move.Deliver bytes) (takes_frame c load) f ∷ e)
 slave-took ss e bytes load c f h (SlaveRejoins _ now none frame) = record { outs = λ n. refl; young = λ k. cc; none = λ k. refl; tested = none_tested ss }

@@ -1,37 +1,30 @@
 -- In each run nothing is of a session in state Reset, and in state Data a slave has the whole parameters.
-use Rattle.end_model.proofs.Common.{AfterConnection, AfterSession, Answers, Cause, Command, Deed, Did, Dropped, DropsReset, Expires, HasNoSession, IsExchange, IsHandshake, IsNextPhase, IsProper, IsReaction, IsRun, MasterFirstData, MasterGoesOn, MasterMoreData, MasterNextPhase, MasterSettings, MasterStarts, Move, OfMaster, OfSession, OfSlave, PeerResets, Reaction, Refuses, ResetsItself, Rests, SendsAgain, Setup, SlaveFirstData, SlaveGoesOn, SlaveMoreData, SlaveNextPhase, SlaveRejoins, SlaveSettings, SlaveStarts, State, Taking, is_data, is_empty, phase_of, state_of, step, takes_frame, upload_is_whole, with_answer}
-use Rattle.std.proofs.Common.{◌≡◌, ◌≢◌, ℕ, List, [], ◌∷◌, Bool, true, false, Option, None, refl, sym, subst, ◌∙◌}
+use Rattle.end_model.proofs.Common.{Answers, Cause, Command, Deed, Did, Dropped, DropsReset, Expires, HasNoSession, IsExchange, IsHandshake, IsNextPhase, IsProper, IsReaction, IsRun, MasterFirstData, MasterGoesOn, MasterMoreData, MasterNextPhase, MasterSettings, MasterStarts, Move, OfMaster, OfSlave, PeerResets, Reaction, Refuses, ResetsItself, Rests, SendsAgain, Setup, SlaveFirstData, SlaveGoesOn, SlaveMoreData, SlaveNextPhase, SlaveRejoins, SlaveSettings, SlaveStarts, State, Taking, is_data, is_empty, phase_of, state_of, step, takes_frame, upload_is_whole, with_answer}
+use Rattle.std.proofs.Common.{◌≡◌, ◌≢◌, ℕ, List, [], ◌∷◌, Bool, true, false, Option, None, refl, sym, subst, ◌∙◌, arith}
 use Rattle.fsoe_base.specs.declared.command.State.TheVariants as state
 use Rattle.fsoe_base.specs.declared.command.Command.TheVariants as command
 use Rattle.param_load.specs.declared.entry.Move.TheVariants as move
 use Rattle.end_model.proofs.Runs.{deed}
-use Rattle.end_model.proofs.Heads.{IsInSession}
 use Rattle.end_model.proofs.Reactions.{Sound, next_reaction}
 
 -- the phases of the frames of a handshake and of data
 pub handshake-on : (c : Command) → IsHandshake c → phase_of c ≢ state.Reset
-handshake-on c OfSession = λ k. cc
-handshake-on c _ = λ k. cc
+handshake-on c h = grind arith
 
 pub next-on : (before c : Command) → IsNextPhase before c → phase_of c ≢ state.Reset
-next-on before c AfterSession = λ k. cc
-next-on before c AfterConnection = λ k. cc
+next-on before c h = grind arith
 
 pub handshake-data : (c : Command) → IsHandshake c → phase_of c ≢ state.Data
-handshake-data c OfSession = λ k. cc
-handshake-data c _ = λ k. cc
+handshake-data c h = grind arith
 
 pub next-data : (before c : Command) → IsNextPhase before c → phase_of c ≢ state.Data
-next-data before c AfterSession = λ k. cc
-next-data before c AfterConnection = λ k. cc
+next-data before c h = grind arith
 
 pub before-data : (c next : Command) → IsNextPhase c next → phase_of c ≢ state.Data
-before-data c next AfterSession = λ k. cc
-before-data c next AfterConnection = λ k. cc
+before-data c next h = grind arith
 
 pub data-on : (c : Command) → is_data c ≡ true → phase_of c ≢ state.Reset
-data-on command.Reset h = λ k. cc
-data-on _ h = λ k. cc
+data-on c h = grind arith
 
 -- a state that isn't this one
 other : (s : Setup) (e : List Deed) (p q : State) → state_of s e ≡ p → p ≢ q → state_of s e ≢ q
@@ -67,19 +60,9 @@ master_sound ms e m d f h _ = record { no_session = λ k. quiet _ _ _ _ _ e (h.n
 slave-on : (ss : SlaveSettings) (e : List Deed) (p : State) → state_of (OfSlave ss) e ≡ p → p ≢ state.Reset → p ≢ state.Data → Sound (OfSlave ss) e
 slave-on ss e p h n k = record { no_session = λ r. absurd (other (OfSlave ss) e p state.Reset h n r); is_loaded = λ d. absurd (other (OfSlave ss) e p state.Data h k d) }
 
--- data leave the parameters
-stays-loaded : (ss : SlaveSettings) (e : List Deed) (bytes load answer : List ℕ) (c : Command) → is_data c ≡ true → IsInSession answer → upload_is_whole ss state.Parameter e ≡ true → upload_is_whole ss state.Parameter (with_answer bytes c load answer e) ≡ true
-stays-loaded ss e bytes load answer command.FailSafeData d f h = let a = f.in_session in simp a h
-stays-loaded ss e bytes load answer command.ProcessData d f h = let a = f.in_session in simp a h
-stays-loaded ss e bytes load answer _ d f h = absurd (cc d)
-
 slave-in-data : (ss : SlaveSettings) (e : List Deed) (bytes load answer made : List ℕ) (c : Command) → is_data c ≡ true → upload_is_whole ss state.Parameter e ≡ true
     → IsExchange (OfSlave ss) e bytes load c answer made state.Data → Sound (OfSlave ss) (with_answer bytes c load answer e)
-slave-in-data ss e bytes load answer made c is whole x =
-    record {
-      no_session = λ k. absurd (other (OfSlave ss) (with_answer bytes c load answer e) state.Data state.Reset x.after (λ k. cc) k);
-      is_loaded = λ k. stays-loaded ss e bytes load answer c is x.in_session whole;
-    }
+slave-in-data ss e bytes load answer made c h k l = grind arith
 
 slave-took : (ss : SlaveSettings) (e : List Deed) (bytes load answer : List ℕ) (c : Command) → Taking e bytes load (OfSlave ss) c answer → Sound (OfSlave ss) (deed (move.Deliver bytes) (takes_frame c load) answer ∷ e)
 slave-took ss e bytes load answer c (SlaveRejoins _ now none frame) = record { no_session = λ k. record { none_sent = refl; none_taken = refl; none_kept = refl }; is_loaded = λ k. cc }
@@ -128,14 +111,4 @@ reacted s x e r = subst (λ (x : Deed). IsReaction s e x) (sym r.0.stepped) (rea
 
 -- a frame that was taken is answered
 pub answer_sent : (e : List Deed) (bytes load : List ℕ) (s : Setup) (c : Command) (answer : List ℕ) → Taking e bytes load s c answer → is_empty answer ≡ false
-answer_sent e bytes load s c answer (SlaveRejoins _ now none frame) = refl
-answer_sent e bytes load s c answer (SlaveStarts _ _ now none x) = x.in_session.sent
-answer_sent e bytes load s c answer (SlaveGoesOn _ _ _ is now part x) = x.in_session.sent
-answer_sent e bytes load s c answer (SlaveNextPhase _ before _ _ is now whole x) = x.in_session.sent
-answer_sent e bytes load s c answer (SlaveFirstData _ _ _ is now whole x) = x.in_session.sent
-answer_sent e bytes load s c answer (SlaveMoreData _ _ _ is now whole x) = x.in_session.sent
-answer_sent e bytes load s c answer (MasterStarts _ _ now none frame zero made sent after) = sent.sent
-answer_sent e bytes load s c answer (MasterGoesOn _ _ _ is now part x) = x.in_session.sent
-answer_sent e bytes load s c answer (MasterNextPhase _ _ next _ is now whole x) = x.in_session.sent
-answer_sent e bytes load s c answer (MasterFirstData _ _ now whole x) = x.in_session.sent
-answer_sent e bytes load s c answer (MasterMoreData _ _ _ is now x) = x.in_session.sent
+answer_sent e bytes load s c answer h = grind arith

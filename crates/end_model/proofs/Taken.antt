@@ -1,8 +1,7 @@
 -- What is known of a frame that an end took: the tests that it passed, the phase in which it came, and which answer was
 -- sent.
-use Rattle.end_model.proofs.Common.{AfterConnection, AfterSession, Command, Deed, IsExchange, IsHandshake, MasterFirstData, MasterGoesOn, MasterMoreData, MasterNextPhase, MasterSettings, MasterStarts, OfConnection, OfMaster, OfParameter, OfSession, Setup, SlaveFirstData, SlaveGoesOn, SlaveMoreData, SlaveNextPhase, SlaveRejoins, SlaveStarts, State, Taking, after_phase, all_pieces, answer, download_frame, is_data, master_answer, phase_of, pieces_sent, received, state_of, with_answer, with_data}
-use Rattle.std.proofs.Common.{◌≡◌, ◌≢◌, ℕ, suc, ◌<◌, ◌≤◌, List, true, false, nat_lt, if◌then◌else◌, refl, sym, subst, ◌∙◌, arith}
-use Rattle.std.proofs.lemmas.Bool.Decides.{nat_tests}
+use Rattle.end_model.proofs.Common.{AfterConnection, AfterSession, Command, Deed, IsExchange, IsHandshake, MasterFirstData, MasterGoesOn, MasterMoreData, MasterNextPhase, MasterSettings, MasterStarts, OfConnection, OfMaster, OfParameter, OfSession, Setup, SlaveFirstData, SlaveGoesOn, SlaveMoreData, SlaveNextPhase, SlaveRejoins, SlaveStarts, State, Taking, after_phase, all_pieces, answer, download_frame, is_data, master_answer, nat_tests, phase_of, pieces_sent, received, state_of, with_answer, with_data}
+use Rattle.std.proofs.Common.{◌≡◌, ◌≢◌, ℕ, suc, ◌<◌, ◌≤◌, List, true, nat_lt, if◌then◌else◌, refl, sym, subst, ◌∙◌, arith, rules}
 use Rattle.fsoe_base.specs.declared.command.State.TheVariants as state
 use Rattle.fsoe_base.specs.declared.command.Command.TheVariants as command
 use Rattle.end_model.proofs.Heads.{IsInSession, master_frame}
@@ -31,9 +30,6 @@ answer_to s e bytes c load = answer s (received bytes c load e) (record { comman
 if-below : (k n : ℕ) (f g : List ℕ) → k < n → (if nat_lt k n then f else g) ≡ f
 if-below k n f g h = let b : nat_lt k n ≡ true = grind (arith, nat_tests) in simp b
 
-if-reached : (k n : ℕ) (f g : List ℕ) → n ≤ k → (if nat_lt k n then f else g) ≡ g
-if-reached k n f g h = let b : nat_lt k n ≡ false = grind (arith, nat_tests) in simp b
-
 -- a master's answer before the last piece of a phase, after it, and in Data
 next-piece : (ms : MasterSettings) (e : List Deed) (bytes load : List ℕ) (c : Command) → IsHandshake c → pieces_sent e (phase_of c) < all_pieces ms e (phase_of c)
     → answer_to (OfMaster ms) e bytes c load ≡ download_frame ms (received bytes c load e) c (suc (pieces_sent e (phase_of c)))
@@ -42,13 +38,10 @@ next-piece ms e bytes load c _ h = if-below _ _ _ _ h
 
 phase-ends : (ms : MasterSettings) (e : List Deed) (bytes load : List ℕ) (c : Command) → IsHandshake c → all_pieces ms e (phase_of c) ≤ pieces_sent e (phase_of c)
     → answer_to (OfMaster ms) e bytes c load ≡ after_phase ms (received bytes c load e) c
-phase-ends ms e bytes load c OfSession h = if-reached _ _ _ _ h
-phase-ends ms e bytes load c _ h = if-reached _ _ _ _ h
+phase-ends ms e bytes load c h k = search rules
 
 master-data : (ms : MasterSettings) (e : List Deed) (c : Command) → is_data c ≡ true → master_answer ms e c ≡ with_data (OfMaster ms) e
-master-data ms e command.FailSafeData h = refl
-master-data ms e command.ProcessData h = refl
-master-data ms e _ h = cc
+master-data ms e c h = grind arith
 
 -- which answer was sent
 pub answer_is : (e : List Deed) (bytes load : List ℕ) (s : Setup) (c : Command) (f : List ℕ) → Taking e bytes load s c f → f ≡ answer_to s e bytes c load
@@ -68,14 +61,6 @@ answer_is e bytes load s c f (MasterMoreData ms _ _ is now x) = x.is_made ∙ sy
 -- each frame that a master sends then is of a session
 pub master_answers : (e : List Deed) (bytes load : List ℕ) (ms : MasterSettings) (c : Command) (f : List ℕ) → Taking e bytes load (OfMaster ms) c f → IsInSession f
 master_answers e bytes load ms c f taking = subst IsInSession (sym (answer_is e bytes load (OfMaster ms) c f taking)) (master_frame ms (received bytes c load e) c)
-
--- a master takes a frame in the phase of its command
-pub master_phase : (e : List Deed) (bytes load : List ℕ) (ms : MasterSettings) (c : Command) (f : List ℕ) → Taking e bytes load (OfMaster ms) c f → state_of (OfMaster ms) e ≡ phase_of c
-master_phase e bytes load ms c f (MasterStarts _ _ now none frame zero made sent after) = now
-master_phase e bytes load ms c f (MasterGoesOn _ _ _ is now part x) = now
-master_phase e bytes load ms c f (MasterNextPhase _ _ next _ is now whole x) = now
-master_phase e bytes load ms c f (MasterFirstData _ _ now whole x) = now
-master_phase e bytes load ms c f (MasterMoreData _ _ _ is now x) = now ∙ sym (phase_of_data c is)
 
 -- an end that took data is in Data
 pub data_after : (e : List Deed) (bytes load : List ℕ) (s : Setup) (c : Command) (f : List ℕ) → Taking e bytes load s c f → is_data c ≡ true → state_of s (with_answer bytes c load f e) ≡ state.Data

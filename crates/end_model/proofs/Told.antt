@@ -1,11 +1,10 @@
 -- A deed tells what it did.
 use Rattle.end_model.proofs.Common.{Answers, Deed, Did, IsProper, IsRun, Move, Reaction, Setup, at_most_one, is_empty, step}
-use Rattle.std.proofs.Common.{◌≡◌, ℕ, List, true, not, refl, sym, ap}
+use Rattle.std.proofs.Common.{◌≡◌, ℕ, List, true, not, refl, rules}
 use Rattle.end_model.proofs.SoundRuns.{reacts, answer_sent}
 
 tells-sent : (s : Setup) (e : List Deed) (m : Move) (d : Did) (f : List ℕ) → Reaction s e m d f → d.sent ≡ not (is_empty f)
-tells-sent s e m d f (Answers bytes load c answer taken) = ap not (sym (answer_sent e bytes load s c answer taken))
-tells-sent s e m d f _ = refl
+tells-sent s e m d f h = search (rules, answer_sent)
 
 tells-one : (s : Setup) (e : List Deed) (m : Move) (d : Did) (f : List ℕ) → Reaction s e m d f → at_most_one d ≡ true
 tells-one s e m d f (Answers bytes load c answer taken) = refl

@@ -1,6 +1,6 @@
 -- Which frames of a session an end takes in each state.
 use Rattle.end_model.proofs.Common.{AfterConnection, AfterSession, Command, IsHandshake, IsNextPhase, OfConnection, OfParameter, OfSession, State, is_data, master_allows, phase_of, slave_allows}
-use Rattle.std.proofs.Common.{◌≡◌, ◌≢◌, Bool, true, false, not, refl}
+use Rattle.std.proofs.Common.{◌≡◌, ◌≢◌, Bool, true, false, not, refl, arith}
 use Rattle.fsoe_base.specs.declared.command.State.TheVariants as state
 use Rattle.fsoe_base.specs.declared.command.Command.TheVariants as command
 
@@ -13,8 +13,7 @@ pub data SlaveWay (done : State → Bool) (now : State) (c : Command) : Type 0 w
   Data : is_data c ≡ true → now ≡ state.Data → SlaveWay done now c
 
 off : (b : Bool) → not b ≡ true → b ≡ false
-off true h = cc
-off false h = refl
+off b h = grind arith
 
 pub slave_way : (done : State → Bool) (now : State) (c : Command) → c ≢ command.Reset → slave_allows now (done now) c ≡ true → SlaveWay done now c
 slave_way done now command.Reset n h = absurd (n refl)

@@ -1,5 +1,5 @@
 -- The entries that tell the deeds of an end to the outside. They are this profile's own.
-use Rattle.std.specs.Prelude.{List, [], ◌∷◌}
+use Rattle.std.specs.Prelude.{List, ◌∷◌}
 use Rattle.param_load.specs.declared.entry.Entry.{Entry}
 use Rattle.end_model.specs.Setup.{Setup, end_of}
 use Rattle.end_model.specs.Deed.{Deed}

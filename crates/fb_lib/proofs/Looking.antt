@@ -1,35 +1,27 @@
 -- A block that is stepped stands for its cycles and gives what looking back says.
-use Rattle.std.proofs.Common.{◌≡◌, ℕ, ◌<◌, nat_lt, if◌then◌else◌, not, ◌&&◌, ◌||◌, Bool, true, false, List, [], ◌∷◌, map, refl, sym, ap, ◌∙◌, arith}
+use Rattle.std.proofs.Common.{◌≡◌, ℕ, ◌<◌, if◌then◌else◌, Bool, List, [], ◌∷◌, map, refl, ap, ◌∙◌, arith, rules}
 use Rattle.std.specs.List.{list_any}
 use Rattle.fb_lib.specs.declared.held.Held.{Held}
 use Rattle.fb_lib.specs.declared.held.Held.TheVariants as held
 use Rattle.fb_lib.specs.declared.kind.BlockKind.{BlockKind}
 use Rattle.fb_lib.specs.declared.kind.BlockKind.TheVariants as kind
 use Rattle.fb_lib.specs.declared.two_hand.TwoHand.{TwoHand}
-use Rattle.fb_lib.specs.Cycle.{Cycle, first, second}
-use Rattle.fb_lib.specs.LookBack.{run, since}
-use Rattle.fb_lib.specs.Value.{ticks, since_input, Watched, disagrees, is_late, is_released, watched, feedback, value}
+use Rattle.fb_lib.specs.Cycle.{Cycle, first}
+use Rattle.fb_lib.specs.LookBack.{run}
+use Rattle.fb_lib.specs.Value.{ticks, since_input, Watched, value}
 use Rattle.fb_lib.specs.Steps.{BlockView, risen, next_held, next_block, told}
 use Rattle.fb_lib.specs.Standing.{BlockFollows, BlockGives}
 use Rattle.fb_lib.specs.Kept.{held_of}
-use Rattle.fb_lib.proofs.Hands.{hands_of-next, is_on-hands_of}
-use Rattle.fb_lib.proofs.Ticks.{ticks-more, on_age-next, on_told-is, off_left-next, off_told-is}
+use Rattle.fb_lib.proofs.Hands.{hands_of-next}
+use Rattle.fb_lib.proofs.Ticks.{on_age-next, off_left-next}
+use Rattle.std.proofs.lemmas.Grind.{common_steps}
 
 -- for how long the contactor hasn't followed, after one more cycle
 age-next : (q : Bool) (w : Watched) (ws : List Watched) → (if q then risen (ticks (map (λ v. v.cycle) ws)) w.cycle.ticked else 0) ≡ ticks (map (λ v. v.cycle) (if q then w ∷ ws else []))
-age-next true w ws = sym (ticks-more w.cycle (map (λ v. v.cycle) ws))
-age-next false w ws = refl
-
--- a contactor that hasn't followed for so long now
-abbrev aged : ℕ → Bool → Bool → Bool → ℕ → Held
-aged n bad cmd fb age =
-    let now_bad = not (not cmd && fb) && (nat_lt n age || bad) in
-    held.Feedback (record { on = cmd && not now_bad; age = age; bad = now_bad })
+age-next q w ws = grind (arith, common_steps)
 
 feedback-next : (n : ℕ) (e : List Cycle) (c : Cycle) → next_held n (held_of kind.Feedback n e) c ≡ held_of kind.Feedback n (c ∷ e)
-feedback-next n e c =
-    let w : Watched = record { cycle = c; output = feedback n e } in
-    ap (aged n (since (is_late n) (λ v. not (is_released v)) (watched n e)) (first c) (second c)) (age-next (disagrees w) w (run disagrees (watched n e)))
+feedback-next n e c = search (rules, age-next)
 
 -- what a block keeps goes on as looking back says
 next-is : (k : BlockKind) (n : ℕ) (e : List Cycle) (c : Cycle) → n < 65536 → next_held n (held_of k n e) c ≡ held_of k n (c ∷ e)
@@ -41,10 +33,7 @@ next-is _ n e c h = refl
 
 -- what it gives is the value
 told-is : (k : BlockKind) (n : ℕ) (e : List Cycle) (c : Cycle) → n < 65536 → told n (held_of k n (c ∷ e)) c ≡ value k n (c ∷ e)
-told-is kind.TwoHand n e c h = is_on-hands_of n (c ∷ e)
-told-is kind.OnDelay n e c h = on_told-is n (ticks (run first (c ∷ e))) (first c)
-told-is kind.OffDelay n e c h = off_told-is n (ticks (since_input (c ∷ e))) (first c) (list_any first e)
-told-is _ n e c h = refl
+told-is k n e c h = grind arith
 
 pub follows_by : (old new : BlockView) (c : Cycle) → old.n < 65536 → new ≡ next_block old c → BlockFollows old c new
 follows_by old new c fits is = record {

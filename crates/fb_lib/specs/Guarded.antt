@@ -1,5 +1,5 @@
 -- Which blocks are false whenever some of their inputs are.
-use Rattle.std.specs.Prelude.{Bool, true, false, ◌||◌, List, [], get_or}
+use Rattle.std.specs.Prelude.{Bool, true, false, ◌||◌, List, get_or}
 use Rattle.std.specs.List.{list_all, list_any}
 use Rattle.fb_lib.specs.declared.kind.BlockKind.{BlockKind}
 use Rattle.fb_lib.specs.declared.kind.BlockKind.TheVariants as kind

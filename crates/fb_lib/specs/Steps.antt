@@ -8,7 +8,6 @@ use Rattle.fb_lib.specs.declared.feedback.Feedback.{Feedback}
 use Rattle.fb_lib.specs.declared.held.Held.{Held}
 use Rattle.fb_lib.specs.declared.held.Held.TheVariants as held
 use Rattle.fb_lib.specs.declared.kind.BlockKind.{BlockKind}
-use Rattle.fb_lib.specs.declared.kind.BlockKind.TheVariants as kind
 use Rattle.fb_lib.specs.declared.latch.Latch.{Latch}
 use Rattle.fb_lib.specs.declared.two_hand.TwoHand.{TwoHand}
 use Rattle.fb_lib.specs.declared.two_hand.TwoHand.TheVariants as hands

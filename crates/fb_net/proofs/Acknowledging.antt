@@ -1,8 +1,6 @@
 -- The drive of an emergency stop whose acknowledgement comes as two bits.
-use Rattle.fb_net.proofs.Common.{Bit, NetCycle, at_number, bit_at, block_cycles, block_values, driven_images, has_bit, is_same_bit, second}
-use Rattle.std.proofs.Common.{◌≡◌, inl, inr, ℕ, Bool, true, false, not, ◌&&◌, ◌||◌, List, [], ◌∷◌, take, if◌then◌else◌, refl, sym, ap, ap₂, ◌∙◌, eq-eqb}
-use Rattle.std.specs.List.{list_any}
-use Rattle.std.proofs.lemmas.Bool.{cases_Bool}
+use Rattle.fb_net.proofs.Common.{Bit, NetCycle, at_number, bit_at, block_cycles, block_values, cases_Bool, driven_images, has_bit, is_same_bit, list_any, second}
+use Rattle.std.proofs.Common.{◌≡◌, inl, inr, ℕ, Bool, true, false, not, ◌&&◌, ◌||◌, List, [], ◌∷◌, take, refl, sym, ap, ap₂, ◌∙◌, eq-eqb, arith, rules}
 use Rattle.fb_lib.specs.LookBack.{is_now, run}
 use Rattle.fb_net.specs.declared.wire.Wire.TheVariants as wire
 use Rattle.fb_net.specs.Acknowledged.{stop_blocks, stop_drives, is_on, may_run, in_order, is_acknowledged, is_let_go}
@@ -11,11 +9,7 @@ use Rattle.fb_net.proofs.Driven.{driven_bit}
 -- what was seen, after one more cycle
 seen-more : (p : NetCycle → Bool) (ps : List (NetCycle → Bool)) (q : NetCycle → Bool) (c : NetCycle) (e : List NetCycle)
     → in_order (p ∷ ps) (run q (c ∷ e)) ≡ (q c && ((p c && in_order ps (run q (c ∷ e))) || in_order (p ∷ ps) (run q e)))
-seen-more p ps q c e = by (q c)
-  where
-    by : (b : Bool) → in_order (p ∷ ps) (if b then c ∷ run q e else []) ≡ (b && ((p c && in_order ps (if b then c ∷ run q e else [])) || in_order (p ∷ ps) (run q e)))
-    by true = refl
-    by false = refl
+seen-more p ps q c e = grind arith
 
 -- the second block: the acknowledgement was seen released
 released-seen : (s t p r : Bit) (e : List NetCycle) → at_number (block_values (stop_blocks s t p r) e) 2 false ≡ in_order (is_on r ∷ []) (run (may_run s t) e)
@@ -24,8 +18,7 @@ released-seen s t p r (c ∷ e) =
     ap (λ (x : Bool). may_run s t c && (is_on r c || x)) (released-seen s t p r e) ∙ set (may_run s t c) (is_on r c) _ ∙ sym (seen-more (is_on r) [] (may_run s t) c e)
   where
     set : (s r old : Bool) → (s && (r || old)) ≡ (s && ((r && true) || old))
-    set s true old = refl
-    set s false old = refl
+    set s r old = grind arith
 
 -- the fourth: and pressed after that
 pressed-seen : (s t p r : Bit) (e : List NetCycle)
@@ -36,31 +29,18 @@ pressed-seen s t p r (c ∷ e) =
     ∙ set (may_run s t c) (is_on p c) _ _ ∙ sym (seen-more (is_on p) (is_on r ∷ []) (may_run s t) c e)
   where
     set : (s p seen old : Bool) → (s && ((seen && (p && true)) || old)) ≡ (s && ((p && seen) || old))
-    set s true true old = refl
-    set s true false old = refl
-    set s false true old = refl
-    set s false false old = refl
+    set s p seen old = grind arith
 
 -- the fifth, in the cycle before: and is released again
 abbrev was : Bit → Bit → Bit → Bit → List NetCycle → Bool
 was s t p r e = is_now second (block_cycles (block_values (take 5 (stop_blocks s t p r))) (wire.Block 1 ∷ wire.Block 5 ∷ []) e)
 
 was-released : (s t p r : Bit) (e : List NetCycle) → was s t p r e ≡ (in_order (is_on p ∷ is_on r ∷ []) (run (may_run s t) e) && (is_now (is_on r) e && true))
-was-released s t p r [] = refl
-was-released s t p r (c ∷ e) = ap (λ (x : Bool). x && (is_on r c && true)) (pressed-seen s t p r (c ∷ e))
+was-released s t p r e = search (rules, pressed-seen)
 
 released-again : (s t p r : Bit) (e : List NetCycle)
     → (in_order (is_on p ∷ is_on r ∷ []) (run (may_run s t) e) && (is_now (is_on r) e && true)) ≡ true → is_acknowledged s t p r e ≡ true
-released-again s t p r [] on = absurd (cc)
-released-again s t p r (c ∷ e) on =
-    seen-more (is_on r) (is_on p ∷ is_on r ∷ []) (may_run s t) c e
-    ∙ both _ (may_run s t c) (is_on r c) _ (is_acknowledged s t p r e) (seen-more (is_on p) (is_on r ∷ []) (may_run s t) c e) on
-  where
-    both : (seen s r some old : Bool) → seen ≡ (s && some) → (seen && (r && true)) ≡ true → (s && ((r && seen) || old)) ≡ true
-    both false s r some old is on = absurd (cc)
-    both true true true some old is on = refl
-    both true true false some old is on = absurd (cc)
-    both true false r some old is on = absurd (cc)
+released-again s t p r e h = search rules
 
 -- the last: it rises where that was first seen, and stays on
 stop-is : (s t p r : Bit) (e : List NetCycle) → at_number (block_values (stop_blocks s t p r) e) 6 false ≡ is_acknowledged s t p r e
@@ -70,12 +50,7 @@ stop-is s t p r (c ∷ e) =
     ∙ rises (may_run s t c) (is_on r c) _ _ _ (λ on. released-again s t p r e (sym (was-released s t p r e) ∙ on)) ∙ sym (seen-more (is_on r) (is_on p ∷ is_on r ∷ []) (may_run s t) c e)
   where
     rises : (s r seen was old : Bool) → (was ≡ true → old ≡ true) → (s && (((seen && (r && true)) && not was) || old)) ≡ (s && ((r && seen) || old))
-    rises false r seen was old again = refl
-    rises true false false was old again = refl
-    rises true false true was old again = refl
-    rises true true false was old again = refl
-    rises true true true false old again = refl
-    rises true true true true old again = again refl
+    rises s r seen was old h = grind arith
 
 same-bit : (b : Bit) → is_same_bit b b ≡ true
 same-bit b = ap₂ (λ (x y : Bool). x && y) (eq-eqb b.link b.link refl) (eq-eqb b.bit b.bit refl)
@@ -88,32 +63,16 @@ drive_is s t p r d lens c e there =
     ∙ alone (at_number (block_values (stop_blocks s t p r) (c ∷ e)) 6 false) ∙ stop-is s t p r (c ∷ e)
   where
     alone : (x : Bool) → (x || false) ≡ x
-    alone true = refl
-    alone false = refl
+    alone x = grind arith
 
 -- it goes on at a release
 pub goes_on : (s t p r : Bit) (c : NetCycle) (e : List NetCycle) → is_acknowledged s t p r (c ∷ e) ≡ true → is_acknowledged s t p r e ≡ false
     → is_let_go p r (c ∷ e) ≡ true
-goes_on s t p r c e on off =
-    let_go _ (is_on r c) (is_on p c) (is_now (is_on r) e) _ (may_run s t c) _ _ (sym (seen-more (is_on r) (is_on p ∷ is_on r ∷ []) (may_run s t) c e) ∙ on) off
-    (seen-more (is_on p) (is_on r ∷ []) (may_run s t) c e) (released-again s t p r e)
-  where
-    let_go : (old r p was before s some seen : Bool) → (s && ((r && seen) || old)) ≡ true → old ≡ false → seen ≡ (s && ((p && some) || before))
-        → ((before && (was && true)) ≡ true → old ≡ true) → (r && (p || not was)) ≡ true
-    let_go true r p was before s some seen on off is again = absurd (cc)
-    let_go false true true was before s some seen on off is again = refl
-    let_go false true false false before s some seen on off is again = refl
-    let_go false true false true true s some seen on off is again = let h : false ≡ true = again refl in absurd (cc)
-    let_go false true false true false true some true on off is again = absurd (cc)
-    let_go false true false true false true some false on off is again = absurd (cc)
-    let_go false true false true false false some seen on off is again = on
-    let_go false false p was before true some seen on off is again = on
-    let_go false false p was before false some seen on off is again = on
+goes_on s t p r c e h k = search rules
 
 -- what was never seen wasn't seen first, nor second
 neither : (a b : Bool) → (a || b) ≡ false → (a ≡ false) × (b ≡ false)
-neither true b h = absurd (cc)
-neither false b h = (refl, h)
+neither a b h = grind arith
 
 not-first : (p : NetCycle → Bool) (ps : List (NetCycle → Bool)) (e : List NetCycle) → list_any p e ≡ false → in_order (p ∷ ps) e ≡ false
 not-first p ps [] h = refl
@@ -127,8 +86,7 @@ not-second q p ps (c ∷ e) h =
     ap₂ (λ (x y : Bool). (q c && x) || y) (not-first p ps (c ∷ e) h) (not-second q p ps e ((neither (p c) (list_any p e) h).1)) ∙ none (q c)
   where
     none : (a : Bool) → ((a && false) || false) ≡ false
-    none true = refl
-    none false = refl
+    none a = grind arith
 
 pub stays_off : (s t p r : Bit) (e : List NetCycle) → (list_any (is_on p) (run (may_run s t) e) && list_any (is_on r) (run (may_run s t) e)) ≡ false
     → is_acknowledged s t p r e ≡ false

@@ -1,11 +1,7 @@
 -- The bits of images in which bits are set.
-use Rattle.fb_net.proofs.Common.{Bit, at_number, bit_at, bit_of, images_with, is_same_bit, with_bit, with_on, zero_images}
-use Rattle.std.proofs.Common.{◌≡◌, ◌≢◌, ◌⊎◌, inl, inr, ℕ, zero, suc, ◌/◌, ◌%◌, ◌^◌, ◌<◌, ◌≤◌, ◌==◌, true, false, not, ◌&&◌, List, [], ◌∷◌, length, get_or, map, fold, replicate, slice_index, slice_set, bit_and, bit_or, refl, sym, ap, ◌∙◌, arith}
-use Rattle.std.proofs.lemmas.Bool.{cases_eq}
-use Rattle.std.proofs.lemmas.Bool.Decides.{nat_tests}
-use Rattle.std.proofs.lemmas.Nat.{pow_apart, and_or_apart}
+use Rattle.fb_net.proofs.Common.{Bit, and_or_apart, bit_at, bit_of, cases_eq, common_steps, get_or-set_other, get_or-set_same, images_with, is_same_bit, length-set, pow_apart, set_past, with_bit, with_on, zero_images}
+use Rattle.std.proofs.Common.{◌≡◌, ◌≢◌, ◌⊎◌, inl, inr, ℕ, zero, suc, ◌/◌, ◌%◌, ◌^◌, ◌<◌, ◌≤◌, ◌==◌, true, false, not, List, [], ◌∷◌, length, get_or, map, fold, replicate, slice_index, slice_set, bit_and, bit_or, refl, sym, ap, ◌∙◌, arith, rules}
 use Rattle.std.specs.Int.Bits.{and_zero_l}
-use Rattle.std.proofs.lemmas.List.{get_or-set_same, get_or-set_other, set_past, length-set}
 use Rattle.std.proofs.Math.Seq.{map-set_same}
 
 -- which of two numbers is less
@@ -22,21 +18,8 @@ same-byte bytes place a b h =
       | inr le ↦ ap (λ (xs : List ℕ). bit_and (slice_index xs place) (2 ^ b)) (set_past bytes place (bit_or (slice_index bytes place) (2 ^ a)) le)
     ]
 
--- the byte in which another bit stands
-byte-apart : (bytes : List ℕ) (a b : ℕ) → a ≢ b
-    → bit_and (slice_index (with_bit bytes a true) (b / 8)) (2 ^ (b % 8)) ≡ bit_and (slice_index bytes (b / 8)) (2 ^ (b % 8))
-byte-apart bytes a b h =
-    elim (cases_eq (b / 8) (a / 8)) [
-      | inl e ↦
-          let apart : (a % 8) ≢ (b % 8) = λ q. h (omega (arith, e, q)) in
-          ap (λ p. bit_and (slice_index (with_bit bytes a true) p) (2 ^ (b % 8))) e
-          ∙ same-byte bytes (a / 8) (a % 8) (b % 8) apart
-          ∙ ap (λ p. bit_and (slice_index bytes p) (2 ^ (b % 8))) (sym e)
-      | inr ne ↦ ap (λ x. bit_and x (2 ^ (b % 8))) (get_or-set_other bytes (a / 8) (b / 8) (bit_or (slice_index bytes (a / 8)) (2 ^ (a % 8))) 0 ne)
-    ]
-
 bit-apart : (bytes : List ℕ) (a b : ℕ) → a ≢ b → bit_of (with_bit bytes a true) b ≡ bit_of bytes b
-bit-apart bytes a b h = ap (λ x. not (x == 0)) (byte-apart bytes a b h)
+bit-apart bytes a b h = search (rules, same-byte)
 
 -- another bit of many images
 image-apart : (images : List (List ℕ)) (k j a b : ℕ) → (j ≡ k → a ≢ b)
@@ -54,22 +37,13 @@ image-apart images k j a b h =
       | inr ne ↦ ap (λ (xs : List ℕ). bit_of xs b) (get_or-set_other images k j (with_bit (get_or images k []) a true) [] ne)
     ]
 
-on-apart : (images : List (List ℕ)) (l m a b : ℕ) → (m ≡ l → a ≢ b)
-    → bit_of (at_number (with_on images l a) m []) b ≡ bit_of (at_number images m []) b
-on-apart images (suc k) (suc j) a b h = image-apart images k j a b (λ e. h (ap (λ n. suc n) e))
-on-apart images _ _ a b h = refl
-
-differs : (l m a b : ℕ) → (l == m && a == b) ≡ false → m ≡ l → a ≢ b
-differs l m a b h e q = grind (arith, nat_tests)
-
 -- a bit that is set leaves every other bit
 pub other_bit : (images : List (List ℕ)) (d o : Bit) → is_same_bit d o ≡ false → bit_at (with_on images d.link d.bit) o ≡ bit_at images o
-other_bit images d o h = on-apart images d.link o.link d.bit o.bit (differs d.link o.link d.bit o.bit h)
+other_bit images d o h = search (rules, image-apart)
 
 -- images of zeros have no bit set
 replicate-zero : (n j : ℕ) → slice_index (replicate n 0) j ≡ 0
-replicate-zero (suc n) (suc j) = replicate-zero n j
-replicate-zero _ _ = refl
+replicate-zero n j = grind (arith, common_steps)
 
 pub no_bit : (bytes : List ℕ) (b : ℕ) → slice_index bytes (b / 8) ≡ 0 → bit_of bytes b ≡ false
 no_bit bytes b h = ap (λ x. not (bit_and x (2 ^ (b % 8)) == 0)) h ∙ ap (λ x. not (x == 0)) (and_zero_l (2 ^ (b % 8)))
@@ -79,12 +53,8 @@ zero-image [] k b = no_bit [] b refl
 zero-image (n ∷ ns) zero b = no_bit (replicate n 0) b (replicate-zero n (b / 8))
 zero-image (n ∷ ns) (suc k) b = zero-image ns k b
 
-zero-number : (lens : List ℕ) (l b : ℕ) → bit_of (at_number (zero_images lens) l []) b ≡ false
-zero-number lens zero b = no_bit [] b refl
-zero-number lens (suc k) b = zero-image lens k b
-
 pub zero_bit : (lens : List ℕ) (o : Bit) → bit_at (zero_images lens) o ≡ false
-zero_bit lens o = zero-number lens o.link o.bit
+zero_bit lens o = search (rules, no_bit, zero-image)
 
 -- the lengths
 pub length_with_on : (images : List (List ℕ)) (l b : ℕ) → map length (with_on images l b) ≡ map length images
@@ -98,8 +68,7 @@ length-all images [] = refl
 length-all images (b ∷ bits) = length-all (with_on images b.link b.bit) bits ∙ length_with_on images b.link b.bit
 
 length-replicate : (n : ℕ) → length {A = ℕ} (replicate n 0) ≡ n
-length-replicate zero = refl
-length-replicate (suc n) = ap (λ k. suc k) (length-replicate n)
+length-replicate n = grind (arith, common_steps)
 
 pub length_zeros : (lens : List ℕ) → map length (zero_images lens) ≡ lens
 length_zeros [] = refl

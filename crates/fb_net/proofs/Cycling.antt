@@ -1,6 +1,6 @@
 -- A cycle of a net.
-use Rattle.fb_net.proofs.Common.{BlockSpec, BlocksStand, Drive, KeepsPlan, NetBlock, NetCycle, NetFollows, NetGives, NetView, bit_at, bits_on, driven_images, guards_of, holds_of, is_output_guarded, net_holds, net_rule, plan, rule_of, run_blocks, run_values}
-use Rattle.std.proofs.Common.{◌≡◌, ℕ, Bool, List, [], ◌∷◌, map, length, sym, ap, ap₂, subst, ◌∙◌}
+use Rattle.fb_net.proofs.Common.{BlockSpec, BlocksStand, KeepsPlan, NetCycle, NetFollows, NetGives, NetView, bit_at, driven_images, guards_of, net_holds, plan, rule_of}
+use Rattle.std.proofs.Common.{◌≡◌, ℕ, Bool, List, [], ◌∷◌, map, length, sym, ap, subst, ◌∙◌, rules}
 use Rattle.failsafe_io.specs.Application.{GuardsBy}
 use Rattle.fb_net.specs.Ran.{net_answer, Ran}
 use Rattle.fb_net.proofs.Looking.{values_are, blocks_stand}
@@ -29,32 +29,24 @@ keeps old new c lens outputs ran = record { plan = plan-is old new c lens output
 
 pub answers : (old new : NetView) (c : NetCycle) (lens : List ℕ) (outputs : List (List ℕ)) → Ran old c lens new outputs
     → outputs ≡ (net_answer old c.ticked c.inputs lens).outputs
-answers old new c lens outputs ran =
-    ran.outputs ∙ ap (λ (bs : List BlockSpec). driven_images old.drives (run_values [] c bs) c.inputs lens) (sym (all_restored-back old.blocks ran.ready))
+answers old new c lens outputs h = search (rules, all_restored-back)
 
 pub holds : (old new : NetView) (c : NetCycle) (lens : List ℕ) (outputs : List (List ℕ)) → Ran old c lens new outputs
     → net_holds new ≡ (net_answer old c.ticked c.inputs lens).holds
-holds old new c lens outputs ran =
-    ap (λ (bs : List BlockSpec). holds_of bs) ran.blocks
-    ∙ ap (λ (bs : List BlockSpec). holds_of (run_blocks [] c bs)) (sym (all_restored-back old.blocks ran.ready))
+holds old new c lens outputs h = search (rules, all_restored-back)
 
 pub rule_stays : (old new : NetView) (c : NetCycle) (lens : List ℕ) (outputs : List (List ℕ)) → Ran old c lens new outputs
     → rule_of new ≡ rule_of old
-rule_stays old new c lens outputs ran =
-    ap₂ (λ (ps : List NetBlock) (ds : List Drive). net_rule ps ds) (plan-is old new c lens outputs ran) ran.drives
+rule_stays old new c lens outputs h = search (rules, plan-is)
 
 pub guards_stay : (old new : NetView) (c : NetCycle) (lens : List ℕ) (outputs : List (List ℕ)) → Ran old c lens new outputs
     → guards_of new ≡ guards_of old
-guards_stay old new c lens outputs ran =
-    ap₂ (λ (ps : List NetBlock) (ds : List Drive). is_output_guarded ps ds) (plan-is old new c lens outputs ran) ran.drives
+guards_stay old new c lens outputs h = search (rules, plan-is)
 
 pub lengths : (old new : NetView) (c : NetCycle) (lens : List ℕ) (outputs : List (List ℕ)) → Ran old c lens new outputs → map length outputs ≡ lens
-lengths old new c lens outputs ran =
-    ap (λ (xs : List (List ℕ)). map length xs) ran.outputs ∙ lengths_with lens (bits_on old.drives (run_values [] c old.blocks) c.inputs)
+lengths old new c lens outputs h = search (rules, lengths_with)
 
 pub guarded : (old new : NetView) (c : NetCycle) (lens : List ℕ) (outputs : List (List ℕ)) → Ran old c lens new outputs
     → GuardsBy (guards_of old) c.inputs outputs
 guarded old new c lens outputs ran = λ o i g zero_in.
     ap (λ (xs : List (List ℕ)). bit_at xs o) ran.outputs ∙ off_output old.drives old.blocks c lens o i ran.ready g zero_in
-
--- what the two calls of a cycle come to

@@ -1,18 +1,15 @@
 -- A net without a fault can be stepped.
-use Rattle.fb_net.proofs.Common.{AllReady, BlockSpec, BlocksStand, Drive, NetCycle, NetStands, block_fault, blocks_fault, drives_fault, first_fault, net_block, takes, with_block}
-use Rattle.std.proofs.Common.{◌≡◌, ℕ, suc, ◌+◌, IsTrue, Bool, true, false, List, [], ◌∷◌, length, Option, Some, None, refl, if◌then◌else◌, arith, rules}
-use Rattle.std.specs.List.{All}
+use Rattle.fb_net.proofs.Common.{All, AllReady, BlockSpec, BlocksStand, Drive, NetCycle, NetStands, block_fault, blocks_fault, drives_fault, first_fault, net_block, takes, with_block}
+use Rattle.std.proofs.Common.{◌≡◌, ℕ, suc, ◌+◌, IsTrue, Bool, List, [], ◌∷◌, length, Option, Some, None, if◌then◌else◌, arith}
 use Rattle.std.specs.Option.{option_or}
 use Rattle.fb_net.specs.declared.fault.NetFault.{NetFault}
 use Rattle.fb_net.specs.New.{IsNew}
 
 both-none : (a b : Option NetFault) → option_or a b ≡ None → (a ≡ None) × (b ≡ None)
-both-none None b h = (refl, h)
-both-none (Some f) b h = absurd (cc)
+both-none a b h = grind arith
 
 allowed : (q : Bool) (f : NetFault) (rest : Option NetFault) → (if q then rest else Some f) ≡ None → IsTrue q
-allowed true f rest h = search rules
-allowed false f rest h = absurd (cc)
+allowed q f rest h = grind arith
 
 all-first : (b : BlockSpec) (bs : List BlockSpec) → All IsNew (b ∷ bs) → IsNew b
 all-first b bs h = h 0 b (omega arith)

@@ -1,13 +1,11 @@
 -- What is guarded is false.
-use Rattle.fb_net.proofs.Common.{AllReady, AreOff, Bit, BlockKind, BlockSpec, Cycle, Drive, IsReady, NetBlock, NetCycle, at_number, bit_at, bit_of, bits_on, block_cycles, block_values, cycle_of, driven_images, given, guarded_blocks, guarded_from, is_output_guarded, is_same_bit, is_wire_guarded, next_held, plan, run_values, told, values_from, wire_value, with_block, with_on, zero_images}
-use Rattle.std.proofs.Common.{◌≡◌, ℕ, zero, suc, ◌+◌, ◌<◌, length, drop, ◌==◌, Bool, true, false, not, cond, ◌&&◌, ◌||◌, List, [], ◌∷◌, ◌++◌, get_or, map, fold, filter, refl, sym, ap, ap₂, ◌∙◌, arith}
-use Rattle.std.specs.List.{list_all}
+use Rattle.fb_net.proofs.Common.{AllReady, AreOff, Bit, BlockSpec, Cycle, Drive, IsReady, NetBlock, NetCycle, at_drop_more, at_number, bit_at, bits_on, block_cycles, block_values, cycle_of, driven_images, given, guarded_blocks, guarded_from, is_output_guarded, is_same_bit, is_wire_guarded, list_all, next_held, plan, run_values, told, values_from, wire_value, with_block, with_on, zero_images}
+use Rattle.fb_lib.specs.declared.kind.BlockKind.{BlockKind}
+use Rattle.std.proofs.Common.{◌≡◌, ℕ, zero, suc, ◌+◌, ◌<◌, length, drop, ◌==◌, Bool, true, false, not, cond, ◌&&◌, ◌||◌, List, [], ◌∷◌, ◌++◌, get_or, map, fold, filter, refl, sym, ap, ap₂, ◌∙◌, arith, rules}
 use Rattle.std.proofs.lemmas.Bool.Decides.{nat_tests}
-use Rattle.std.proofs.lemmas.List.{at_drop_more}
 use Rattle.fb_lib.specs.Guarded.{is_guarded}
 use Rattle.fb_lib.proofs.Guarding.{told_off, value_off as block_off}
 use Rattle.fb_net.specs.declared.wire.Wire.{Wire}
-use Rattle.fb_net.specs.declared.wire.Wire.TheVariants as wire
 use Rattle.fb_net.proofs.Holding.{kind_is}
 use Rattle.fb_net.proofs.Bits.{other_bit, zero_bit}
 
@@ -18,8 +16,7 @@ off-place (x ∷ gs) (v ∷ vs) (suc k) off g = off-place gs vs k off.1 g
 off-place _ _ k off g = absurd off
 
 off-number : (gs vs : List Bool) (k : ℕ) → AreOff gs vs → at_number gs k false ≡ true → at_number vs k false ≡ false
-off-number gs vs zero off g = refl
-off-number gs vs (suc k) off g = off-place gs vs k off g
+off-number gs vs k h l = search (rules, off-place)
 
 off-more : (gs vs : List Bool) (g v : Bool) → AreOff gs vs → (g ≡ true → v ≡ false) → AreOff (gs ++ g ∷ []) (vs ++ v ∷ [])
 off-more [] [] g v off h = (h, tt)
@@ -29,16 +26,10 @@ off-more _ _ g v off h = absurd off
 pub same_numbers : (l m a b : ℕ) → (l == m && a == b) ≡ true → (l ≡ m) × (a ≡ b)
 same_numbers l m a b h = (grind (arith, nat_tests), grind (arith, nat_tests))
 
-off-same : (inputs : List (List ℕ)) (b i : Bit) → is_same_bit b i ≡ true → bit_at inputs i ≡ false → bit_at inputs b ≡ false
-off-same inputs b i h off =
-    let t : (b.link ≡ i.link) × (b.bit ≡ i.bit) = same_numbers b.link i.link b.bit i.bit h in
-    ap₂ (λ (l x : ℕ). bit_of (at_number inputs l []) x) t.0 t.1 ∙ off
-
 -- what a guarded wire reads is false
 off-wire : (i : Bit) (gs vs : List Bool) (inputs : List (List ℕ)) (w : Wire) → bit_at inputs i ≡ false → AreOff gs vs
     → is_wire_guarded i gs w ≡ true → wire_value vs inputs w ≡ false
-off-wire i gs vs inputs (wire.Input b) zero_in off g = off-same inputs b i g zero_in
-off-wire i gs vs inputs (wire.Block k) zero_in off g = off-number gs vs k off g
+off-wire i gs vs inputs w h k l = search (rules, off-number)
 
 off-wires : (i : Bit) (gs vs : List Bool) (inputs : List (List ℕ)) (ws : List Wire) → bit_at inputs i ≡ false → AreOff gs vs
     → AreOff (map (is_wire_guarded i gs) ws) (map (wire_value vs inputs) ws)
@@ -70,13 +61,10 @@ set-more true images d rest o set old more = more (with_on images d.out.link d.o
 set-more false images d rest o set old more = more images old
 
 both-true : (a b : Bool) → (a && b) ≡ true → (a ≡ true) × (b ≡ true)
-both-true true b h = (refl, h)
-both-true false b h = absurd (cc)
+both-true a b h = grind arith
 
 not-same : (same guarded on : Bool) → (not same || guarded) ≡ true → (guarded ≡ true → on ≡ false) → on ≡ true → same ≡ false
-not-same false guarded on h off is = refl
-not-same true true on h off is = let e : on ≡ false = off refl in cc
-not-same true false on h off is = cc
+not-same same guarded on h k l = grind arith
 
 off-drives : (i o : Bit) (gs vs : List Bool) (inputs : List (List ℕ)) (drives : List Drive) (images : List (List ℕ))
     → bit_at inputs i ≡ false → AreOff gs vs → list_all (λ d. not (is_same_bit d.out o) || is_wire_guarded i gs d.from) drives ≡ true

@@ -1,9 +1,7 @@
 -- Inputs as outputs, made one by one.
-use Rattle.fb_net.proofs.Common.{Bit, at_number, bit_at, bit_of, is_same_bit, mirror_images, mirrored}
-use Rattle.std.proofs.Common.{◌≡◌, ◌⊎◌, inl, inr, ℕ, zero, suc, ◌+◌, ◌/◌, ◌%◌, ◌^◌, ◌<◌, ◌==◌, true, false, not, List, [], ◌∷◌, ◌++◌, length, get_or, map, take, drop, bit_and, slice_index, slice_set, refl, ap, ap₂, ◌∙◌, arith, add-one}
-use Rattle.std.proofs.lemmas.Grind.{common_steps}
+use Rattle.fb_net.proofs.Common.{Bit, at_number, bit_at, bit_of, common_steps, is_same_bit, mirror_images, mirrored}
+use Rattle.std.proofs.Common.{◌≡◌, ◌⊎◌, inl, inr, ℕ, zero, suc, ◌+◌, ◌<◌, true, false, List, [], ◌∷◌, ◌++◌, length, get_or, map, take, drop, slice_index, slice_set, refl, ap, ap₂, arith, add-one, rules}
 use Rattle.fb_net.proofs.Bits.{no_bit}
-use Rattle.fb_net.proofs.Guarding.{same_numbers}
 
 pub length_mirrored : (xs : List ℕ) (n : ℕ) → length (mirrored xs n) ≡ n
 length_mirrored xs zero = refl
@@ -18,8 +16,7 @@ mirrored-suc (x ∷ xs) (suc n) = ap (λ (ys : List ℕ). x ∷ ys) (mirrored-su
 
 pub mirrored_more : (xs old new : List ℕ) (n byte : ℕ) → old ≡ mirrored xs n → byte ≡ slice_index xs n → new ≡ old ++ byte ∷ []
     → new ≡ mirrored xs (n + 1)
-mirrored_more xs old new n byte e f made =
-    made ∙ ap₂ (λ (ys : List ℕ) (b : ℕ). ys ++ b ∷ []) e f ∙ rw add-one (mirrored-suc xs n)
+mirrored_more xs old new n byte h k l = search (rules, mirrored-suc)
 
 pub counted_more : (old new : List ℕ) (n byte : ℕ) → length old ≡ n → new ≡ old ++ byte ∷ [] → length new ≡ n + 1
 counted_more old new n byte e made = grind (arith, common_steps)
@@ -52,11 +49,7 @@ mirrored-at (x ∷ xs) (suc n) (suc j) = mirrored-at xs n j
 mirrored-at _ _ _ = inr refl
 
 mirrored-bit : (xs : List ℕ) (n b : ℕ) → bit_of xs b ≡ false → bit_of (mirrored xs n) b ≡ false
-mirrored-bit xs n b h =
-    elim (mirrored-at xs n (b / 8)) [
-      | inl e ↦ ap (λ x. not (bit_and x (2 ^ (b % 8)) == 0)) e ∙ h
-      | inr e ↦ no_bit (mirrored xs n) b e
-    ]
+mirrored-bit xs n b h = search (rules, mirrored-at)
 
 images-bit : (inputs : List (List ℕ)) (ns : List ℕ) (k b : ℕ) → bit_of (get_or inputs k []) b ≡ false → bit_of (get_or (mirror_images inputs ns) k []) b ≡ false
 images-bit inputs [] k b h = no_bit [] b refl
@@ -67,11 +60,8 @@ images-bit (xs ∷ inputs) (n ∷ ns) (suc k) b h = images-bit inputs ns k b h
 
 number-bit : (inputs : List (List ℕ)) (ns : List ℕ) (l b : ℕ) → bit_of (at_number inputs l []) b ≡ false
     → bit_of (at_number (mirror_images inputs ns) l []) b ≡ false
-number-bit inputs ns zero b h = h
-number-bit inputs ns (suc k) b h = images-bit inputs ns k b h
+number-bit inputs ns l b h = search (rules, images-bit)
 
 -- a mirror guards by the same bit
 pub mirror_guards : (inputs : List (List ℕ)) (ns : List ℕ) (o i : Bit) → is_same_bit o i ≡ true → bit_at inputs i ≡ false → bit_at (mirror_images inputs ns) o ≡ false
-mirror_guards inputs ns o i same off =
-    let t : (o.link ≡ i.link) × (o.bit ≡ i.bit) = same_numbers o.link i.link o.bit i.bit same in
-    number-bit inputs ns o.link o.bit (ap₂ (λ (l x : ℕ). bit_of (at_number inputs l []) x) t.0 t.1 ∙ off)
+mirror_guards inputs ns o i h k = search (rules, number-bit)

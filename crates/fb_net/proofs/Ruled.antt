@@ -1,6 +1,6 @@
 -- The rule of a net over a list of calls.
 use Rattle.fb_net.proofs.Common.{AllReady, BlockSpec, BlocksStand, Call, IsNewNet, NetBlock, NetCycle, NetView, all_restored, block_values, cycle_of, cycles_of, driven_images, given, held_after, holds_of, net_holds, net_outputs, plan, rule_of, run_blocks, run_values}
-use Rattle.std.proofs.Common.{◌≡◌, ℕ, Bool, List, [], ◌∷◌, ◌++◌, refl, sym, ap, ◌∙◌}
+use Rattle.std.proofs.Common.{◌≡◌, ℕ, Bool, List, [], ◌∷◌, ◌++◌, refl, ap, ◌∙◌, rules}
 use Rattle.fb_net.proofs.Stepping.{next_ready}
 use Rattle.fb_net.proofs.Holding.{all_restored-back, plan_stays}
 use Rattle.fb_net.proofs.Looking.{values_are, blocks_stand}
@@ -27,8 +27,7 @@ stand-after bs [] r s = s
 stand-after bs (a ∷ e) r s = blocks_stand (λ _. []) (after bs e) a.cycle (cycles_of e) (ready-after bs e r) (stand-after bs e r s)
 
 restored-after : (bs : List BlockSpec) (e : List Call) → AllReady bs → all_restored (plan bs) (holds_of (after bs e)) ≡ after bs e
-restored-after bs e r =
-    ap (λ (ps : List NetBlock). all_restored ps (holds_of (after bs e))) (sym (plan-after bs e)) ∙ all_restored-back (after bs e) (ready-after bs e r)
+restored-after bs e h = search (rules, plan-after, all_restored-back, ready-after)
 
 held-is : (v : NetView) (e : List Call) → AllReady v.blocks → held_after (rule_of v) (net_holds v) e ≡ holds_of (after v.blocks e)
 held-is v [] r = refl

@@ -1,17 +1,6 @@
 -- A block of a net that is stepped.
-use Rattle.fb_net.proofs.Common.{BlockFollows, BlockGives, BlockKind, BlockSpec, BlockStands, BlockView, Cycle, IsReady, NetCycle, cycle_of, follows_by, given, gives_by, next_block, next_held, stepped, takes, told, wire_value}
-use Rattle.std.proofs.Common.{◌≡◌, ℕ, ◌<◌, ◌≤◌, IsTrue, Bool, List, ◌∷◌, length, map, refl, sym, ap, subst, ◌∙◌, arith}
-use Rattle.std.proofs.lemmas.Bool.Decides.{nat_tests}
-use Rattle.fb_lib.specs.declared.kind.BlockKind.TheVariants as kind
-use Rattle.fb_lib.specs.declared.kind.TheConstants.{MOST_INPUTS}
-
--- no kind has more inputs
-most-inputs : (k : BlockKind) (n : ℕ) → IsTrue (takes k n) → n ≤ MOST_INPUTS
-most-inputs kind.Const0 n h = grind (arith, nat_tests)
-most-inputs _ n h = grind (arith, nat_tests)
-
-pub most_wires : (b : BlockSpec) → IsReady b → length b.ins ≤ MOST_INPUTS
-most_wires b r = most-inputs b.block.kind (length b.ins) r.takes
+use Rattle.fb_net.proofs.Common.{BlockFollows, BlockGives, BlockSpec, BlockStands, BlockView, Cycle, IsReady, follows_by, given, gives_by, next_block, next_held, stepped, takes, told, wire_value}
+use Rattle.std.proofs.Common.{◌≡◌, ℕ, ◌<◌, Bool, List, ◌∷◌, map, refl, sym, ◌∙◌, rules}
 
 -- a block that stands for some cycles is stepped as its contract says
 pub next_is : (old new : BlockView) (c : Cycle) (past : List Cycle) → old.n < 65536 → BlockStands old.kind old.n old past
@@ -42,19 +31,9 @@ next_ready old c r = record {
 pub stepped_is : (b : BlockSpec) (new : BlockView) (ticked : Bool) (ins values : List Bool) (inputs : List (List ℕ)) → IsReady b
     → ins ≡ map (wire_value values inputs) b.ins → BlockFollows b.block (record { ticked = ticked; ins = ins }) new
     → (let made : BlockSpec = record { block = new; ins = b.ins } in made) ≡ stepped values (record { ticked = ticked; inputs = inputs }) b
-stepped_is b new ticked ins values inputs r read follows =
-    let c : Cycle = record { ticked = ticked; ins = ins } in
-    ap (λ (v : BlockView). let made : BlockSpec = record { block = v; ins = b.ins } in made) (next_is b.block new c r.past r.fits r.stands follows)
-    ∙ ap (λ (xs : List Bool). let made : BlockSpec = record { block = next_block b.block (record { ticked = ticked; ins = xs }); ins = b.ins } in made) read
+stepped_is b new ticked ins values inputs h k l = search (rules, next_is)
 
 pub gives_is : (b : BlockSpec) (told_now : Bool) (ticked : Bool) (ins values : List Bool) (inputs : List (List ℕ)) → IsReady b
     → ins ≡ map (wire_value values inputs) b.ins → BlockGives b.block (record { ticked = ticked; ins = ins }) told_now
     → told_now ≡ given values (record { ticked = ticked; inputs = inputs }) b
-gives_is b told_now ticked ins values inputs r read gives =
-    let c : Cycle = record { ticked = ticked; ins = ins } in
-    given_is b.block c r.past told_now r.fits r.stands gives
-    ∙ ap (λ (xs : List Bool). let d : Cycle = record { ticked = ticked; ins = xs } in told b.block.n (next_held b.block.n b.block.held d) d) read
-
--- and it can be stepped again
-pub ready_again : (b new : BlockSpec) (values : List Bool) (c : NetCycle) → IsReady b → new ≡ stepped values c b → IsReady new
-ready_again b new values c r is = let P : BlockSpec → Type 0 = λ x. IsReady x in subst P (sym is) (next_ready b (cycle_of values c b.ins) r)
+gives_is b told_now ticked ins values inputs h k l = search (rules, given_is)

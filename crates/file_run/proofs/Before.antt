@@ -1,10 +1,7 @@
 -- What holds of a run from some bytes on holds of it from before them, where those that were told before are the same.
-use Rattle.file_run.proofs.Common.{Done, Ended, EndsAs, Halt, HaltsHeader, Held, InputFormat, Leaves, LeavesAs, LinesBefore, MayFailIn, Outside, RanOver, ReadLines, ReadsTo, ReadsWhole, Reporting, Status, TakesMemory, TookLines, from_line}
-use Rattle.std.proofs.Common.{◌≡◌, ℕ, List, ◌∷◌, [], ◌++◌, Option, ap, ◌∙◌, sym, subst, inl, inr, arith}
-use Rattle.std.specs.Prelude.{IfSome, Some, None}
-use Rattle.std.specs.Io.KnownBytes.{Consumes, prepend_known}
+use Rattle.file_run.proofs.Common.{Consumes, Done, Ended, EndsAs, Halt, HaltsHeader, Held, IfSome, InputFormat, Leaves, LeavesAs, LinesBefore, None, Outside, RanOver, ReadLines, ReadsTo, ReadsWhole, Reporting, Some, Status, TakesMemory, TookLines, from_line, prepend_known}
+use Rattle.std.proofs.Common.{◌≡◌, ℕ, List, ◌∷◌, [], ◌++◌, Option, ◌∙◌, subst, inl, inr, arith}
 use Rattle.fsoe_io.specs.declared.status.Status.TheVariants as status
-use Rattle.file_run.specs.declared.halt.Halt.TheVariants as halt
 use Rattle.file_run.proofs.Sending.{rose_since}
 
 -- where bytes are told, they are those that come
@@ -13,17 +10,14 @@ AreTold told comes = IfSome told (λ input. comes ≡ Some input)
 
 -- the bytes of which the first line was taken, where they are told
 pub told_from : (reader : Held) (told left : Option (List ℕ)) → Consumes told (prepend_known reader.bytes left) (reader.line ++ 10 ∷ []) → AreTold told (from_line reader left)
-told_from reader None left goes = tt
-told_from reader (Some input) None goes = absurd goes
-told_from reader (Some input) (Some left) goes = ap (λ (z : List ℕ). Some z) (sym goes)
+told_from reader told left h = grind arith
 
 if_told : (P : List ℕ → Type 0) (told comes : Option (List ℕ)) → AreTold told comes → IfSome comes P → IfSome told P
 if_told P None comes same holds = tt
 if_told P (Some input) comes same holds = subst (λ (o : Option (List ℕ)). IfSome o P) same holds
 
 consumes_told : (told comes now : Option (List ℕ)) (taken : List ℕ) → AreTold told comes → Consumes comes now taken → Consumes told now taken
-consumes_told None comes now taken same goes = tt
-consumes_told (Some input) comes now taken same goes = subst (λ (o : Option (List ℕ)). Consumes o now taken) same goes
+consumes_told told comes now taken h k = grind arith
 
 took_told : (count : ℕ) (told comes now : Option (List ℕ)) → AreTold told comes → TookLines count comes now → TookLines count told now
 took_told count told comes now same took = record {
@@ -82,23 +76,11 @@ ran_told r ended o told faults same stayed ran = record {
 }
 
 halts_told : {H L E : Type 0} (f : InputFormat H L E) (wants : Type 0) (why : Halt) (told comes new : Option (List ℕ)) → AreTold told comes → HaltsHeader f wants why comes new → HaltsHeader f wants why told new
-halts_told f wants (halt.Read count) told comes new same cut = record { taken = cut.taken; goes = consumes_told told comes new cut.taken same cut.goes; says = cut.says }
-halts_told f wants halt.Memory told comes new same wanting = wanting
-halts_told f wants (halt.Refused number why) told comes new same refused = if_told _ told comes same refused
-
-may_told : {H L E : Type 0} (f : InputFormat H L E) (closes : H → List E → List ℕ → Ended → Type 0) (d : Done H E) (whole : List ℕ) (told comes : Option (List ℕ)) → AreTold told comes → MayFailIn f closes d whole comes → MayFailIn f closes d whole told
-may_told f closes d whole told comes same (inl text) = inl text
-may_told f closes d whole told comes same (inr (inl refused)) = inr (inl (refused.0, refused.1, if_told _ told comes same refused.2))
-may_told f closes d whole told comes same (inr (inr closed)) = inr (inr (closed.0, closed.1, if_told _ told comes same closed.2))
+halts_told f wants why told comes new h k = grind arith
 
 leaves_as : {H L E : Type 0} (r : Reporting H L E) (closes : H → List E → List ℕ → Ended → Type 0) (d : Done H E) (s : Status) (ended : Ended) (o : Outside) (told : Option (List ℕ)) (faults : ℕ) → AreTold told o.source.before
     → LeavesAs r closes d s ended o → LeavesAs r closes d s ended (since told faults o)
-leaves_as r closes d status.Ok ended o told faults same all = record { input = if_told _ told o.source.before same all.input; report = all.report; closed = all.closed; wrote = all.wrote }
-leaves_as r closes d status.Other ended o told faults same all = record { input = if_told _ told o.source.before same all.input; report = all.report; closed = all.closed; wrote = all.wrote }
-leaves_as r closes d status.Line ended o told faults same l = record { why = l.why; stops = if_told _ told o.source.before same l.stops; number_is = l.number_is; wrote = l.wrote }
-leaves_as r closes d status.Read ended o told faults same l = record { lines_are = l.lines_are; wrote = l.wrote }
-leaves_as r closes d status.Write ended o told faults same l = record { whole = l.whole; within = may_told r.format closes d l.whole told o.source.before same l.within; wrote = l.wrote; last = l.last }
-leaves_as r closes d _ ended o told faults same l = l
+leaves_as r closes d s ended o told faults h k = grind arith
 
 pub leaves_told : {H L E : Type 0} (unchanged : Type 0) (r : Reporting H L E) (stands : H → List E → List ℕ → Type 0) (closes : H → List E → List ℕ → Ended → Type 0) (ended : Ended) (o : Outside) (told : Option (List ℕ)) (faults : ℕ)
     → AreTold told o.source.before → Leaves unchanged r stands closes ended o → Leaves unchanged r stands closes ended (since told faults o)

@@ -1,15 +1,9 @@
 -- Why there is no next line, or what is wrong with it.
-use Rattle.file_run.proofs.Common.{FindsEvent, FindsHeading, FindsLine, Goes, Halt, InputFormat, IsLine, Line, LineCause, Long, NoNewline, Reads, Refusal, first_line, halt_of, heading_by, heading_by_itself, in_input, input_cause, lines_of, says_after, says_by}
-use Rattle.std.proofs.Common.{◌≡◌, ℕ, ◌+◌, List, [], ◌∷◌, ◌++◌, refl, ap}
-use Rattle.std.specs.Prelude.{Bool, Result, Err, IfSome}
-use Rattle.std.specs.declared.option.Option.{Option}
-use Rattle.std.specs.Io.KnownBytes.{Consumes}
-use Rattle.std.proofs.lemmas.Option.{IfSome_then}
+use Rattle.file_run.proofs.Common.{Bool, Consumes, Err, FindsLine, Goes, IfSome, InputFormat, IsLine, Line, LineCause, Long, NoNewline, Option, Reads, Refusal, Result, first_line, halt_of, heading_by, heading_by_itself, in_input, input_cause, lines_of, says_after, says_by}
+use Rattle.std.proofs.Common.{◌≡◌, ℕ, ◌+◌, List, [], ◌∷◌, ◌++◌, refl, ap, arith}
 use Rattle.fsoe_io.specs.declared.line.LineFault.{LineFault}
 use Rattle.fsoe_io.specs.declared.line.LineFault.TheVariants as fault
-use Rattle.file_run.specs.declared.halt.Halt.TheVariants as halt
 use Rattle.file_run.proofs.Lines.{by_line, by_long, by_open}
-use Rattle.file_run.proofs.Taken.{took_nothing}
 
 -- there is no next line
 pub no_line : (why : LineFault) (before : ℕ) (text : List ℕ) (old new : Option (List ℕ)) → Reads (Err why) old new → FindsLine (Err (halt_of why before)) text old new
@@ -19,20 +13,7 @@ no_line fault.NoNewline before text old new r = by_open old (λ lines. first_lin
 
 -- and nothing is taken
 pub none_goes : (why : LineFault) (first before lines : ℕ) (old new : Option (List ℕ)) → first ≡ before → Reads (Err why) old new → Goes {T = Unit {0}} (Err (halt_of why first)) before lines old new
-none_goes fault.Read first before lines old new e r = (e, r)
-none_goes _ first before lines old new e r = (ap (λ (n : ℕ). n + 1) e, took_nothing old new r.1)
-
--- then there is no next header line
-pub no_header_line : {H L E : Type 0} (f : InputFormat H L E) (takes : Bool) (h next : H) (why : Halt) (text : List ℕ) (old new : Option (List ℕ)) → FindsLine (Err why) text old new → FindsHeading f takes h (Err why) next old new
-no_header_line f takes h next (halt.Read lines) text old new finds = tt
-no_header_line f takes h next halt.Memory text old new finds = absurd finds
-no_header_line f takes h next (halt.Refused number why) text old new finds = IfSome_then old finds (λ input e. ap (heading_by f h) e)
-
--- and no next event
-pub no_event_line : {L E : Type 0} (event : L → Option E) (says : List ℕ → Result L LineCause) (full : Bool) (why : Halt) (text : List ℕ) (old new : Option (List ℕ)) → FindsLine (Err why) text old new → FindsEvent event says full (Err why) old new
-no_event_line event says full (halt.Read lines) text old new finds = tt
-no_event_line event says full halt.Memory text old new finds = absurd finds
-no_event_line event says full (halt.Refused number why) text old new finds = IfSome_then old finds (λ input e. ap (says_by event says full) e)
+none_goes why first before lines old new h k = grind arith
 
 -- the next header line is refused
 pub refused_header_line : {H L E : Type 0} (f : InputFormat H L E) (h : H) (old new : Option (List ℕ)) (text : List ℕ) (why : LineCause) → IsLine text → Consumes old new (text ++ 10 ∷ []) → f.header_line h text ≡ Err why

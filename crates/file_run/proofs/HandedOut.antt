@@ -1,9 +1,8 @@
 -- The next part of a text.
-use Rattle.std.proofs.Common.{◌≡◌, ◌≤◌, ◌+◌, ◌-◌, ℕ, zero, suc, List, [], ◌∷◌, ◌++◌, take, drop, refl, sym, ap, ◌∙◌, arith}
+use Rattle.std.proofs.Common.{◌≡◌, ◌≤◌, ◌+◌, ◌-◌, ℕ, zero, suc, List, [], ◌∷◌, ◌++◌, take, drop, refl, sym, ap, arith, rules}
 
 take-none : (n : ℕ) → take {A = ℕ} n [] ≡ []
-take-none zero = refl
-take-none (suc n) = refl
+take-none n = grind arith
 
 front : (given count k len : ℕ) (bytes : List ℕ) → k ≡ given + count → k ≤ len → drop given (take len bytes) ≡ take count (drop given bytes) ++ drop k (take len bytes)
 front zero zero zero len bytes e h = refl
@@ -14,7 +13,4 @@ front (suc given) count (suc k) (suc len) (b ∷ bytes) e h = front given count 
 front given count k len bytes e h = absurd (omega arith)
 
 pub part_is : (given count len : ℕ) (bytes shown part : List ℕ) → given + count ≤ len → shown ≡ bytes → part ≡ take (given + count - given) (drop given shown) → drop given (take len bytes) ≡ part ++ drop (given + count) (take len bytes)
-part_is given count len bytes shown part h e is =
-    let n : given + count - given ≡ count = omega arith in
-    front given count (given + count) len bytes refl h
-    ∙ ap (λ (f : List ℕ). f ++ drop (given + count) (take len bytes)) (sym (is ∙ ap (λ (k : ℕ). take k (drop given shown)) n ∙ ap (λ (xs : List ℕ). take count (drop given xs)) e))
+part_is given count len bytes shown part h k l = search (rules, front)

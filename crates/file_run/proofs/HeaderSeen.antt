@@ -1,10 +1,6 @@
 -- The lines of a header that were read.
-use Rattle.file_run.proofs.Common.{FindsHeading, Goes, Halt, HaltsHeader, InputCause, InputFormat, IsHeaderCutOff, IsLine, IsWholeHeader, Line, LineCause, NoLine, Refused, Stop, WholeHeaderOf, consumes_then, first_line, header_in, header_read, header_step, heading_by, heading_by_itself, input_cause, lines_of}
-use Rattle.std.proofs.Common.{◌≡◌, ℕ, ◌+◌, Bool, true, false, List, [], ◌∷◌, ◌++◌, refl, ap, ◌∙◌, sym, subst, append_assoc}
-use Rattle.std.specs.Prelude.{IsTrue, Result, Ok, Err, IfSome, Some, None}
-use Rattle.std.specs.declared.option.Option.{Option}
-use Rattle.std.specs.Io.KnownBytes.{Consumes}
-use Rattle.std.proofs.lemmas.List.{append-nil}
+use Rattle.file_run.proofs.Common.{Consumes, Err, FindsHeading, Goes, Halt, HaltsHeader, IfSome, InputCause, InputFormat, IsHeaderCutOff, IsLine, IsTrue, IsWholeHeader, NoLine, Ok, Option, Refused, Result, Stop, WholeHeaderOf, append-nil, common_steps, consumes_then, first_line, header_in, header_read, header_step, heading_by, input_cause, lines_of}
+use Rattle.std.proofs.Common.{◌≡◌, ℕ, ◌+◌, Bool, true, false, List, [], ◌∷◌, ◌++◌, refl, ap, ◌∙◌, sym, subst, arith}
 use Rattle.file_run.specs.declared.halt.Halt.TheVariants as halt
 use Rattle.file_run.proofs.Lines.{lines_whole}
 
@@ -16,16 +12,12 @@ pub record HeaderSeen {H L E : Type 0} (f : InputFormat H L E) (h : H) (lines : 
 
 -- before its first line
 pub header_none : {H L E : Type 0} (f : InputFormat H L E) (h : H) (left : Option (List ℕ)) → h ≡ f.start → HeaderSeen f h 0 left left
-header_none f h None is = record { taken = []; goes = tt; says = λ more. rw is refl }
-header_none f h (Some xs) is = record { taken = []; goes = refl; says = λ more. rw is refl }
+header_none f h left k = grind arith
 
 said : {H L E : Type 0} (f : InputFormat H L E) (h : H) (lines : ℕ) (taken text more : List ℕ) → ((more : List ℕ) → header_read f (taken ++ more) ≡ header_in f (lines + 1) h (lines_of more)) → IsLine text
     → header_read f ((taken ++ (text ++ 10 ∷ [])) ++ more)
     ≡ header_step f.is_whole (lines + 1) (lines_of more) (λ next. header_in f (lines + 1 + 1) next (lines_of more)) (f.header_line h text)
-said f h lines taken text more says is =
-    ap (header_read f) (append_assoc taken (text ++ 10 ∷ []) more ∙ ap (λ (z : List ℕ). taken ++ z) (append_assoc text (10 ∷ []) more))
-    ∙ says (text ++ 10 ∷ more)
-    ∙ ap (header_in f (lines + 1) h) (lines_whole text more is)
+said f h lines taken text more k l = grind (arith, common_steps, lines_whole)
 
 step_on : {H : Type 0} (is_whole : H → Bool) (number : ℕ) (rest : List (Result (List ℕ) InputCause)) (go_on : H → Result (WholeHeaderOf H) Stop) (next : H) → is_whole next ≡ false → header_step is_whole number rest go_on (Ok next) ≡ go_on next
 step_on is_whole number rest go_on next e = rw e refl
@@ -62,30 +54,10 @@ header_done {H = H} f h next lines now a b c text seen is goes e done count = re
       ∙ ap (λ (k : ℕ). Ok (record { heading = next; lines = k; rest = lines_of more })) (sym count);
 }
 
-step_refused : {H : Type 0} (is_whole : H → Bool) (number : ℕ) (rest : List (Result (List ℕ) InputCause)) (go_on : H → Result (WholeHeaderOf H) Stop) (r : Result H LineCause) (why : InputCause)
-    → heading_by_itself r ≡ Err why → header_step is_whole number rest go_on r ≡ Err (Refused number why)
-step_refused is_whole number rest go_on (Ok next) why e = cc
-step_refused is_whole number rest go_on (Err cause) why e =
-    let same : Line cause ≡ why = cc in
-    ap (λ (w : InputCause). Err (Refused number w)) same
-
-in_refused : {H L E : Type 0} (f : InputFormat H L E) (number : ℕ) (h : H) (lines : List (Result (List ℕ) InputCause)) (why : InputCause) → heading_by f h (first_line lines) ≡ Err why → header_in f number h lines ≡ Err (Refused number why)
-in_refused f number h [] why e =
-    let same : NoLine ≡ why = cc in
-    ap (λ (w : InputCause). Err (Refused number w)) same
-in_refused f number h (Ok text ∷ rest) why e = step_refused f.is_whole number rest (λ next. header_in f (number + 1) next rest) (f.header_line h text) why e
-in_refused f number h (Err cause ∷ rest) why e =
-    let same : cause ≡ why = cc in
-    ap (λ (w : InputCause). Err (Refused number w)) same
-
 -- a line of the header is refused
 header_refused : {H L E : Type 0} (f : InputFormat H L E) (h : H) (lines number : ℕ) (a b : Option (List ℕ)) (why : InputCause) → HeaderSeen f h lines a b
     → IfSome b (λ input. heading_by f h (first_line (lines_of input)) ≡ Err why) → number ≡ lines + 1 → IfSome a (λ input. header_read f input ≡ Err (Refused number why))
-header_refused f h lines number None b why seen first count = tt
-header_refused f h lines number (Some xs) None why seen first count = absurd seen.goes
-header_refused f h lines number (Some xs) (Some ys) why seen first count =
-    ap (header_read f) seen.goes ∙ seen.says ys ∙ in_refused f (lines + 1) h (lines_of ys) why first
-    ∙ ap (λ (k : ℕ). Err (Refused k why)) (sym count)
+header_refused f h lines number a b why k l m = grind arith
 
 -- a read failed in the header
 header_cut_off : {H L E : Type 0} (f : InputFormat H L E) (h : H) (lines count : ℕ) (a b c : Option (List ℕ)) → HeaderSeen f h lines a b → Consumes b c [] → count ≡ lines → IsHeaderCutOff f count a c

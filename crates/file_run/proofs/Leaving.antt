@@ -1,13 +1,11 @@
 -- What a run leaves.
-use Rattle.file_run.proofs.Common.{AppendedPart, AtEnd, Done, Ended, EndsWhole, FindsEvent, Goes, Grew, Halt, InputCause, InputFormat, InputOf, IsBegun, IsFullness, IsOneAhead, IsPrefix, IsUnmet, LeavesAll, LeavesAs, LeavesDone, Loses, MayFailIn, NoApp, NoFrame, OutputView, Outside, Refusal, Refused, Reporting, Running, Saying, Seen, Sent, Standing, Status, Stop, Stopped, StopsAfter, Writes, halt_stopped, halted_by, input_cause, input_stopped, last_of, line_after, refused_at, refused_line}
-use Rattle.std.proofs.Common.{◌≡◌, ℕ, ◌+◌, ◌≤◌, Bool, List, [], ◌∷◌, ◌++◌, length, refl, arith, ap, sym, subst, inl, inr}
-use Rattle.std.specs.Prelude.{◌⊎◌, Ok, Err, None, Some}
-use Rattle.std.specs.declared.option.Option.{Option}
-use Rattle.std.proofs.lemmas.List.{append-nil, length-append}
+use Rattle.file_run.proofs.Common.{AppendedPart, AtEnd, Done, Ended, EndsWhole, Err, FindsEvent, Goes, Grew, Halt, InputCause, InputFormat, InputOf, IsBegun, IsFullness, IsOneAhead, IsPrefix, IsUnmet, LeavesAll, LeavesAs, LeavesDone, Loses, MayFailIn, NoApp, NoFrame, None, Ok, Option, OutputView, Outside, Refusal, Refused, Reporting, Running, Saying, Seen, Sent, Some, Standing, Status, Stop, Stopped, StopsAfter, Writes, append-nil, halt_stopped, halted_by, input_cause, input_stopped, last_of, length-append, line_after, refused_at, refused_line}
+use Rattle.std.proofs.Common.{◌≡◌, ℕ, ◌+◌, ◌≤◌, Bool, List, [], ◌∷◌, ◌++◌, length, refl, arith, ap, sym, subst, inl, inr, rules}
+use Rattle.std.specs.Prelude.{◌⊎◌}
 use Rattle.fsoe_io.specs.declared.status.Status.TheVariants as status
 use Rattle.file_run.specs.declared.halt.Halt.TheVariants as halt
 use Rattle.file_run.specs.declared.stopped.Stopped.TheVariants as stopped
-use Rattle.file_run.proofs.Running.{Reports, by_seen, ended_next, event_seen, refused_after, stops_so}
+use Rattle.file_run.proofs.Running.{Reports, by_seen, ended_next, event_seen, stops_so}
 use Rattle.file_run.proofs.Sending.{cut_part, grew_written, piece_part, text_part}
 
 -- how reports close
@@ -110,12 +108,7 @@ left_lost {H} {L} {E} r old left closes says full o b c w1 waiting now events li
 stops_by : {H L E : Type 0} (r : Reporting H L E) (stands : Standing H E) (says : Saying L) (full : Bool) (left0 b c w0 w : Option (List ℕ)) (waiting : OutputView) (events lines number : ℕ) (why : Refusal) (k : Running r stands says left0 b w0 w waiting events lines)
     → FindsEvent r.format.event says full (Err (halt.Refused number why)) b c → IsFullness r stands events full → number ≡ k.header + length k.log + 1
     → StopsAfter r.format (done_so r stands says left0 b w0 w waiting events lines k) (input_cause why) left0
-stops_by {H} {L} {E} r stands says full left0 b c w0 w waiting events lines number why k finds fullness at =
-    stops_so r.format k.heading k.header k.log left0 b (Refused number (input_cause why))
-    (λ (input : InputOf H E).
-    (input ≡ input_stopped k.heading k.header k.log (Refused (k.header + length k.log + 1) (input_cause why)))
-    ⊎ ((event : E) × (more : List E) × (stop : Stop) × (input ≡ input_stopped k.heading k.header ((k.log ++ event ∷ []) ++ more) stop) × IsUnmet (input_cause why)))
-    k.seen (refused_after r stands says full left0 b c w0 w waiting events lines number why k finds fullness at) (inl (ap (λ (n : ℕ). input_stopped k.heading k.header k.log (Refused n (input_cause why))) at))
+stops_by r stands says full left0 b c w0 w waiting events lines number why k h l m = search rules
 
 -- the event of the next line isn't met
 stops_unmet : {H L E : Type 0} (r : Reporting H L E) (stands : Standing H E) (says : Saying L) (full : Bool) (left0 b c w0 w : Option (List ℕ)) (waiting : OutputView) (events lines : ℕ) (event : E) (why : InputCause) (k : Running r stands says left0 b w0 w waiting events lines)
@@ -183,9 +176,7 @@ left_stopped r stands left closes says full o b c w1 faults waiting events lines
 
 -- a run to the end ends so
 did_all : {H L E : Type 0} (r : Reporting H L E) (closes : Closing H E) (d : Done H E) (judges : Bool) (s : Status) (place : ℕ) (ended : Ended) (o : Outside) → EndsWhole judges s place → LeavesAll r.format closes d ended o → LeavesAs r closes d s ended o
-did_all r closes d judges status.Ok place ended o whole all = all
-did_all r closes d judges status.Other place ended o whole all = all
-did_all r closes d judges _ place ended o whole all = absurd whole
+did_all r closes d judges s place ended o h k = grind arith
 
 pub left_at_end : {H L E : Type 0} (r : Reporting H L E) (stands left : Standing H E) (closes : Closing H E) (says : Saying L) (full : Bool) (o : Outside) (b c w1 : Option (List ℕ)) (faults : ℕ) (waiting : OutputView) (events lines : ℕ) (last : List ℕ) (ended result : Ended)
     (k : Running r stands says o.source.before b o.sink.before w1 waiting events lines) → Reports r stands → left k.heading k.log k.text → FindsEvent r.format.event says full (Ok None) b c → IsFullness r stands events full

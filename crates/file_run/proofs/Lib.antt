@@ -4,7 +4,6 @@ pub mod Found
 pub mod HeaderSeen
 pub mod Seen
 pub mod Sending
-pub mod Taking
 pub mod HandedOut
 pub mod Putting
 pub mod OnePart

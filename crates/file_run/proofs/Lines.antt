@@ -1,29 +1,21 @@
 -- The first line of an input.
-use Rattle.file_run.proofs.Common.{HasNoNewline, InputCause, IsLine, IsTooLong, IsUnended, Long, NoNewline, is_newline, lines_in, lines_of, open_line, whole_line}
+use Rattle.file_run.proofs.Common.{Consumes, Err, HasNoNewline, IfSome, InputCause, IsLine, IsTooLong, IsUnended, Long, NoNewline, None, Ok, Option, Result, Some, is_newline, lines_in, lines_of, open_line, whole_line}
 use Rattle.std.proofs.Common.{◌≡◌, ℕ, zero, suc, ◌+◌, ◌≤◌, ◌<◌, List, [], ◌∷◌, ◌++◌, length, take, refl, arith, ap, ◌∙◌, sym, subst, append_assoc}
-use Rattle.std.specs.Prelude.{Result, Ok, Err, IfSome, Some, None}
-use Rattle.std.specs.declared.option.Option.{Option}
-use Rattle.std.specs.Io.KnownBytes.{Consumes}
 use Rattle.std.specs.List.{slice_split, onto_first}
 use Rattle.std.proofs.lemmas.List.Splits.{slice_split_at, slice_split_none, length-slice_split, slice_split-cons_no}
-use Rattle.std.proofs.lemmas.Bool.Decides.{nat_tests}
 use Rattle.schedule_file.proofs.OneField.{some_part}
 
-whole_short : (text : List ℕ) → length text ≤ 640 → whole_line text ≡ Ok text
-whole_short text h = grind (arith, nat_tests)
-
 whole_long : (text : List ℕ) → 641 ≤ length text → whole_line text ≡ Err Long
-whole_long text h = grind (arith, nat_tests)
+whole_long text h = grind arith
 
 open_short : (b : ℕ) (text : List ℕ) → length (b ∷ text) ≤ 640 → open_line (b ∷ text) ≡ Err NoNewline ∷ []
-open_short b text h = grind (arith, nat_tests)
+open_short b text h = grind arith
 
 open_long : (b : ℕ) (text : List ℕ) → 641 ≤ length (b ∷ text) → open_line (b ∷ text) ≡ Err Long ∷ []
-open_long b text h = grind (arith, nat_tests)
+open_long b text h = grind arith
 
 lines_more : (text : List ℕ) (parts : List (List ℕ)) (k : ℕ) → length text ≤ 640 → length parts ≡ k + 1 → lines_in (text ∷ parts) ≡ Ok text ∷ lines_in parts
-lines_more text [] k short e = absurd (omega arith)
-lines_more text (next ∷ parts) k short e = ap (λ (r : Result (List ℕ) InputCause). r ∷ lines_in (next ∷ parts)) (whole_short text short)
+lines_more text parts k h l = grind arith
 
 -- a whole line stands first, and the lines after it come next
 pub lines_whole : (text more : List ℕ) → IsLine text → lines_of (text ++ 10 ∷ more) ≡ Ok text ∷ lines_of more

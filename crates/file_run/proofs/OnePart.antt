@@ -1,7 +1,6 @@
 -- A machine of which nothing waits: all text comes in one part.
-use Rattle.file_run.proofs.Common.{Ended, EndsReport, Reporting, TakesEvent}
+use Rattle.file_run.proofs.Common.{Ended, EndsReport, Reporting, TakesEvent, append-nil}
 use Rattle.std.proofs.Common.{ℕ, List, [], ◌++◌, sym, subst}
-use Rattle.std.proofs.lemmas.List.{append-nil}
 
 pub takes_one : {H E : Type 0} (old new : H → List E → List ℕ → Type 0) (event : E) (number : ℕ) (text : List ℕ) → TakesEvent old new event number text → TakesEvent old new event number (text ++ [])
 takes_one old new event number text takes = subst (TakesEvent old new event number) (sym (append-nil text)) takes

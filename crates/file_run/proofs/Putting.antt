@@ -1,10 +1,7 @@
 -- Texts that go through a buffer part by part.
-use Rattle.file_run.proofs.Common.{Ended, Loses, OutputView, Passes, Puts, Rose, Writes, grew_then, passes_none}
-use Rattle.std.proofs.Common.{◌≡◌, ℕ, true, false, List, [], ◌∷◌, ◌++◌, length, refl, arith, ap, ◌∙◌, sym, append_assoc, inl, inr}
-use Rattle.std.specs.Prelude.{◌==◌, ◌≢◌, Result, Ok, Err}
-use Rattle.std.specs.declared.option.Option.{Option}
-use Rattle.std.proofs.lemmas.Bool.{eqb-true}
-use Rattle.std.proofs.lemmas.List.{append-nil, length-append}
+use Rattle.file_run.proofs.Common.{Ended, Err, Loses, Ok, Option, OutputView, Passes, Puts, Result, Rose, Writes, append-nil, common_steps, grew_then, length-append, passes_none}
+use Rattle.std.proofs.Common.{◌≡◌, ℕ, false, List, [], ◌++◌, length, refl, arith, ap, ◌∙◌, sym, append_assoc, inl, inr}
+use Rattle.std.specs.Prelude.{◌==◌, ◌≢◌}
 use Rattle.fsoe_io.specs.declared.status.Status.TheVariants as status
 use Rattle.file_run.proofs.Sending.{rose_since}
 
@@ -22,17 +19,7 @@ passes_both old mid new w0 w1 w2 first then rest p q = record {
 
 -- what comes after a piece that was lost is lost too
 loses_more : (old new : OutputView) (w0 w : Option (List ℕ)) (piece later rest : List ℕ) → Loses old new w0 w piece rest → Loses old new w0 w (piece ++ later) (rest ++ later)
-loses_more old new w0 w piece later rest l =
-    let p = l.passes in
-    record {
-      passes = record {
-        part = p.part;
-        grew = p.grew;
-        whole = sym (append_assoc old.bytes piece later) ∙ ap (λ (z : List ℕ). z ++ later) p.whole ∙ append_assoc p.part rest later;
-        sent = p.sent;
-      };
-      more = omega (arith, l.more, length-append rest later);
-    }
+loses_more old new w0 w piece later rest h = grind (arith, common_steps)
 
 pub puts_lost : {E : Type 0} (e : E) (old new : OutputView) (w0 w : Option (List ℕ)) (piece later : List ℕ) → Puts {T = Unit {0}} (Err e) old new w0 w piece → Puts {T = Unit {0}} (Err e) old new w0 w (piece ++ later)
 puts_lost e old new w0 w piece later p = (p.0 ++ later, loses_more old new w0 w piece later p.0 p.1)
@@ -41,14 +28,8 @@ pub puts_both : {T E : Type 0} (r : Result T E) (old mid new : OutputView) (w0 w
 puts_both (Ok x) old mid new w0 w1 w2 first then p q = passes_both old mid new w0 w1 w2 first then new.bytes p q
 puts_both (Err e) old mid new w0 w1 w2 first then p q = (q.0, record { passes = passes_both old mid new w0 w1 w2 first then q.0 p q.1.passes; more = q.1.more })
 
--- a list that has no item, and one that has some
-pub is_none : (xs : List ℕ) → true ≡ length xs == 0 → xs ≡ []
-is_none [] e = refl
-is_none (x ∷ xs) e = let zero = eqb-true (length (x ∷ xs)) 0 (sym e) in absurd (omega (arith, zero))
-
 pub not_none : (ys xs : List ℕ) → xs ≡ ys → false ≡ length xs == 0 → ys ≢ []
-not_none ys [] same e = cc
-not_none ys (x ∷ xs) same e = λ none. let zero = ap (length {A = ℕ}) (same ∙ none) in omega (arith, zero)
+not_none ys xs h k = grind arith
 
 -- of a whole text some parts were put, and this is left
 pub record Putting (old now : OutputView) (w0 w : Option (List ℕ)) (whole left : List ℕ) : Type 0 where
@@ -79,9 +60,7 @@ putting_lost error old now new w0 w1 w2 whole left part later k e p =
 
 -- all is put
 pub putting_all : (old now : OutputView) (w0 w : Option (List ℕ)) (whole left : List ℕ) → Putting old now w0 w whole left → left ≡ [] → Passes old now w0 w whole now.bytes
-putting_all old now w0 w whole left k none =
-    let all : whole ≡ k.done = k.is ∙ ap (λ (z : List ℕ). k.done ++ z) none ∙ append-nil k.done in
-    rw all k.passes
+putting_all old now w0 w whole left h k = grind (arith, common_steps)
 
 -- after a text was put, what is written last is written after it
 pub writes_after : (old mid : OutputView) (w0 w1 w2 : Option (List ℕ)) (faults between after : ℕ) (text : List ℕ) (ended result : Ended) → Passes old mid w0 w1 text mid.bytes → between ≡ faults
@@ -108,14 +87,4 @@ writes_after old mid w0 w1 w2 faults between after text ended result p stayed wr
 -- or it was cut off
 pub writes_cut : {E : Type 0} (error : E) (old new : OutputView) (w0 w : Option (List ℕ)) (faults after : ℕ) (text : List ℕ) (ended result : Ended) → Puts {T = Unit {0}} (Err error) old new w0 w text → Rose faults after
     → result.status ≡ status.Write → result.place ≡ new.sent → Writes old.sent (old.bytes ++ text) ended result (record { before = w0; after = w; faults_before = faults; faults_after = after })
-writes_cut error old new w0 w faults after text ended result p rose is place =
-    let q = p.1.passes in
-    inr (record {
-      part = q.part;
-      grew = q.grew;
-      begins = (p.0, q.whole);
-      less = omega (arith, p.1.more, ap (length {A = ℕ}) q.whole, length-append q.part p.0);
-      status_is = is;
-      place_is = place ∙ q.sent;
-      cause = rose;
-    })
+writes_cut error old new w0 w faults after text ended result h k l m = grind (arith, common_steps)

@@ -1,11 +1,6 @@
 -- A run over the events of an input, whatever they do: what was read of it and what was written.
-use Rattle.file_run.proofs.Common.{Always, AtEnd, BeforeEvents, BeginsReport, Blames, CameToEnd, Ended, EndsAs, EndsReport, EndsStopped, EndsUnmet, EndsWhole, FindsEvent, Goes, Grew, Halt, Halts, HaltsHeader, HasNoNewline, InputCause, InputFormat, InputOf, IsFullness, IsHeaderCutOff, Keeps, Loses, MayCome, MayWant, MemoryUse, Never, NoApp, NoFrame, NoLine, OutputView, Outside, Passes, ReadsWhole, Refusal, Refused, Reporting, ReportsReadLines, ReportsSoFar, Rose, Running, Saying, SaysSo, Seen, Sent, Stalls, Standing, Status, Stop, Stopped, TakesEvent, TakesMemory, TookLines, Writes, Wrote, halt_stopped, halted_by, header_read, input_by, input_cause, input_headless, input_on, input_read, input_stopped, last_of, line_of_end, lines_of, more_on, most_held, most_parts, most_waiting, refused_at, refused_line}
-use Rattle.std.proofs.Common.{◌≡◌, ℕ, ◌+◌, ◌*◌, ◌≤◌, ◌<◌, Bool, List, [], ◌∷◌, ◌++◌, length, refl, arith, ap, ◌∙◌, sym, subst}
-use Rattle.std.specs.Prelude.{false, Ok, Err, IfSome, Some, None}
-use Rattle.std.specs.declared.option.Option.{Option}
-use Rattle.std.specs.Io.KnownBytes.{Consumes, prepend_known}
-use Rattle.std.proofs.lemmas.List.{append-nil, length-append, length_push}
-use Rattle.std.proofs.lemmas.Option.{IfSome_then}
+use Rattle.file_run.proofs.Common.{Always, AtEnd, BeginsReport, Blames, CameToEnd, Consumes, Ended, EndsAs, EndsReport, EndsStopped, EndsUnmet, EndsWhole, Err, FindsEvent, Goes, Grew, Halt, Halts, HaltsHeader, HasNoNewline, IfSome, IfSome_then, InputCause, InputFormat, InputOf, IsFullness, IsHeaderCutOff, Keeps, Loses, MayWant, MemoryUse, NoApp, NoFrame, NoLine, None, Ok, Option, OutputView, Outside, Passes, ReadsWhole, Refusal, Refused, Reporting, ReportsReadLines, ReportsSoFar, Rose, Running, Saying, SaysSo, Seen, Sent, Some, Stalls, Standing, Status, Stop, Stopped, TakesEvent, TakesMemory, TookLines, Writes, Wrote, append-nil, false, halt_stopped, halted_by, header_read, input_by, input_cause, input_headless, input_on, input_read, input_stopped, last_of, length-append, length_push, line_of_end, lines_of, more_on, most_held, most_parts, most_waiting, prepend_known, refused_at, refused_line}
+use Rattle.std.proofs.Common.{◌≡◌, ℕ, ◌+◌, ◌*◌, ◌≤◌, ◌<◌, Bool, List, [], ◌∷◌, ◌++◌, length, refl, arith, ap, ◌∙◌, sym, subst, rules}
 use Rattle.fsoe_io.specs.declared.status.Status.TheVariants as status
 use Rattle.schedule_file.specs.declared.event.TheConstants.{MAX_EVENTS}
 use Rattle.file_run.specs.Begun.{Begins}
@@ -32,9 +27,7 @@ finds_as {H} {L} {E} asked format says full line old new e finds = subst (λ (f 
 -- a line was found with this event, or with none
 pub finds_event : {H L E : Type 0} (asked format : InputFormat H L E) (says : Saying L) (full : Bool) (line : L) (event : Option E) (old new : Option (List ℕ)) → asked ≡ format → asked.event line ≡ event
     → FindsEvent format.event says full (Ok (format.event line)) old new → FindsEvent format.event says full (Ok event) old new
-finds_event {H} {L} {E} asked format says full line event old new e is finds =
-    let same : format.event line ≡ event = subst (λ (f : InputFormat H L E). f.event line ≡ event) e is in
-    subst (λ (o : Option E). FindsEvent format.event says full (Ok o) old new) same finds
+finds_event asked format says full line event old new h k l = grind arith
 
 -- after a header nothing was sent
 pub running_start : {H L E : Type 0} (r : Reporting H L E) (stands : Standing H E) (says : Saying L) (left0 left w : Option (List ℕ)) (waiting : OutputView) (lines : ℕ) → Begins r stands says lines left0 left → waiting.bytes ≡ [] → waiting.sent ≡ 0
@@ -77,22 +70,6 @@ running_sent r stands says left0 left w0 w1 w2 waiting now events lines k p same
   lined = k.lined;
   headed = k.headed;
 }
-
--- the next line is an event, which may come to the machine
-pub event_may_come : {H L E : Type 0} (r : Reporting H L E) (stands : Standing H E) (says : Saying L) (full : Bool) (left0 b c w0 w : Option (List ℕ)) (waiting : OutputView) (events lines : ℕ) (event : E)
-    → Running r stands says left0 b w0 w waiting events lines → FindsEvent r.format.event says full (Ok (Some event)) b c → (full ≡ false → events < MAX_EVENTS) → MayCome stands r.format event (events + 1)
-event_may_come r stands says full left0 b c w0 w waiting events lines event k finds few =
-    let said = has_event r.format.event says full finds.0 event finds.3 in
-    let below = few said.room in
-    record {
-      heading = k.heading;
-      log = k.log;
-      text = k.text;
-      stands = k.stood;
-      said = (finds.0, said.line, sym (k.same finds.0) ∙ said.says, said.is);
-      number_is = omega (arith, k.count);
-      few = omega (arith, below);
-    }
 
 pub event_seen : {H L E : Type 0} (r : Reporting H L E) (stands : Standing H E) (says : Saying L) (full : Bool) (left0 b c w0 w : Option (List ℕ)) (waiting : OutputView) (events lines : ℕ) (event : E) (k : Running r stands says left0 b w0 w waiting events lines)
     → FindsEvent r.format.event says full (Ok (Some event)) b c → IsFullness r stands events full → Seen r.format k.heading k.header left0 c (k.log ++ event ∷ [])
@@ -175,9 +152,7 @@ stops_so f h n log (Some xs) (Some ys) stop P seen stops holds = subst P (sym (a
 
 -- a run to the end ends so
 as_whole : {H L E : Type 0} (r : Reporting H L E) (s : Status) (place : ℕ) (ended : Ended) (o : Outside) → EndsWhole r.judges s place → CameToEnd r ended o → EndsAs r s ended o
-as_whole r status.Ok place ended o whole came = came
-as_whole r status.Other place ended o whole came = came
-as_whole r _ place ended o whole came = absurd whole
+as_whole r s place ended o h k = grind arith
 
 -- a whole report was written: the run ends as it says, or a write failed at the end
 ends_reported : {H L E : Type 0} (r : Reporting H L E) (o : Outside) (w1 : Option (List ℕ)) (faults : ℕ) (waiting : OutputView) (text last : List ℕ) (ended result : Ended) → Sent o.sink.before w1 waiting text
@@ -237,9 +212,7 @@ ends_wanting r o w1 faults waiting text result sent writes later begins may =
 
 -- where a command takes memory, it may want some before anything is written
 may_want : (when : MemoryUse) (nothing : Type 0) → TakesMemory when → nothing → MayWant when nothing
-may_want Never nothing takes none = absurd takes
-may_want BeforeEvents nothing takes none = none
-may_want Always nothing takes none = tt
+may_want when nothing h k = grind arith
 
 always_wants : (when : MemoryUse) (nothing : Type 0) → when ≡ Always → MayWant when nothing
 always_wants when nothing e = subst (λ (u : MemoryUse). MayWant u nothing) (sym e) tt
@@ -304,10 +277,7 @@ reads_failed {H} {L} {E} r says full o left held h n log text says_so fullness s
 pub refused_after : {H L E : Type 0} (r : Reporting H L E) (stands : Standing H E) (says : Saying L) (full : Bool) (left0 b c w0 w : Option (List ℕ)) (waiting : OutputView) (events lines number : ℕ) (why : Refusal) (k : Running r stands says left0 b w0 w waiting events lines)
     → FindsEvent r.format.event says full (Err (halt.Refused number why)) b c → IsFullness r stands events full → number ≡ k.header + length k.log + 1
     → IfSome b (λ rest. input_on r.format k.heading k.header k.log (lines_of rest) ≡ input_stopped k.heading k.header k.log (Refused number (input_cause why)))
-refused_after r stands says full left0 b c w0 w waiting events lines number why k finds fullness place =
-    IfSome_then b finds (λ rest first.
-    input_refused r.format says full k.heading k.header k.log (lines_of rest) (input_cause why) k.same (fullness k.heading k.log k.text k.count k.stood) first
-    ∙ ap (λ (n : ℕ). input_stopped k.heading k.header k.log (Refused n (input_cause why))) (sym place))
+refused_after r stands says full left0 b c w0 w waiting events lines number why k h l m = search rules
 
 -- the input goes no further
 pub ends_halted : {H L E : Type 0} (r : Reporting H L E) (stands : Standing H E) (says : Saying L) (full : Bool) (o : Outside) (b : Option (List ℕ)) (held : List ℕ) (w1 : Option (List ℕ)) (read faults : ℕ) (waiting : OutputView) (events lines now : ℕ) (why : Halt) (result : Ended)

@@ -1,10 +1,6 @@
 -- What a run sent, and how it ends by that.
-use Rattle.file_run.proofs.Common.{AppendedPart, BeginsReport, CutsReport, Ended, EndsAs, FailedWrite, Grew, InputOf, IsCutOff, IsPrefix, Loses, OutputView, Outside, Passes, Reporting, Rose, Told, Writes, grew_none, grew_then, input_read}
+use Rattle.file_run.proofs.Common.{AppendedPart, BeginsReport, CutsReport, Ended, EndsAs, FailedWrite, Grew, IfSome, IfSome_then, InputOf, IsCutOff, IsPrefix, Loses, Option, OutputView, Outside, Passes, Reporting, Rose, Told, Writes, append-nil, common_steps, grew_none, grew_then, input_read, length-append}
 use Rattle.std.proofs.Common.{◌≡◌, ℕ, ◌<◌, List, [], ◌++◌, length, arith, ap, ◌∙◌, sym, subst, append_assoc, inl, inr}
-use Rattle.std.specs.Prelude.{IfSome}
-use Rattle.std.specs.declared.option.Option.{Option}
-use Rattle.std.proofs.lemmas.List.{append-nil, length-append}
-use Rattle.std.proofs.lemmas.Option.{IfSome_then}
 use Rattle.fsoe_io.specs.declared.status.Status.TheVariants as status
 pub use Rattle.file_run.specs.Running.{Sent}
 
@@ -60,20 +56,11 @@ cut_part w0 w1 waiting text last result sink s cut =
 
 -- all was sent
 pub grew_written : (w0 w1 w2 : Option (List ℕ)) (waiting : OutputView) (text last : List ℕ) → Sent w0 w1 waiting text → Grew w1 w2 (waiting.bytes ++ last) → Grew w0 w2 (text ++ last)
-grew_written w0 w1 w2 waiting text last s grew =
-    let e : s.sent ++ (waiting.bytes ++ last) ≡ text ++ last = sym (append_assoc s.sent waiting.bytes last) ∙ ap (λ (z : List ℕ). z ++ last) s.whole in
-    subst (Grew w0 w2) e (grew_then w0 w1 w2 s.sent (waiting.bytes ++ last) s.sink grew)
+grew_written w0 w1 w2 waiting text last h k = grind (arith, common_steps)
 
 -- a first part of what begins a report begins it, and where it is shorter than that, the report is longer
 cuts_part : {H L E : Type 0} (r : Reporting H L E) (input : InputOf H E) (part text : List ℕ) → IsPrefix part text → length part < length text → BeginsReport r input text → CutsReport r input part
-cuts_part r input part text p less begun =
-    let rest = begun.3 in (
-      begun.0,
-      begun.1,
-      begun.2,
-      (p.0 ++ rest.0, rest.1 ∙ ap (λ (z : List ℕ). z ++ rest.0) p.1 ∙ append_assoc part p.0 rest.0),
-      omega (arith, less, ap (length {A = ℕ}) rest.1, length-append text rest.0),
-    )
+cuts_part r input part text h k l = grind (arith, common_steps)
 
 -- a whole report begins itself
 pub begins_whole : {H L E : Type 0} (r : Reporting H L E) (input : InputOf H E) (ended : Ended) (text : List ℕ) → r.reports input ended text → BeginsReport r input text

@@ -1,11 +1,7 @@
 -- Whole lines that are taken one after another.
-use Rattle.file_run.proofs.Common.{Goes, Halt, Halts, Held, IsLine, Stalls, TookLines, TookOneAtMost, consumes_then, from_line, joined, most_held}
+use Rattle.file_run.proofs.Common.{Bool, Consumes, Err, Goes, Halt, Halts, Held, IsLine, Option, Stalls, TookLines, TookOneAtMost, append-nil, consumes_then, from_line, joined, length-append, length_push, most_held, prepend_known}
 use Rattle.std.proofs.Common.{◌≡◌, ℕ, ◌+◌, List, [], ◌∷◌, ◌++◌, ◌≤◌, length, refl, ap, arith, ◌∙◌, sym, subst, append_assoc}
-use Rattle.std.specs.Prelude.{None, Some, Bool, Err}
-use Rattle.std.specs.declared.option.Option.{Option}
-use Rattle.std.specs.Io.KnownBytes.{Consumes, prepend_known}
-use Rattle.std.proofs.lemmas.List.{append-nil, length-append, length_push}
-use Rattle.std.proofs.lemmas.List.Elements.{All-append, All-nil, All-push}
+use Rattle.std.proofs.lemmas.List.Elements.{All-append, All-push}
 use Rattle.file_run.specs.declared.halt.Halt.TheVariants as halt
 
 pub joined-append : (xs ys : List (List ℕ)) → joined (xs ++ ys) ≡ joined xs ++ joined ys
@@ -15,13 +11,11 @@ joined-append (line ∷ xs) ys =
 
 -- before the first line
 pub took_none : (left : Option (List ℕ)) → TookLines 0 left left
-took_none None = record { lines = []; each = All-nil IsLine; counts = refl; taken = tt }
-took_none (Some xs) = record { lines = []; each = All-nil IsLine; counts = refl; taken = refl }
+took_none left = grind arith
 
 -- the line that a reader lends was taken from what was to come before it
 pub line_taken : (reader : Held) (left : Option (List ℕ)) → Consumes (from_line reader left) (prepend_known reader.bytes left) (reader.line ++ 10 ∷ [])
-line_taken reader None = tt
-line_taken reader (Some xs) = refl
+line_taken reader left = grind arith
 
 -- a line more
 pub took_line : (k lines : ℕ) (a b c : Option (List ℕ)) (line : List ℕ) → TookLines k a b → IsLine line → Consumes b c (line ++ 10 ∷ []) → lines ≡ k + 1 → TookLines lines a c
@@ -34,10 +28,6 @@ took_line k lines a b c line took is goes next =
       counts = length_push took.lines line ∙ ap (λ (n : ℕ). n + 1) took.counts ∙ sym next;
       taken = subst (Consumes a c) whole (consumes_then a b c (joined took.lines) (line ++ 10 ∷ []) took.taken goes);
     }
-
--- nothing, or a line
-pub took_nothing : (a b : Option (List ℕ)) → Consumes a b [] → TookOneAtMost a b
-took_nothing a b goes = (0, omega arith, record { lines = []; each = All-nil IsLine; counts = refl; taken = goes })
 
 pub took_one : (a b : Option (List ℕ)) (line : List ℕ) → IsLine line → Consumes a b (line ++ 10 ∷ []) → TookOneAtMost a b
 took_one a b line is goes = (1, omega arith, took_line 0 1 a a b line (took_none a) is goes refl)

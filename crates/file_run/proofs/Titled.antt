@@ -1,9 +1,6 @@
 -- The first line of an input is a title, or isn't.
-use Rattle.file_run.proofs.Common.{ByTitle, IsLine, IsTitled, first_line}
+use Rattle.file_run.proofs.Common.{ByTitle, Consumes, IfSome, IsLine, IsTitled, None, Ok, Option, Some, first_line}
 use Rattle.std.proofs.Common.{◌≡◌, ℕ, List, [], ◌∷◌, ◌++◌, ap, inl, inr}
-use Rattle.std.specs.Prelude.{Ok, IfSome, Some, None}
-use Rattle.std.specs.declared.option.Option.{Option}
-use Rattle.std.specs.Io.KnownBytes.{Consumes}
 use Rattle.file_run.proofs.Lines.{by_line}
 
 of_each : (told : Option (List ℕ)) (P : List ℕ → Type 0) → ((input : List ℕ) → P input) → IfSome told P

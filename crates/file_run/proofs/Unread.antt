@@ -1,21 +1,14 @@
 -- An input whose first line doesn't come, or is too long.
-use Rattle.file_run.proofs.Common.{Blames, Ended, FindsLine, Goes, Halt, HaltsHeader, InputFormat, LeavesUnbegun, Outside, RanOver, Reporting, Stalls, TakesMemory, Writes, halted_by, last_of, most_held}
-use Rattle.std.proofs.Common.{◌≡◌, ◌≤◌, ℕ, List, [], ◌++◌, length, refl, ap, subst, arith}
-use Rattle.std.specs.Prelude.{false, Err, Some, None}
-use Rattle.std.specs.declared.option.Option.{Option}
-use Rattle.std.specs.Io.KnownBytes.{prepend_known}
-use Rattle.file_run.specs.declared.halt.Halt.TheVariants as halt
+use Rattle.file_run.proofs.Common.{Blames, Ended, Err, FindsLine, Goes, Halt, HaltsHeader, InputFormat, LeavesUnbegun, Option, Outside, RanOver, Reporting, Stalls, TakesMemory, Writes, halted_by, last_of, most_held, prepend_known}
+use Rattle.std.proofs.Common.{◌≡◌, ◌≤◌, ℕ, List, [], length, refl, subst, arith, rules}
 use Rattle.file_run.proofs.Counted.{counted_halted}
 use Rattle.file_run.proofs.Exact.{ran_by}
-use Rattle.file_run.proofs.Found.{no_header_line}
-use Rattle.file_run.proofs.HeaderSeen.{header_halts, header_none}
 use Rattle.file_run.proofs.Running.{HasReports, header_halted}
 use Rattle.file_run.proofs.Taken.{halts_after, took_none}
 
 -- a reader that holds nothing changes nothing of what is to come
 pub nothing_held : (held : List ℕ) (told : Option (List ℕ)) → held ≡ [] → prepend_known held told ≡ told
-nothing_held held None none = refl
-nothing_held held (Some input) none = ap (λ (h : List ℕ). Some (h ++ input)) none
+nothing_held held told h = grind arith
 
 -- why there is no first line, with what is held after it and how often the source failed
 pub record IsUnread (why : Halt) (held : List ℕ) (told left : Option (List ℕ)) (before now : ℕ) : Type 0 where
@@ -43,10 +36,7 @@ unread why first held text told left from lines before now none zero finds goes 
 }
 
 unread_halts : {H L E : Type 0} (f : InputFormat H L E) (wants : Type 0) (why : Halt) (text : List ℕ) (told new : Option (List ℕ)) (lines : ℕ) → FindsLine (Err why) text told new → Goes {T = Unit {0}} (Err why) 0 lines told new → HaltsHeader f wants why told new
-unread_halts f wants (halt.Read count) text told new lines finds goes = header_halts f false f.start f.start 0 lines told told new (halt.Read count) (header_none f f.start told refl) tt goes
-unread_halts f wants halt.Memory text told new lines finds goes = absurd finds
-unread_halts f wants (halt.Refused number why) text told new lines finds goes =
-    header_halts f false f.start f.start 0 lines told told new (halt.Refused number why) (header_none f f.start told refl) (no_header_line f false f.start f.start (halt.Refused number why) text told new finds) goes
+unread_halts f wants why text told new lines h k = grind arith
 
 -- whatever machine was to run over it, its report is the line of the refusal
 pub unread_ran : {H L E : Type 0} (r : Reporting H L E) (o : Outside) (held : List ℕ) (why : Halt) (result : Ended) → HasReports r → IsUnread why held o.source.before o.source.after o.source.faults_before o.source.faults_after
@@ -60,5 +50,4 @@ unread_ran r o held why result has u writes later =
 -- and no machine was begun
 pub unread_leaves : {H L E : Type 0} (r : Reporting H L E) (o : Outside) (held : List ℕ) (why : Halt) (result : Ended) → IsUnread why held o.source.before o.source.after o.source.faults_before o.source.faults_after
     → Writes 0 (last_of why) (halted_by why) result o.sink → LeavesUnbegun r result o
-unread_leaves r o held why result u writes =
-    record { why = why; held = held; header = unread_halts r.format (TakesMemory r.memory) why u.text o.source.before (prepend_known held o.source.after) u.lines u.finds u.goes; writes = writes }
+unread_leaves r o held why result h k = search rules

@@ -1,10 +1,10 @@
 -- The parts of a frame by their places, and from its layout.
-use Rattle.std.proofs.Common.{◌≡◌, subst, ◌≢◌, ℕ, zero, suc, ◌+◌, ◌-◌, ◌*◌, ◌/◌, ◌%◌, ◌<◌, ◌≤◌, List, [], ◌∷◌, ◌++◌, length, take, drop, get_or, slice_index, slice_set, IsTrue, inl, inr, refl, sym, ap, ◌∙◌, arith, add-one, append_assoc}
+use Rattle.std.proofs.Common.{◌≡◌, ◌≢◌, ℕ, zero, suc, ◌+◌, ◌-◌, ◌*◌, ◌/◌, ◌%◌, ◌<◌, ◌≤◌, List, [], ◌∷◌, ◌++◌, length, take, drop, get_or, slice_index, slice_set, IsTrue, inl, inr, refl, sym, ap, ◌∙◌, arith, append_assoc, rules}
 use Rattle.std.proofs.lemmas.Bool.{cases_eq}
 use Rattle.std.proofs.lemmas.Bool.Decides.{nat_tests}
-use Rattle.std.proofs.Math.Seq.{drop-append_seam, drop-cons, take-append_seam}
+use Rattle.std.proofs.Math.Seq.{drop-append_seam, take-append_seam}
 use Rattle.std.proofs.Common.{length-append, length-drop, append-nil}
-use Rattle.std.proofs.lemmas.List.{drop_all, length-take-le, take_all, take_at}
+use Rattle.std.proofs.lemmas.List.{drop_all, length-take-le, take_at}
 use Rattle.std.specs.List.{refill}
 use borrow.Rule.Slice.PartMut.{put_mid}
 use Rattle.fsoe_base.specs.Lengths.{is_length, group_count, frame_len}
@@ -12,10 +12,11 @@ use Rattle.byteorder.specs.Endian.{little_bytes, little_number}
 use Rattle.fsoe_base.specs.Bytes.{low_high}
 use Rattle.fsoe_frame.specs.Layout.{groups, with_crcs, layout}
 use Rattle.fsoe_frame.specs.Parts.{Frame, AreBytes, bytes_of, pairs, one_byte, add_group, frame_of}
+use Rattle.std.proofs.lemmas.Grind.{common_steps}
 
 -- what a valid length other than 1 is
 even_length : (l : ℕ) → IsTrue (is_length l) → l ≢ 1 → (l % 2 ≡ 0) × (2 ≤ l) × (l ≤ 126)
-even_length l h other = grind (arith, nat_tests)
+even_length l h other = grind arith
 
 -- what stands at the places of n pairs
 pub record AtPlaces (command n : ℕ) (bytes : List ℕ) (f : Frame) : Type 0 where
@@ -87,9 +88,6 @@ of_five P five (x ∷ y ∷ z ∷ []) h = absurd (omega arith)
 of_five P five (x ∷ y ∷ z ∷ u ∷ []) h = absurd (omega arith)
 of_five P five (x ∷ y ∷ z ∷ u ∷ v ∷ w ∷ more) h = absurd (omega arith)
 
-one_at : (b : ℕ) (bytes : List ℕ) → length bytes ≡ 5 → FrameAt 1 (b ∷ bytes) (one_byte b bytes)
-one_at b = of_five (λ bytes. FrameAt 1 (b ∷ bytes) (one_byte b bytes)) (λ d c c' k k'. record { cmd_is = refl; conn_is = omega arith })
-
 pairs_at : (l b : ℕ) (bytes : List ℕ) → l % 2 ≡ 0 → length bytes ≡ 2 + 2 * l → FrameAt l (b ∷ bytes) (pairs b bytes)
 pairs_at l b bytes even h =
     let at : AtPlaces b (l / 2) bytes (pairs b bytes) = pairs_places b (l / 2) bytes (omega arith) in
@@ -97,21 +95,13 @@ pairs_at l b bytes even h =
     record { cmd_is = at.cmd_is; conn_is = rw low at.conn_is }
 
 len_other : (l : ℕ) → l ≢ 1 → frame_len l ≡ 3 + 2 * l
-len_other l h = grind (arith, nat_tests)
+len_other l h = grind arith
 
 frame_of_other : (l b : ℕ) (bytes : List ℕ) → l ≢ 1 → frame_of l (b ∷ bytes) ≡ pairs b bytes
-frame_of_other l b bytes h = grind (arith, nat_tests)
+frame_of_other l b bytes h = grind arith
 
 pub frame_at : (l : ℕ) (bytes : List ℕ) → IsTrue (is_length l) → length bytes ≡ frame_len l → FrameAt l bytes (frame_of l bytes)
-frame_at l [] valid h = absurd (positive l (sym h))
-  where
-    positive : (l : ℕ) → frame_len l ≡ 0 → ⊥
-    positive l h = grind (arith, nat_tests)
-frame_at l (b ∷ bytes) valid h =
-    elim (cases_eq l 1) [
-      | inl one ↦ rw one (one_at b bytes (let e : frame_len l ≡ 6 = ap frame_len one in omega arith))
-      | inr other ↦ rw (frame_of_other l b bytes other) (pairs_at l b bytes (even_length l valid other).0 (let e = len_other l other in omega arith))
-    ]
+frame_at l bytes h k = search (rules, frame_of_other, pairs_at, even_length, len_other)
 
 pub crc_other : (l : ℕ) (bytes : List ℕ) (k : ℕ) → IsTrue (is_length l) → l ≢ 1 → length bytes ≡ frame_len l → k < group_count l
     → slice_index (frame_of l bytes).crcs k ≡ little_number 2 (drop (3 + 4 * k) bytes)
@@ -127,73 +117,33 @@ crc_other l (b ∷ bytes) k valid other h lt =
     count_other l k other lt = grind (arith, nat_tests)
 
 one_layout : (cmd conn : ℕ) (load crcs : List ℕ) → length load ≡ 1 → length crcs ≡ 1 → frame_of 1 (layout cmd load crcs conn) ≡ record { cmd = cmd; load = load; crcs = crcs; conn = conn }
-one_layout cmd conn (d ∷ []) (c ∷ []) h k = rw (low_high_back c, low_high_back conn) refl
-one_layout cmd conn [] crcs h k = absurd (omega arith)
-one_layout cmd conn (d ∷ d' ∷ load) crcs h k = absurd (omega arith)
-one_layout cmd conn (d ∷ []) [] h k = absurd (omega arith)
-one_layout cmd conn (d ∷ []) (c ∷ c' ∷ crcs) h k = absurd (omega arith)
-
-pub count_one : (l : ℕ) → l ≡ 1 → group_count l ≡ 1
-count_one l h = grind (arith, nat_tests)
+one_layout cmd conn load crcs h k = grind (arith, common_steps)
 
 count_even : (l : ℕ) → l ≢ 1 → group_count l ≡ l / 2
-count_even l h = grind (arith, nat_tests)
+count_even l h = grind arith
 
 -- a layout has the parts that it was made of
 pub frame_layout : (cmd conn : ℕ) (load crcs : List ℕ) → IsTrue (is_length (length load)) → length crcs ≡ group_count (length load)
     → frame_of (length load) (layout cmd load crcs conn) ≡ record { cmd = cmd; load = load; crcs = crcs; conn = conn }
-frame_layout cmd conn load crcs h k =
-    elim (cases_eq (length load) 1) [
-      | inl one ↦ ap (λ l. frame_of l (layout cmd load crcs conn)) one ∙ one_layout cmd conn load crcs one (k ∙ count_one (length load) one)
-      | inr other ↦
-          frame_of_other (length load) cmd (with_crcs (groups load) crcs ++ low_high conn) other
-          ∙ pairs_layout cmd conn (length load / 2) load crcs (let e = (even_length (length load) h other).0 in omega arith) (k ∙ count_even (length load) other)
-    ]
+frame_layout cmd conn load crcs h k = search (rules, one_layout, pairs_layout)
 
 drop_four : (bytes : List ℕ) (j : ℕ) → j + 3 < length bytes → drop j bytes ≡ get_or bytes j 0 ∷ get_or bytes (j + 1) 0 ∷ get_or bytes (j + 2) 0 ∷ get_or bytes (j + 3) 0 ∷ drop (j + 4) bytes
-drop_four bytes j h =
-    one j (omega arith)
-    ∙ ap (λ xs. get_or bytes j 0 ∷ xs) (one (j + 1) (omega arith)
-    ∙ (ap (λ n. get_or bytes (j + 1) 0 ∷ drop n bytes) two
-    ∙ ap (λ xs. get_or bytes (j + 1) 0 ∷ xs) (one (j + 2) (omega arith)
-    ∙ (ap (λ n. get_or bytes (j + 2) 0 ∷ drop n bytes) three
-    ∙ ap (λ xs. get_or bytes (j + 2) 0 ∷ xs) (one (j + 3) h ∙ ap (λ n. get_or bytes (j + 3) 0 ∷ drop n bytes) four)))))
-  where
-    one : (i : ℕ) → i < length bytes → drop i bytes ≡ get_or bytes i 0 ∷ drop (i + 1) bytes
-    one i lt = drop-cons bytes i 0 lt ∙ ap (λ n. get_or bytes i 0 ∷ drop n bytes) (sym (add-one i))
-
-    two : j + 1 + 1 ≡ j + 2
-    two = omega arith
-
-    three : j + 2 + 1 ≡ j + 3
-    three = omega arith
-
-    four : j + 3 + 1 ≡ j + 4
-    four = omega arith
+drop_four bytes j h = grind (arith, common_steps)
 
 -- the next pair of the load
 pub next_pair : (cmd : ℕ) (bytes : List ℕ) (i : ℕ) → 1 + 4 * i + 3 < length bytes
     → (pairs cmd (drop (1 + 4 * i) bytes)).load ≡ get_or bytes (1 + 4 * i) 0 ∷ get_or bytes (2 + 4 * i) 0 ∷ (pairs cmd (drop (1 + 4 * (i + 1)) bytes)).load
-next_pair cmd bytes i h =
-    let second : 1 + 4 * i + 1 ≡ 2 + 4 * i = omega arith in
-    let next : 1 + 4 * i + 4 ≡ 1 + 4 * (i + 1) = omega arith in
-    ap (λ xs. (pairs cmd xs).load) (drop_four bytes (1 + 4 * i) h)
-    ∙ ap (λ n. get_or bytes (1 + 4 * i) 0 ∷ get_or bytes n 0 ∷ (pairs cmd (drop (1 + 4 * i + 4) bytes)).load) second
-    ∙ ap (λ n. get_or bytes (1 + 4 * i) 0 ∷ get_or bytes (2 + 4 * i) 0 ∷ (pairs cmd (drop n bytes)).load) next
+next_pair cmd bytes i h = search (rules, drop_four)
 
 short_load : (cmd : ℕ) (bytes : List ℕ) → length bytes ≤ 2 → (pairs cmd bytes).load ≡ []
-short_load cmd [] h = refl
-short_load cmd (a ∷ []) h = refl
-short_load cmd (a ∷ b ∷ []) h = refl
-short_load cmd (a ∷ b ∷ c ∷ bytes) h = absurd (omega arith)
+short_load cmd bytes h = grind arith
 
 -- the load is read where two bytes are left
 pub end_load : (cmd : ℕ) (bytes : List ℕ) (i : ℕ) → length bytes ≤ 1 + 4 * i + 2 → (pairs cmd (drop (1 + 4 * i) bytes)).load ≡ []
 end_load cmd bytes i h = short_load cmd (drop (1 + 4 * i) bytes) (omega (arith, length-drop (1 + 4 * i) bytes))
 
 pub other_load : (l : ℕ) (bytes : List ℕ) → l ≢ 1 → (frame_of l bytes).load ≡ (pairs (slice_index bytes 0) (drop 1 bytes)).load
-other_load l [] other = refl
-other_load l (b ∷ bytes) other = ap (λ f. f.load) (frame_of_other l b bytes other)
+other_load l bytes h = search rules
 
 pub frame_len_other : (l : ℕ) → IsTrue (is_length l) → l ≢ 1 → (l % 2 ≡ 0) × (frame_len l ≡ 3 + 2 * l)
 frame_len_other l valid other = ((even_length l valid other).0, len_other l other)
@@ -216,10 +166,7 @@ reads_pair l bytes out new whole i valid other right lt e f =
 pub reads_all : (l : ℕ) (bytes out : List ℕ) (i : ℕ) → IsTrue (is_length l) → l ≢ 1 → length bytes ≡ frame_len l → l / 2 ≤ i
     → out ++ (pairs (slice_index bytes 0) (drop (1 + 4 * i) bytes)).load ≡ (pairs (slice_index bytes 0) (drop 1 bytes)).load
     → out ≡ (frame_of l bytes).load
-reads_all l bytes out i valid other right le e =
-    let len = frame_len_other l valid other in
-    let short : length bytes ≤ 1 + 4 * i + 2 = omega arith in
-    sym (append-nil out) ∙ sym (ap (λ xs. out ++ xs) (end_load (slice_index bytes 0) bytes i short)) ∙ e ∙ sym (other_load l bytes other)
+reads_all l bytes out i h k m n o = search (rules, end_load, other_load)
 
 -- how many bytes and CRCs n pairs give
 pairs_counts : (cmd n : ℕ) (bytes : List ℕ) → length bytes ≡ 4 * n + 2 → (length (pairs cmd bytes).load ≡ 2 * n) × (length (pairs cmd bytes).crcs ≡ n)
@@ -229,18 +176,11 @@ pairs_counts cmd =
 
 -- two bytes from the number that they make
 low_high_of : (c c' : ℕ) → c < 256 → low_high (c + 256 * c') ≡ c ∷ c' ∷ []
-low_high_of c c' h =
-    let low : (c + 256 * c') % 256 ≡ c = omega arith in
-    let high : (c + 256 * c') / 256 ≡ c' = omega arith in
-    rw (low, high) refl
+low_high_of c c' h = grind arith
 
 -- one more pair is laid out as it was read
 more_bytes : (cmd d d' c c' : ℕ) (bytes : List ℕ) (f : Frame) → c < 256 → f.cmd ≡ cmd → bytes_of f ≡ cmd ∷ bytes → bytes_of (add_group d d' (c + 256 * c') f) ≡ cmd ∷ d ∷ d' ∷ c ∷ c' ∷ bytes
-more_bytes cmd d d' c c' bytes f lt same e =
-    let rest : with_crcs (groups f.load) f.crcs ++ low_high f.conn ≡ bytes = ap (drop 1) e in
-    ap (λ xs. f.cmd ∷ d ∷ d' ∷ (xs ++ with_crcs (groups f.load) f.crcs) ++ low_high f.conn) (low_high_of c c' lt)
-    ∙ ap (λ xs. f.cmd ∷ d ∷ d' ∷ c ∷ c' ∷ xs) rest
-    ∙ ap (λ x. x ∷ d ∷ d' ∷ c ∷ c' ∷ bytes) same
+more_bytes cmd d d' c c' bytes f h k l = grind arith
 
 -- n pairs are laid out as they were read
 pairs_bytes : (cmd n : ℕ) (bytes : List ℕ) → length bytes ≡ 4 * n + 2 → ((pairs cmd bytes).cmd ≡ cmd) × (AreBytes bytes → bytes_of (pairs cmd bytes) ≡ cmd ∷ bytes)
@@ -287,9 +227,7 @@ whole l (b ∷ bytes) valid h =
 
 -- the group of a CRC that a frame has, and its place among the bytes of pairs
 pub group_of : (l : ℕ) (bytes : List ℕ) (f : Frame) (k : ℕ) → IsTrue (is_length l) → length bytes ≡ frame_len l → frame_of l bytes ≡ f → k < length f.crcs → k < group_count l
-group_of l bytes f k valid right e lt =
-    let count : length f.crcs ≡ group_count l = sym (ap (λ g. length g.crcs) e) ∙ (whole l bytes valid right).crcs in
-    omega arith
+group_of l bytes f k valid right e lt = omega (arith, sym (ap (λ g. length g.crcs) e) ∙ (whole l bytes valid right).crcs)
 
 pub crc_within : (l : ℕ) (bytes : List ℕ) (f : Frame) (k : ℕ) → IsTrue (is_length l) → length bytes ≡ frame_len l → frame_of l bytes ≡ f → l ≢ 1 → k < length f.crcs → 3 + 4 * k + 2 ≤ length bytes
 crc_within l bytes f k valid right e other lt =
@@ -302,40 +240,22 @@ crc_at_pairs l bytes f k valid right e other lt = sym (crc_other l bytes k valid
 -- the load of a frame is as long as a load can be, with a CRC for each group
 pub loaded : (l : ℕ) (bytes out : List ℕ) (f : Frame) → IsTrue (is_length l) → length bytes ≡ frame_len l → frame_of l bytes ≡ f → out ≡ f.load
     → IsTrue (is_length (length out)) × (length f.crcs ≡ group_count (length out))
-loaded l bytes out f valid right e o =
-    let w : Whole l bytes (frame_of l bytes) = whole l bytes valid right in
-    let len : l ≡ length out = sym w.load ∙ ap (λ g. length g.load) e ∙ sym (ap length o) in
-    (subst (λ n. IsTrue (is_length n)) len valid, sym (ap (λ g. length g.crcs) e) ∙ w.crcs ∙ ap group_count len)
+loaded l bytes out f h k m n = search (rules, whole)
 
 -- the next pair of a load
 pub pair_left : (load : List ℕ) (i : ℕ) → 2 * i + 1 < length load → drop (2 * i) load ≡ get_or load (2 * i) 0 ∷ get_or load (2 * i + 1) 0 ∷ drop (2 * (i + 1)) load
-pair_left load i h =
-    let more : suc (2 * i + 1) ≡ 2 * (i + 1) = omega arith in
-    drop-cons load (2 * i) 0 (omega arith)
-    ∙ ap (λ n. get_or load (2 * i) 0 ∷ drop n load) (sym (add-one (2 * i)))
-    ∙ ap (λ xs. get_or load (2 * i) 0 ∷ xs) (drop-cons load (2 * i + 1) 0 h ∙ ap (λ n. get_or load (2 * i + 1) 0 ∷ drop n load) more)
+pair_left load i h = grind (arith, common_steps)
 
 -- one more pair is written, with its CRC
 pub writes_pair : (load crcs out new whole : List ℕ) (i : ℕ) → 2 * i + 1 < length load → i < length crcs
     → out ++ with_crcs (groups (drop (2 * i) load)) (drop i crcs) ≡ whole
     → new ≡ (out ++ get_or load (2 * i) 0 ∷ get_or load (2 * i + 1) 0 ∷ []) ++ low_high (get_or crcs i 0)
     → new ++ with_crcs (groups (drop (2 * (i + 1)) load)) (drop (i + 1) crcs) ≡ whole
-writes_pair load crcs out new whole i h k e f =
-    let rest : List ℕ = with_crcs (groups (drop (2 * (i + 1)) load)) (drop (i + 1) crcs) in
-    let d : ℕ = get_or load (2 * i) 0 in
-    let d' : ℕ = get_or load (2 * i + 1) 0 in
-    let crc : drop i crcs ≡ get_or crcs i 0 ∷ drop (i + 1) crcs = drop-cons crcs i 0 k ∙ ap (λ n. get_or crcs i 0 ∷ drop n crcs) (sym (add-one i)) in
-    let here : with_crcs (groups (drop (2 * i) load)) (drop i crcs) ≡ d ∷ d' ∷ low_high (get_or crcs i 0) ++ rest =
-    ap (λ xs. with_crcs (groups xs) (drop i crcs)) (pair_left load i h)
-    ∙ ap (λ xs. with_crcs (groups (d ∷ d' ∷ drop (2 * (i + 1)) load)) xs) crc in
-    ap (λ xs. xs ++ rest) (f ∙ append_assoc out (d ∷ d' ∷ []) (low_high (get_or crcs i 0)))
-    ∙ append_assoc out (d ∷ d' ∷ low_high (get_or crcs i 0)) rest
-    ∙ sym (ap (λ xs. out ++ xs) here)
-    ∙ e
+writes_pair load crcs out new whole i h k l m = grind (arith, common_steps)
 
 -- a CRC of pairs has its pair
 pub pair_of_crc : (load crcs : List ℕ) (i : ℕ) → IsTrue (is_length (length load)) → length load ≢ 1 → length crcs ≡ group_count (length load) → i < length crcs → 2 * i + 1 < length load
-pair_of_crc load crcs i valid other count lt = omega (arith, even_length (length load) valid other, count, count_even (length load) other)
+pair_of_crc load crcs i valid other count lt = omega (arith, count_even (length load) other)
 
 -- a part that is put after a front stands there
 pub put_taken : (at next : ℕ) (out new piece post : List ℕ) → at ≤ length out → next ≡ at + length piece → new ≡ piece → take next (take at out ++ (new ++ post)) ≡ take at out ++ piece
@@ -346,14 +266,11 @@ put_taken at next out new piece post le end is =
 
 -- what `write_u16` puts in front of what stays
 written : (n : ℕ) (new rest : List ℕ) → new ≡ little_bytes 2 n ++ rest → n < 65536 → new ≡ low_high n ++ rest
-written n new rest e fits =
-    let high : n / 256 % 256 ≡ n / 256 = omega arith in
-    e ∙ ap (λ h. n % 256 ∷ h ∷ rest) high
+written n new rest h k = grind arith
 
 -- a number that is written over the last two bytes
 pub written_last : (n : ℕ) (new rest : List ℕ) → new ≡ little_bytes 2 n ++ rest → n < 65536 → length new ≤ 2 → new ≡ low_high n
-written_last n new [] e fits two = written n new [] e fits
-written_last n new (b ∷ rest) e fits two = absurd (let long = ap length e in omega arith)
+written_last n new rest h k l = grind (arith, common_steps)
 
 -- a number that is written after a front stands there
 pub number_taken : (at next n : ℕ) (out new rest post : List ℕ) → new ≡ little_bytes 2 n ++ rest → n < 65536 → at ≤ length out → next ≡ at + 2
@@ -371,26 +288,6 @@ pub after_first : (out last : List ℕ) (b : ℕ) → 0 < length out → put_mid
 after_first (x ∷ out) last b some = ap (λ xs. b ∷ (last ++ xs)) (drop_all (length (b ∷ out) - 1) out (omega arith)) ∙ ap (λ xs. b ∷ xs) (append-nil last)
 after_first [] last b some = absurd (omega arith)
 
--- a group of one byte, with its CRC
-pub one_group : (load crcs : List ℕ) → length load ≡ 1 → length crcs ≡ 1 → get_or load 0 0 ∷ low_high (get_or crcs 0 0) ≡ with_crcs (groups load) crcs
-one_group (d ∷ []) (c ∷ []) h k = refl
-one_group [] crcs h k = absurd (omega arith)
-one_group (d ∷ d' ∷ load) crcs h k = absurd (omega arith)
-one_group (d ∷ []) [] h k = absurd (omega arith)
-one_group (d ∷ []) (c ∷ c' ∷ crcs) h k = absurd (omega arith)
-
--- all groups are written
-pub all_written : (load crcs out whole : List ℕ) (i : ℕ) → IsTrue (is_length (length load)) → length load ≢ 1 → length crcs ≡ group_count (length load)
-    → length crcs ≤ i → length out ≡ length load + 2 * length crcs
-    → take (4 * i) out ++ with_crcs (groups (drop (2 * i) load)) (drop i crcs) ≡ whole → out ≡ whole
-all_written load crcs out whole i valid other count le room e =
-    let even = even_length (length load) valid other in
-    let pairs_count = count_even (length load) other in
-    let none : with_crcs (groups (drop (2 * i) load)) (drop i crcs) ≡ [] =
-    ap (λ xs. with_crcs (groups xs) (drop i crcs)) (drop_all (2 * i) load (omega (arith, even, pairs_count))) in
-    sym (take_all (4 * i) out (omega (arith, even, pairs_count))) ∙ sym (append-nil (take (4 * i) out))
-    ∙ sym (ap (λ xs. take (4 * i) out ++ xs) none) ∙ e
-
 -- the command byte, what is written after it up to a place, and what is written there up to the end are all
 pub framed : (out middle last : List ℕ) (cmd end k k' : ℕ) → 0 < length out → end ≡ suc (length middle) → length out ≤ suc (k + k')
     → put_mid end k' (put_mid 1 k (slice_set out 0 cmd) middle) last ≡ cmd ∷ (middle ++ last)
@@ -406,8 +303,4 @@ framed [] middle last cmd end k k' some e room = absurd (omega arith)
 
 -- how many bytes the groups have with their CRCs
 pub group_bytes : (l n count : ℕ) → IsTrue (is_length l) → n ≡ frame_len l → count ≡ group_count l → n ≡ 3 + (l + 2 * count)
-group_bytes l n count valid right e =
-    elim (cases_eq l 1) [
-      | inl one ↦ (let six : frame_len l ≡ 6 = ap frame_len one in omega (arith, six, count_one l one))
-      | inr other ↦ omega (arith, even_length l valid other, len_other l other, count_even l other)
-    ]
+group_bytes l n count h k m = grind arith

@@ -1,10 +1,11 @@
 -- Parts of a buffer after a read into its end, and after a line was taken from its front.
-use Rattle.std.proofs.Common.{◌≡◌, ℕ, ◌+◌, ◌-◌, ◌≤◌, List, ◌++◌, length, take, drop, refl, arith, ap, ◌∙◌, sym}
+use Rattle.std.proofs.Common.{◌≡◌, ℕ, ◌+◌, ◌-◌, ◌≤◌, List, ◌++◌, length, take, drop, arith, ap, ◌∙◌, sym}
 use Rattle.std.specs.List.{copy_within}
-use Rattle.std.proofs.lemmas.List.{take-append-le, drop_at, length-take-le, length-take, length-drop, drop-take, drop-drop, take_at}
+use Rattle.std.proofs.lemmas.List.{take-append-le, drop_at, length-take-le, drop-take, drop-drop}
 use Rattle.std.proofs.lemmas.Slice.{take-put_mid_below}
 use Rattle.std.proofs.Math.Seq.{take-add}
 use borrow.Rule.Slice.PartMut.{put_mid, post_of}
+use Rattle.std.proofs.lemmas.Grind.{common_steps}
 
 pub filled : (n m k : ℕ) (xs ys : List ℕ) → n ≤ length xs → m ≤ length ys → take (n + m) (put_mid n k xs ys) ≡ take n xs ++ take m ys
 filled n m k xs ys h j =
@@ -23,7 +24,4 @@ rest_after s e n xs h =
     ∙ ap (λ (z : ℕ). drop n (take z (drop s xs))) (sym k)
 
 pub shifted : (s e : ℕ) (xs : List ℕ) → s ≤ e → e ≤ length xs → take (e - s) (copy_within xs s e 0) ≡ take (e - s) (drop s xs)
-shifted s e xs h j =
-    let part : take (e - s) (drop s xs) ≡ take (e - s) (drop s xs) = refl in
-    let size : length (take (e - s) (drop s xs)) ≡ e - s = omega (arith, length-take (e - s) (drop s xs), length-drop s xs) in
-    take_at (take (e - s) (drop s xs)) (drop (0 + (e - s)) xs) (e - s) size
+shifted s e xs h k = grind (arith, common_steps)

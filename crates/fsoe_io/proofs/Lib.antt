@@ -6,5 +6,4 @@ pub mod Reading
 pub mod Newline
 pub mod Raised
 pub mod Shelves
-pub mod Loading
 pub mod Numbers

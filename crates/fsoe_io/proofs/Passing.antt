@@ -1,15 +1,15 @@
 -- Pieces that go through a buffer.
 use Rattle.std.proofs.Common.{◌≡◌, ℕ, ◌+◌, ◌≤◌, ◌<◌, List, [], ◌++◌, length, take, drop, arith, ap, sym, ◌∙◌, append_assoc}
-use Rattle.std.specs.Prelude.{None, Some, Result, Ok, Err}
+use Rattle.std.specs.Prelude.{Result, Ok, Err}
 use Rattle.std.specs.declared.option.Option.{Option}
 use Rattle.std.proofs.lemmas.List.{append-nil, take-append-drop, length-take-le, length-append, length-drop}
 use Rattle.fsoe_io.specs.Sink.{Grew}
 use Rattle.fsoe_io.proofs.Grown.{grew_then}
 use Rattle.fsoe_io.specs.Output.{OutputView, Loses, Passes, Puts}
+use Rattle.std.proofs.lemmas.Grind.{common_steps}
 
 pub grew_none : (known : Option (List ℕ)) → Grew known known []
-grew_none None = tt
-grew_none (Some xs) = sym (append-nil xs)
+grew_none known = grind (arith, common_steps)
 
 -- a flush that failed sent a part
 pub loses_part : (old new : OutputView) (before now : Option (List ℕ)) (done : ℕ) → done < length old.bytes → new.sent ≡ old.sent + done → Grew before now (take done old.bytes)
@@ -43,13 +43,6 @@ loses_piece old new before now piece rest l = record { passes = passes_piece old
 -- nothing is sent
 pub passes_none : (old : OutputView) (known : Option (List ℕ)) → Passes old old known known [] old.bytes
 passes_none old known = record { part = []; grew = grew_none known; whole = append-nil old.bytes; sent = omega arith }
-
--- a piece is added to what waits
-pub passes_push : (old mid new : OutputView) (before now : Option (List ℕ)) (piece : List ℕ) → Passes old mid before now [] mid.bytes → new.bytes ≡ mid.bytes ++ piece → new.sent ≡ mid.sent
-    → Passes old new before now piece new.bytes
-passes_push old mid new before now piece p e s =
-    let q = passes_piece old mid before now piece mid.bytes p in
-    record { part = q.part; grew = q.grew; whole = q.whole ∙ ap (λ (z : List ℕ). q.part ++ z) (sym e); sent = s ∙ q.sent }
 
 -- a second call after a first
 pub passes_then : (old mid new : OutputView) (before between now : Option (List ℕ)) (piece rest : List ℕ) → Passes old mid before between piece mid.bytes → Passes mid new between now [] rest

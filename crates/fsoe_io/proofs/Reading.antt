@@ -1,6 +1,7 @@
 -- What a read gives of the bytes that are left.
 use Rattle.std.proofs.Common.{◌≡◌, ℕ, ◌+◌, ◌-◌, ◌≤◌, ◌<◌, List, [], ◌++◌, length, take, drop, arith, ap, sym, ◌∙◌, min}
-use Rattle.std.proofs.lemmas.List.{take-append-drop, take_at, length-take-le, length-drop, length-append, drop-drop, drop_all}
+use Rattle.std.proofs.lemmas.List.{take-append-drop, take_at, length-take-le, length-drop, drop-drop}
+use Rattle.std.proofs.lemmas.Grind.{common_steps}
 
 -- the first n bytes left stand in the buffer, and the rest is left
 pub given_part : (at n : ℕ) (items given rest : List ℕ) → at + n ≤ length items → given ≡ take n (drop at items) → drop at items ≡ take n (given ++ rest) ++ drop (at + n) items
@@ -14,11 +15,4 @@ given_part at n items given rest fits is =
 -- a read of as many bytes as the buffer has room for and as are left
 pub read_part : (at n : ℕ) (items given buffer : List ℕ) → at ≤ length items → n ≡ min (length buffer) (length items - at) → given ≡ take ((at + n) - at) (drop at items)
     → (drop at items ≡ take n (given ++ drop n buffer) ++ drop (at + n) items) × (n ≡ 0 → 0 < length (given ++ drop n buffer) → drop (at + n) items ≡ [])
-read_part at n items given buffer in_range most is =
-    let fits : at + n ≤ length items = omega (arith, most) in
-    let same : (at + n) - at ≡ n = omega arith in
-    let part : given ≡ take n (drop at items) = is ∙ ap (λ (k : ℕ). take k (drop at items)) same in
-    let size : length given ≡ n = ap (length {A = ℕ}) part ∙ length-take-le n (drop at items) (omega (arith, length-drop at items)) in (
-      given_part at n items given (drop n buffer) fits part,
-      λ none some. drop_all (at + n) items (omega (arith, none, some, most, size, length-append given (drop n buffer), length-drop n buffer)),
-    )
+read_part at n items given buffer h k l = grind (arith, common_steps, given_part)

@@ -1,8 +1,8 @@
 -- What accepting a frame does to a master, whatever its offer and its nonce: the frame is dropped, or another one is
 -- due then.
-use Rattle.master_core.proofs.Common.{Accepted, Code, Did, Dropped, KitView, MasterView, OfMaster, OfferView, Opened, Phase, SessionFrameView, accepted, accepted_by, bytes_of, code, drops, fault, is_due, is_repeat, kept_in, makes_due, next_phase, no_session, on_session, opened, receives, refuses, resets, settles, takes, tells_due}
+use Rattle.master_core.proofs.Common.{Accepted, Code, Did, Dropped, KitView, MasterView, OfMaster, OfferView, Opened, Phase, SessionFrameView, accepted, accepted_by, bytes_of, code, drops, fault, is_due, is_repeat, kept_in, makes_due, no_session, on_session, opened, receives, refuses, resets, settles, takes, tells_due}
 use Rattle.master_core.specs.Phase.{is_reset}
-use Rattle.std.proofs.Common.{◌≡◌, ℕ, List, ◌==◌, Bool, true, false, ◌||◌, is_some, Option, Some, None, Result, Ok, Err, if◌then◌else◌, refl, sym, subst}
+use Rattle.std.proofs.Common.{◌≡◌, ℕ, List, ◌==◌, Bool, true, false, ◌||◌, is_some, Option, Result, Ok, Err, if◌then◌else◌, refl, sym, arith, rules}
 use Rattle.fsoe_base.specs.declared.command.Command.TheVariants as command
 use Rattle.fsoe_base.specs.declared.did.Cause.TheVariants as cause
 use Rattle.fsoe_base.specs.declared.did.Dropped.TheVariants as dropped
@@ -13,13 +13,6 @@ use Rattle.master_core.specs.declared.phase.Phase.TheVariants as phase
 abbrev with_both : KitView → OfferView → ℕ → KitView
 with_both k o n = record { settings = k.settings; offer = o; nonce = n }
 
--- what a frame leads to doesn't depend on them
-taken-with : (p : Phase) (k : KitView) (o : OfferView) (n : ℕ) (f : SessionFrameView) → next_phase (with_both k o n) p f ≡ next_phase k p f
-taken-with (phase.Session s) k o n f = refl
-taken-with (phase.Connection s) k o n f = refl
-taken-with (phase.Parameter s) k o n f = refl
-taken-with _ k o n f = refl
-
 abbrev pub view_with : MasterView → OfferView → ℕ → MasterView
 view_with v o n = record { kit = with_both v.kit o n; state = v.state; timer = v.timer }
 
@@ -29,8 +22,7 @@ pub data Alike (v w : MasterView) : Accepted → Accepted → Type 0 where
   MakesDue : (p : Phase) (x : Code) (did : Did) → tells_due did ≡ true → Alike v w (makes_due v p x did) (makes_due w p x did)
 
 either : (b : Bool) (v w : MasterView) (x y x' y' : Accepted) → Alike v w x x' → Alike v w y y' → Alike v w (if b then x else y) (if b then x' else y')
-either true v w x y x' y' h i = h
-either false v w x y x' y' h i = i
+either b v w x y x' y' h k = grind arith
 
 settled : (r : Result Phase Code) (v w : MasterView) (f : SessionFrameView) → Alike v w (settles v f r) (settles w f r)
 settled (Ok n) v w f = MakesDue n (code 0) (takes f.command f.frame.load true) refl
@@ -40,10 +32,7 @@ refused : (x : Code) (v : MasterView) (o : OfferView) (n : ℕ) → Alike v (vie
 refused x v o n = either (is_reset v.state.phase) v (view_with v o n) _ _ _ _ (Drops dropped.InReset) (MakesDue (phase.Reset no_session) x (resets false (cause.Found x)) refl)
 
 in_session : (found : Option Code) (v : MasterView) (o : OfferView) (n : ℕ) (f : SessionFrameView) → Alike v (view_with v o n) (on_session v f found) (on_session (view_with v o n) f found)
-in_session None v o n f =
-    subst (λ (r : Result Phase Code). Alike v (view_with v o n) (settles v f (next_phase v.kit v.state.phase f)) (settles (view_with v o n) f r))
-    (sym (taken-with v.state.phase v.kit o n f)) (settled (next_phase v.kit v.state.phase f) v (view_with v o n) f)
-in_session (Some x) v o n f = refused x v o n
+in_session found v o n f = search (rules, settled, refused)
 
 by_opened : (w : Opened) (v : MasterView) (o : OfferView) (n : ℕ) → Alike v (view_with v o n) (accepted_by v w) (accepted_by (view_with v o n) w)
 by_opened (opened_as.Drop why) v o n = Drops why
@@ -59,8 +48,7 @@ accepts_alike v o n bytes = by_opened (opened (receives (OfMaster v.kit.settings
 
 -- the kit stays
 pub kit_kept : (v w : MasterView) (a b : Accepted) → Alike v w a b → a.master.kit ≡ v.kit
-kit_kept v w a b (Drops why) = refl
-kit_kept v w a b (MakesDue n x did told) = refl
+kit_kept v w a b h = grind arith
 
 -- what sets the offer and the nonce may come before the frame as well as after it
 pub commutes : (o : OfferView → OfferView) (n : ℕ → ℕ) (v : MasterView) (a b : Accepted) → Alike v (view_with v (o v.kit.offer) (n v.kit.nonce)) a b
@@ -77,5 +65,4 @@ pub due_told : (v : MasterView) (bytes : List ℕ) → is_due v.state ≡ false 
 due_told v bytes h = due_by v _ _ _ (accepts_alike v v.kit.offer v.kit.nonce bytes) h
 
 pub age_by : (v w : MasterView) (a b : Accepted) → Alike v w a b → is_due v.state ≡ false → is_due a.master.state ≡ true → a.master.timer.age ≡ 0
-age_by v w a b (Drops why) h k = absurd (cc (h, k))
-age_by v w a b (MakesDue n x did told) h k = refl
+age_by v w a b h k l = grind arith

@@ -1,7 +1,6 @@
 -- What each event leaves at the machine is what looking back gives.
-use Rattle.master_core.proofs.Common.{Accepted, Command, Deed, IsProper, IsRun, MasterSettings, Move, OfMaster, State, after, answered_by, code, did_on, kit_of, next_phase, notes_of, on_verdict, phase_in, settles, state_of, view_in, view_of}
+use Rattle.master_core.proofs.Common.{Accepted, Command, Deed, IsProper, IsRun, MasterSettings, Move, OfMaster, State, after, answered_by, code, did_on, kit_of, length-replicate, next_phase, notes_of, on_verdict, phase_in, settles, state_of, view_in, view_of}
 use Rattle.std.proofs.Common.{◌≡◌, ℕ, ◌-◌, ◌<◌, List, [], ◌∷◌, refl, sym, subst, arith}
-use Rattle.std.proofs.lemmas.List.{length-replicate}
 use Rattle.fsoe_base.specs.declared.command.Command.TheVariants as command
 use Rattle.fsoe_base.specs.declared.command.State.TheVariants as state
 use Rattle.fsoe_base.specs.declared.did.Cause.TheVariants as cause

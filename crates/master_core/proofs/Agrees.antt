@@ -1,10 +1,7 @@
 -- What an event leaves at the machine is what looking back gives: where no frame of a session is taken.
 use Rattle.master_core.proofs.Common.{AreBytes, Cause, Code, Deed, Did, Dropped, KitView, MasterSettings, MasterView, Move, OfMaster, Outcome, Phase, State, answered_by, at_limit, at_rest, code, code_sent, deed_of, dropped, drops, ends, falls, kit_of, notes_of, nothing, on_expiry, on_fault, phase_in, refuses, resets, state_of, tick_of, ticks, view_in, view_of, with_kit}
-use Rattle.std.proofs.Common.{◌≡◌, ℕ, suc, ◌+◌, ◌<◌, ◌==◌, nat_le, List, [], ◌∷◌, length, Bool, true, false, if◌then◌else◌, refl, sym, ap, subst, ◌∙◌, arith}
-use Rattle.std.proofs.lemmas.Bool.Decides.{nat_tests}
-use Rattle.fsoe_base.specs.declared.command.State.TheVariants as state
+use Rattle.std.proofs.Common.{◌≡◌, ℕ, suc, ◌+◌, ◌<◌, ◌==◌, nat_le, List, [], ◌∷◌, length, Bool, true, false, if◌then◌else◌, refl, ap, subst, ◌∙◌, arith}
 use Rattle.fsoe_base.specs.declared.did.Cause.TheVariants as cause
-use Rattle.fsoe_base.specs.declared.did.Dropped.TheVariants as why
 use Rattle.seq_chain.specs.Reset.{reset_frame}
 use Rattle.param_load.specs.declared.entry.Move.TheVariants as move
 use Rattle.master_core.proofs.Sound.{Sound}
@@ -58,18 +55,12 @@ falls-agree p ms e m because x k c s = resets-agree p ms e m false because x k c
 -- a test fails
 pub refuse-agrees : (p : State) (ms : MasterSettings) (e : List Deed) (bytes : List ℕ) (x : Code) → state_of (OfMaster ms) e ≡ p → Sound ms e
     → Agrees ms e (move.Deliver bytes) (on_fault p false x) (answered_by (refuses (view_in p ms e) x))
-refuse-agrees state.Reset ms e bytes x now s = drop-agrees state.Reset ms e bytes why.InReset now s
-refuse-agrees state.Session ms e bytes x now s = resets-agree state.Session ms e (move.Deliver bytes) false (cause.Found x) x refl refl s
-refuse-agrees state.Connection ms e bytes x now s = resets-agree state.Connection ms e (move.Deliver bytes) false (cause.Found x) x refl refl s
-refuse-agrees state.Parameter ms e bytes x now s = resets-agree state.Parameter ms e (move.Deliver bytes) false (cause.Found x) x refl refl s
-refuse-agrees state.Data ms e bytes x now s = resets-agree state.Data ms e (move.Deliver bytes) false (cause.Found x) x refl refl s
+refuse-agrees p ms e bytes x h k = grind arith
 
 -- a valid Reset frame of the peer ends a session
 pub peer-resets : (p : State) (ms : MasterSettings) (e : List Deed) (bytes : List ℕ) (x y : Code) → x ≡ y → Sound ms e
     → Agrees ms e (move.Deliver bytes) (resets false (cause.Peer y)) (answered_by (ends (view_in p ms e) false (cause.Peer x) (code 0)))
-peer-resets p ms e bytes x y h s =
-    subst (λ (x : Code). Agrees ms e (move.Deliver bytes) (resets false (cause.Peer y)) (answered_by (ends (view_in p ms e) false (cause.Peer x) (code 0)))) (sym h)
-    (resets-agree p ms e (move.Deliver bytes) false (cause.Peer y) (code 0) refl refl s)
+peer-resets p ms e bytes x y h k = grind arith
 
 -- what outlasts sessions is set
 pub put-agrees : (ms : MasterSettings) (e : List Deed) (load : List ℕ) → length load ≡ ms.lengths.master → Sound ms e
@@ -91,21 +82,17 @@ tick_by b v =
     else record { master = record v { timer = record { limit = v.timer.limit; age = if b then 0 else v.timer.age + 1 } }; did = nothing; sent = [] }
 
 meets : (t l : ℕ) → t < l → nat_le l (suc t) ≡ (t + 1 == l)
-meets t l k = grind (arith, nat_tests)
+meets t l k = grind arith
 
 later : (t l : ℕ) → nat_le l (suc t) ≡ false → suc t < l
-later t l h = grind (arith, nat_tests)
+later t l h = grind arith
 
 one-more : (t : ℕ) → suc t ≡ t + 1
 one-more t = omega arith
 
 -- the limit is reached: in state Reset the Reset frame is sent again
 expiry-agrees : (p : State) (ms : MasterSettings) (e : List Deed) → state_of (OfMaster ms) e ≡ p → Sound ms e → Agrees ms e move.Tick (on_expiry p (OfMaster ms)) (at_limit (view_in p ms e))
-expiry-agrees state.Reset ms e now s = record { view = λ r. refl; did = refl; sent = refl; sound = record { in_state = refl; offer_len = s.offer_len; young = ms.some_watchdog } }
-expiry-agrees state.Session ms e now s = falls-agree state.Session ms e move.Tick (cause.Found (code 0x05)) (code 0x05) refl refl s
-expiry-agrees state.Connection ms e now s = falls-agree state.Connection ms e move.Tick (cause.Found (code 0x05)) (code 0x05) refl refl s
-expiry-agrees state.Parameter ms e now s = falls-agree state.Parameter ms e move.Tick (cause.Found (code 0x05)) (code 0x05) refl refl s
-expiry-agrees state.Data ms e now s = falls-agree state.Data ms e move.Tick (cause.Found (code 0x05)) (code 0x05) refl refl s
+expiry-agrees p ms e h k = grind arith
 
 counts : (p : State) (ms : MasterSettings) (e : List Deed) (b : Bool) → state_of (OfMaster ms) e ≡ p → nat_le ms.watchdog (suc (ticks (OfMaster ms) e)) ≡ b → Sound ms e
     → Agrees ms e move.Tick (if b then on_expiry p (OfMaster ms) else nothing) (tick_by b (view_in p ms e))

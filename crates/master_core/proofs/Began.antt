@@ -1,7 +1,6 @@
 -- A Reset frame that is taken: in state Reset it begins a session.
-use Rattle.master_core.proofs.Common.{Chain, Code, Command, Deed, MasterSettings, Notes, OfMaster, Outcome, Setup, State, accepts, answered_by, begins, begun, bytes_of, chain_sent, code, command_byte, deed_of, dropped, drops, first_of, frame_of, frame_sent, fresh, is_empty, makes_due, newest_crc, nonce, notes_of, on_reset_frame, own_link, padded, piece_from, piece_len, read_back, receives, seal, sends, session_payload, since, state_of, taken, taken_crc, takes_frame, view_in}
+use Rattle.master_core.proofs.Common.{Chain, Code, Command, Deed, MasterSettings, Notes, OfMaster, Outcome, Setup, State, accepts, answered_by, begins, begun, bytes_of, chain_sent, code, command_byte, deed_of, dropped, drops, first_of, frame_of, frame_sent, fresh, is_empty, makes_due, newest_crc, nonce, notes_of, on_reset_frame, option_or, own_link, padded, piece_from, piece_len, read_back, receives, seal, sends, session_payload, since, state_of, taken, taken_crc, takes_frame, view_in}
 use Rattle.std.proofs.Common.{◌≡◌, ℕ, ◌-◌, ◌*◌, ◌==◌, Bool, true, false, List, ◌∷◌, length, Option, Some, None, unwrap_or, if◌then◌else◌, refl, sym, ap, subst, ◌∙◌}
-use Rattle.std.specs.Option.{option_or}
 use Rattle.fsoe_base.specs.declared.command.Command.TheVariants as command
 use Rattle.fsoe_base.specs.declared.command.State.TheVariants as state
 use Rattle.fsoe_base.specs.declared.did.Dropped.TheVariants as why

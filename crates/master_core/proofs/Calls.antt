@@ -1,9 +1,9 @@
 -- The law over all calls of a master: after any list of them it is after their deeds, or waits after them while a frame
 -- is due.
 use Rattle.master_core.proofs.Common.{Accept, Call, Called, Deed, Delivery, Did, Event, IsRun, MadeAccept, MadeEvent, MadeReply, MadeSetting, MasterIsAfter, MasterSettings, MasterView, Move, OfMaster, Pending, Reply, Setting, Setup, Waits, begun, deed, deeds_of, delivery_after, events_of, is_due, left_by, nothing, pending, run, run_of_events, same_deed, set_deed, step, tells_due, with_reply}
-use Rattle.std.proofs.Common.{◌≡◌, ℕ, List, [], ◌∷◌, Bool, true, false, Option, Some, None, if◌then◌else◌, refl, sym, ap, subst, ◌∙◌}
+use Rattle.std.proofs.Common.{◌≡◌, ℕ, List, [], ◌∷◌, Bool, true, false, Option, Some, None, if◌then◌else◌, refl, sym, ap, subst, ◌∙◌, arith, rules}
 use Rattle.param_load.specs.declared.entry.Move.TheVariants as move
-use Rattle.end_model.specs.Reactions.{Reaction, Expires, SendsAgain, ResetsItself, Refuses, PeerResets, Answers}
+use Rattle.end_model.specs.Reactions.{Reaction}
 use Rattle.end_model.proofs.SoundRuns.{reacts}
 
 -- where these deeds leave a master: it is after them, or waits after them in this delivery
@@ -25,13 +25,7 @@ IsDelivery (move.Deliver bytes) = Unit {0}
 IsDelivery _ = ⊥
 
 pub quiet : (s : Setup) (e : List Deed) (m : Move) (d : Did) (f : List ℕ) → IsDelivery m → tells_due d ≡ false → Reaction s e m d f → deed m (record d { sent = false }) [] ≡ deed m d f
-quiet s e m d f k h (Expires now old) = absurd (cc h)
-quiet s e m d f k h (SendsAgain master now old) = absurd k
-quiet s e m d f k h ResetsItself = absurd (cc h)
-quiet s e m d f k h (Refuses bytes passed found now told fails) = absurd (cc h)
-quiet s e m d f k h (PeerResets bytes load now frame) = absurd (cc h)
-quiet s e m d f k h (Answers bytes load c answer taking) = absurd (cc h)
-quiet s e m d f k h _ = refl
+quiet s e m d f h k l = grind arith
 
 quiet-delivery : (s : Setup) (e : List Deed) (bytes : List ℕ) (did : Did) → IsRun s e → did ≡ record (step s e (move.Deliver bytes)).did { sent = false } → tells_due did ≡ false
     → begun (move.Deliver bytes) did ≡ step s e (move.Deliver bytes)
@@ -99,17 +93,14 @@ reached ms first last (Accept bytes did ∷ calls) h c = at-accept ms c.0 last b
 reached ms first last (Reply frame ∷ calls) h c = at-reply ms c.0 last frame (deeds_of calls) (pending calls) (reached ms first c.0 calls h c.1) c.2
 
 is-run : (ms : MasterSettings) (v : MasterView) (e : List Deed) (p : Option Pending) → Reached ms v e p → IsRun (OfMaster ms) e
-is-run ms v e None r = r.is_after.reached
-is-run ms v e (Some p) r = r.waits.reached
+is-run ms v e p h = grind arith
 
 pub calls_run : (ms : MasterSettings) (first last : MasterView) (calls : List Call) → MasterIsAfter ms first [] → Called first calls last → deeds_of calls ≡ run (OfMaster ms) (events_of (deeds_of calls))
 calls_run ms first last calls h c = run_of_events (OfMaster ms) (deeds_of calls) (is-run ms last (deeds_of calls) (pending calls) (reached ms first last calls h c))
 
 pub calls_end : (ms : MasterSettings) (first last : MasterView) (calls : List Call) → MasterIsAfter ms first [] → Called first calls last → pending calls ≡ None → MasterIsAfter ms last (deeds_of calls)
-calls_end ms first last calls h c k =
-    let r : Reached ms last (deeds_of calls) None = subst (λ (p : Option Pending). Reached ms last (deeds_of calls) p) k (reached ms first last calls h c) in r.is_after
+calls_end ms first last calls h k l = search (rules, reached)
 
 pub calls_wait : (ms : MasterSettings) (first last : MasterView) (calls : List Call) → MasterIsAfter ms first [] → Called first calls last → (p : Pending) → pending calls ≡ Some p
     → Waits last (delivery_after ms (deeds_of calls) p)
-calls_wait ms first last calls h c p k =
-    let r : Reached ms last (deeds_of calls) (Some p) = subst (λ (q : Option Pending). Reached ms last (deeds_of calls) q) k (reached ms first last calls h c) in r.waits
+calls_wait ms first last calls h k p l = search (rules, reached)

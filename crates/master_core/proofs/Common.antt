@@ -4,10 +4,10 @@ pub use Rattle.end_model.proofs.ReadBack.{read_back}
 pub use Rattle.end_model.proofs.Runs.{deed, run_of_events, same_deed, set_deed}
 pub use Rattle.end_model.specs.Chain.{fits, kept, newest_crc, own_link, seal, since, taken, taken_link}
 pub use Rattle.end_model.specs.Deed.{Deed, is_empty}
-pub use Rattle.end_model.specs.Outputs.{is_process, out, outputs, zeros}
+pub use Rattle.end_model.specs.Outputs.{is_process, out, outputs}
 pub use Rattle.end_model.specs.Payloads.{nonce, pay, pieces, terms}
 pub use Rattle.end_model.specs.Phases.{is_reset}
-pub use Rattle.end_model.specs.Readiness.{age, allowed, held, master_allows, offer, state_of, ticks, told_in, told_terms}
+pub use Rattle.end_model.specs.Readiness.{age, held, master_allows, offer, state_of, ticks, told_in, told_terms}
 pub use Rattle.end_model.specs.Runs.{IsProper, IsRun, IsSetting, events_of}
 pub use Rattle.end_model.specs.Setup.{OfMaster, Setup, piece_len, receives, sends}
 pub use Rattle.end_model.specs.Step.{begun, code_sent, deed_of, did_on, on_expiry, on_fault, on_reset_frame, on_verdict, run, step, takes_frame, with_data}
@@ -36,7 +36,7 @@ pub use Rattle.master_core.specs.ViewOf.{Notes, exchange_of, kit_of, notes_of, p
 pub use Rattle.master_core.specs.Waiting.{Accepts, Delivery, Keeps, Replies, ShowsDue, Waits, its_deed, with_delivery}
 pub use Rattle.master_core.specs.declared.phase.Phase.{Phase}
 pub use Rattle.master_core.specs.declared.states.Exchange.{Exchange}
-pub use Rattle.param_load.specs.Download.{advanced, is_answer, is_whole, outcome, terms_of}
+pub use Rattle.param_load.specs.Download.{advanced, is_answer, is_whole, terms_of}
 pub use Rattle.param_load.specs.Payload.{is_padded, padded, piece_from, session_payload}
 pub use Rattle.param_load.specs.declared.entry.Move.{Move}
 pub use Rattle.param_load.specs.declared.master_settings.MasterSettings.{MasterSettings}
@@ -48,3 +48,5 @@ pub use Rattle.seq_chain.specs.Session.{chain_sent, fits_next, frame_sent}
 pub use Rattle.seq_chain.specs.SessionFrame.{SessionFrameView}
 pub use Rattle.seq_chain.specs.declared.chain.Chain.{Chain}
 pub use Rattle.seq_chain.specs.declared.opened.Opened.{Opened}
+pub use Rattle.std.proofs.lemmas.List.{length-replicate}
+pub use Rattle.std.specs.Option.{option_or}

@@ -1,8 +1,7 @@
 -- The law: a master that is after some deeds is, after an event, after these and the next one, and answers as that one
 -- does.
-use Rattle.master_core.proofs.Common.{Answers, Deed, Did, Follows, IsProper, IsRun, IsSetting, MasterIsAfter, MasterSettings, MasterView, Move, OfMaster, Phase, Shows, State, Terms, after, age, did_on, first_master, held, notes_of, nothing, offer, out, outputs, phase_in, set_deed, state_of, terms, told_in, told_terms, view_of, zeros}
-use Rattle.std.proofs.Common.{◌≡◌, ◌≢◌, ℕ, List, [], Bool, Option, refl, sym, ap, subst, ◌∙◌}
-use Rattle.fsoe_base.specs.declared.command.State.TheVariants as state
+use Rattle.master_core.proofs.Common.{Answers, Deed, Did, Follows, IsProper, IsRun, IsSetting, MasterIsAfter, MasterSettings, MasterView, Move, OfMaster, Phase, Shows, State, Terms, after, age, did_on, first_master, held, nothing, offer, out, outputs, set_deed, state_of, terms, told_in, told_terms, view_of}
+use Rattle.std.proofs.Common.{◌≡◌, ℕ, List, [], Bool, Option, refl, sym, ap, subst, ◌∙◌, rules}
 use Rattle.end_model.proofs.Shown.{looking_back, fail_safe}
 use Rattle.master_core.specs.Phase as machine
 use Rattle.master_core.proofs.Agrees.{Agrees, AreRead}
@@ -42,12 +41,8 @@ set_answers old m d f k i j = record {
 abbrev ShownIn : State → MasterSettings → List Deed → Phase → Type 0
 ShownIn p ms e x = (machine.state_of x ≡ p) × (machine.terms_in x ≡ told_in p (terms (OfMaster ms) e)) × (machine.outputs_in ms x ≡ outputs (OfMaster ms) e)
 
-shown-in : (p : State) (ms : MasterSettings) (e : List Deed) → (p ≢ state.Data → outputs (OfMaster ms) e ≡ zeros (OfMaster ms)) → ShownIn p ms e (phase_in p ms (notes_of ms e))
-shown-in state.Data ms e h = (refl, refl, refl)
-shown-in _ ms e h = (refl, refl, sym (h (λ k. cc)))
-
 shown-after : (ms : MasterSettings) (e : List Deed) → IsRun (OfMaster ms) e → ShownIn (state_of (OfMaster ms) e) ms e (view_of ms e).state.phase
-shown-after ms e run = shown-in (state_of (OfMaster ms) e) ms e (fail_safe (OfMaster ms) e run)
+shown-after ms e h = search (rules, fail_safe)
 
 pub state_shown : (v : MasterView) (shown : State) → shown ≡ machine.state_of v.state.phase → Shows v shown state_of
 state_shown v shown i = record { shows = λ ms e h. i ∙ ap (λ (v : MasterView). machine.state_of v.state.phase) h.is ∙ (shown-after ms e h.reached).0 }

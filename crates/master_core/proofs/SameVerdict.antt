@@ -1,11 +1,9 @@
 -- The tests of the machine end as those of looking back.
-use Rattle.master_core.proofs.Common.{Accepted, Code, Command, Deed, Dropped, Frame, MasterSettings, Notes, OfMaster, Opened, State, accepted, accepted_by, allowed, code, drops, first_of, fits, fits_next, frame_len, frame_of, kept, kit_of, master_allows, notes_of, on_reset_view, on_session, opened, own_crc, phase_in, refuses, settles, since, state_of, taken_link, view_in}
-use Rattle.std.proofs.Common.{◌≡◌, ◌≢◌, ℕ, Bool, true, false, List, length, Option, refl, sym, ap, subst, ◌∙◌}
+use Rattle.master_core.proofs.Common.{Accepted, Code, Command, Deed, Dropped, Frame, MasterSettings, OfMaster, Opened, State, accepted, accepted_by, code, drops, first_of, fits, fits_next, frame_len, frame_of, kept, kit_of, master_allows, notes_of, on_reset_view, on_session, opened, own_crc, phase_in, refuses, settles, since, state_of, view_in}
+use Rattle.std.proofs.Common.{◌≡◌, ◌≢◌, ℕ, Bool, true, false, List, length, Option, sym, ap, subst, arith, rules}
 use Rattle.fsoe_base.specs.declared.command.Command.TheVariants as command
-use Rattle.fsoe_base.specs.declared.command.State.TheVariants as state
 use Rattle.fsoe_base.specs.declared.did.Dropped.TheVariants as dropped
 use Rattle.seq_chain.specs.declared.opened.Opened.TheVariants as opened_as
-use Rattle.seq_chain.specs.Sealing as sealing
 use Rattle.end_model.specs.Verdict as model
 use Rattle.seq_chain.proofs.OpenedFrame as opens
 use Rattle.seq_chain.proofs.OpenedFrame.{Tested, tested}
@@ -33,23 +31,10 @@ pub data Same (p : State) (ms : MasterSettings) (e : List Deed) (bytes : List �
 
 -- the frame that is kept, and the chain
 kept-same : (p : State) (ms : MasterSettings) (e : List Deed) → SoundAt p ms e → machine.kept_in (phase_in p ms (notes_of ms e)) ≡ kept (since e)
-kept-same state.Reset ms e h = sym (ap (λ (n : Notes). n.kept) h)
-kept-same state.Data ms e h = sym h
-kept-same _ ms e h = sym h.kept_is
-
-chain-same : (p : State) (ms : MasterSettings) (e : List Deed) → SoundAt p ms e → machine.chain_of (phase_in p ms (notes_of ms e)) ≡ (notes_of ms e).chain
-chain-same state.Reset ms e h = sym (ap (λ (n : Notes). n.chain) h)
-chain-same _ ms e h = refl
+kept-same p ms e h = grind arith
 
 fits-same : (p : State) (ms : MasterSettings) (e : List Deed) (f : Frame) → SoundAt p ms e → fits_next (machine.chain_of (phase_in p ms (notes_of ms e))) f ≡ fits (OfMaster ms) (since e) f
-fits-same p ms e f h =
-    ap (λ chain. fits_next chain f) (chain-same p ms e h)
-    ∙ ap (λ (last : ℕ). sealing.fits last (taken_link (OfMaster ms) (since e)) f) (own_crc (OfMaster ms) (since e))
-
--- the test of the command
-allows-same : (p : State) (ms : MasterSettings) (n : Notes) (c : Command) → machine.allows (phase_in p ms n) c ≡ master_allows p c
-allows-same state.Reset ms n c = refl
-allows-same _ ms n c = refl
+fits-same p ms e f h = search (rules, own_crc)
 
 -- a frame of a session, by its three tests
 by-tests : (p : State) (ms : MasterSettings) (e : List Deed) (bytes : List ℕ) (c : Command) (a h t a' h' t' : Bool)
@@ -64,10 +49,7 @@ by-tests p ms e bytes c false h t a' h' t' i j k s = rw (← i) (Refuses (code 0
 session-same : (p : State) (ms : MasterSettings) (e : List Deed) (bytes : List ℕ) (c : Command) → state_of (OfMaster ms) e ≡ p → c ≢ command.Reset
     → length bytes ≡ frame_len ms.lengths.slave → SoundAt p ms e
     → Same p ms e bytes (model.judged (OfMaster ms) e (opened_as.OfSession (record { command = c; frame = came ms bytes }))) (accepted_by (view_in p ms e) (opened_as.OfSession (record { command = c; frame = came ms bytes })))
-session-same p ms e bytes c now r len h =
-    let at : allowed (OfMaster ms) e c ≡ master_allows p c = ap (λ (p : State). master_allows p c) now in
-    by-tests p ms e bytes c _ _ _ _ _ _ (allows-same p ms (notes_of ms e) c ∙ sym at) refl (fits-same p ms e (came ms bytes) h)
-    (λ k. record { len = len; is_session = r; is_allowed = sym at ∙ k })
+session-same p ms e bytes c h k l m = search (rules, by-tests, fits-same)
 
 by-opened : (p : State) (ms : MasterSettings) (e : List Deed) (bytes : List ℕ) (again : Bool) (w : Opened) → state_of (OfMaster ms) e ≡ p → SoundAt p ms e
     → Tested ms.lengths.slave again bytes w → Same p ms e bytes (model.judged (OfMaster ms) e w) (accepted_by (view_in p ms e) w)

@@ -1,7 +1,6 @@
 -- What a master shows while a frame is due is what it shows after the reply.
 use Rattle.master_core.proofs.Common.{Deed, Delivery, KitView, MasterSettings, MasterView, Phase, Setup, Shows, ShowsDue, State, Terms, Waits, age, held, is_due, offer, out, replied, replies, reply, state_of, told_terms, view_of, with_delivery}
-use Rattle.std.proofs.Common.{◌≡◌, ℕ, List, Bool, Option, Some, None, IsTrue, refl, sym, ap, ◌∙◌}
-use Rattle.master_core.specs.declared.phase.Phase.TheVariants as phase
+use Rattle.std.proofs.Common.{◌≡◌, ℕ, List, Bool, Option, IsTrue, refl, sym, ap, ◌∙◌, arith}
 use Rattle.master_core.specs.declared.states.Due.{Due}
 use Rattle.master_core.specs.Phase as machine
 use Rattle.master_core.proofs.Accepting.{age_by, accepts_alike}
@@ -18,13 +17,8 @@ shows-due v shown word h = record {
 abbrev ShowAlike : MasterSettings → Phase → Phase → Type 0
 ShowAlike settings x y = (machine.state_of x ≡ machine.state_of y) × (machine.terms_in x ≡ machine.terms_in y) × (machine.outputs_in settings x ≡ machine.outputs_in settings y)
 
-sent-alike : (kit : KitView) (p : Phase) → ShowAlike kit.settings (machine.sent_phase kit p) p
-sent-alike kit (phase.Reset s) = (refl, refl, refl)
-sent-alike kit _ = (refl, refl, refl)
-
 replied-alike : (kit : KitView) (p : Phase) (due : Option Due) → ShowAlike kit.settings (replied kit (record { phase = p; due = due })).phase p
-replied-alike kit p (Some due) = sent-alike kit p
-replied-alike kit p None = (refl, refl, refl)
+replied-alike kit p due = grind arith
 
 -- the readers
 pub state_due : (v : MasterView) (shown : State) → shown ≡ machine.state_of v.state.phase → ShowsDue v shown state_of

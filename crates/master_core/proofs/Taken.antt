@@ -1,11 +1,9 @@
 -- A frame that is taken in place: the master goes on to where it settles the frame.
-use Rattle.master_core.proofs.Common.{Accepted, Code, Exchange, KitView, MasterView, Phase, SessionFrameView, answered, ends, makes_due, next_by, outcome, settles, takes}
-use Rattle.std.proofs.Common.{◌≡◌, true, false, Some, Result, Ok, Err, refl, ap, ◌∙◌}
+use Rattle.master_core.proofs.Common.{Accepted, Code, KitView, MasterView, Phase, SessionFrameView, ends, makes_due, settles, takes}
+use Rattle.std.proofs.Common.{◌≡◌, true, false, Some, Result, Ok, Err, ap, ◌∙◌}
 use Rattle.fsoe_base.specs.declared.did.Cause.TheVariants as cause
 use Rattle.fsoe_base.specs.Codes.{local_reset}
 use Rattle.failsafe_io.specs.Timer.{started}
-use Rattle.param_load.specs.declared.upload.Progress.{Progress}
-use Rattle.param_load.specs.declared.upload.Progress.TheVariants as progress
 
 -- a frame that is taken, with this phase after it
 abbrev taken : MasterView → SessionFrameView → Phase → Accepted
@@ -26,8 +24,3 @@ did_taken v f p r h = ap (λ (a : Accepted). a.did) (settled v f p r h)
 
 pub refused : (v w : MasterView) (f : SessionFrameView) (r : Result Phase Code) (x : Code) → Err x ≡ r → w.kit ≡ v.kit → ends w true (cause.Found x) x ≡ settles v f r
 refused v w f r x h k = ap (λ (kit : KitView). ends (record v { kit = kit }) true (cause.Found x) x) k ∙ ap (λ (r : Result Phase Code). settles v f r) h
-
--- where the last answer of a phase leads
-pub phase_over : (more whole : Exchange → Phase) (s v e : Exchange) (f : SessionFrameView) (p : Progress) → s ≡ v → Ok p ≡ outcome s.download f.frame.load → p ≡ progress.Whole → e ≡ answered s f
-    → Ok (whole e) ≡ next_by (outcome v.download f.frame.load) (more (answered v f)) (whole (answered v f))
-phase_over more whole s v e f p k h w a = rw (a, ← k, ← h, w) refl

@@ -1,6 +1,6 @@
 -- A data frame that passed the tests of a master: what the machine does is what looking back gives.
-use Rattle.master_core.proofs.Common.{Chain, Command, Deed, MasterSettings, OfMaster, Outcome, SessionFrameView, Terms, answered_by, begun, bytes_of, code, data_answered, data_command, data_load, held, is_process, is_reset, judged_contents, kit_of, notes_of, offer, on_verdict, session_of, settles, since, takes_frame, terms_of, unless, view_in, with_data}
-use Rattle.std.proofs.Common.{◌≡◌, ℕ, Bool, true, false, List, ◌∷◌, length, replicate, Ok, Err, if◌then◌else◌, refl, sym, ap, ◌∙◌}
+use Rattle.master_core.proofs.Common.{Chain, Command, Deed, MasterSettings, OfMaster, Outcome, SessionFrameView, Terms, answered_by, begun, bytes_of, code, data_answered, data_command, data_load, held, is_process, is_reset, judged_contents, kit_of, length-replicate, notes_of, offer, on_verdict, session_of, settles, since, takes_frame, terms_of, unless, view_in, with_data}
+use Rattle.std.proofs.Common.{◌≡◌, ℕ, Bool, true, false, List, ◌∷◌, length, replicate, Ok, Err, if◌then◌else◌, refl, sym, ap, ◌∙◌, arith}
 use Rattle.fsoe_base.specs.declared.command.Command.TheVariants as command
 use Rattle.fsoe_base.specs.declared.command.State.TheVariants as state
 use Rattle.fsoe_base.specs.declared.did.Cause.TheVariants as cause
@@ -13,7 +13,6 @@ use Rattle.master_core.proofs.SameVerdict.{came}
 use Rattle.master_core.proofs.Agrees.{Agrees, master_at, same_master, resets-agree}
 use Rattle.master_core.proofs.Arrived.{Arrived, next_frame, next_chain, chain_after}
 use Rattle.master_core.proofs.Taking.{After, takes-agree}
-use Rattle.std.proofs.lemmas.List.{length-replicate}
 
 -- state Data by its parts
 pub same_data : (t : Terms) (c c' : Chain) (o o' l l' : List ℕ) → c ≡ c' → o ≡ o' → l ≡ l'
@@ -24,8 +23,7 @@ same_data t c c' o o' l l' h j g = rw (h, j, g) refl
 by-held : (ms : MasterSettings) (e : List Deed) (bytes : List ℕ) (h : Bool) (n : ℕ) (load : List ℕ) → n ≡ ms.lengths.master
     → (if h then next_frame ms e bytes ms.conn command.FailSafeData (replicate ms.lengths.master 0) else next_frame ms e bytes ms.conn command.ProcessData load)
     ≡ next_frame ms e bytes ms.conn (if h then command.FailSafeData else command.ProcessData) (if h then replicate n 0 else load)
-by-held ms e bytes true n load i = ap (λ (n : ℕ). next_frame ms e bytes ms.conn command.FailSafeData (replicate n 0)) (sym i)
-by-held ms e bytes false n load i = refl
+by-held ms e bytes h n load k = grind arith
 
 pub data_sent : (ms : MasterSettings) (e : List Deed) (bytes : List ℕ) (c : Command) → is_reset c ≡ false → Sound ms e
     → with_data (OfMaster ms) (begun (move.Deliver bytes) (takes_frame c (came ms bytes).load) ∷ e) ≡ next_frame ms e bytes ms.conn (data_command (kit_of ms e).offer) (data_load (kit_of ms e).offer)

@@ -1,7 +1,6 @@
 -- A frame of a session that is taken, and the frame that follows it.
-use Rattle.master_core.proofs.Common.{AreBytes, Chain, Command, Deed, Exchange, MasterSettings, MasterView, OfMaster, Outcome, deed_of, takes_frame, view_of}
-use Rattle.std.proofs.Common.{◌≡◌, ℕ, suc, ◌+◌, ◌-◌, ◌*◌, ◌<◌, ◌/◌, nat_le, nat_lt, Bool, true, false, not, List, ◌∷◌, Option, Some, unwrap_or, if◌then◌else◌, refl, sym, ap, subst, ◌∙◌, suc-mul, arith}
-use Rattle.std.specs.Option.{option_or}
+use Rattle.master_core.proofs.Common.{AreBytes, Chain, Command, Deed, Exchange, MasterSettings, MasterView, OfMaster, Outcome, deed_of, option_or, takes_frame, view_of}
+use Rattle.std.proofs.Common.{◌≡◌, ℕ, suc, ◌+◌, ◌-◌, ◌*◌, ◌<◌, ◌/◌, nat_le, nat_lt, Bool, true, false, not, List, ◌∷◌, Option, Some, unwrap_or, if◌then◌else◌, refl, sym, ap, subst, ◌∙◌, arith, rules}
 use Rattle.std.proofs.Math.Nat.{zero-mul}
 use Rattle.param_load.specs.declared.entry.Move.TheVariants as move
 use Rattle.master_core.proofs.Sound.{Sound}
@@ -34,12 +33,10 @@ same_exchange c c' u u' k b f f' l l' h i j g = rw (h, i, j, g) refl
 
 -- the first of two, or the second
 pub choose_first : (b : Bool) (x y : List ℕ) → b ≡ true → (if b then x else y) ≡ x
-choose_first true x y h = refl
-choose_first false x y h = absurd (cc h)
+choose_first b x y h = grind arith
 
 pub choose_second : (b : Bool) (x y : List ℕ) → b ≡ false → (if b then x else y) ≡ y
-choose_second true x y h = absurd (cc h)
-choose_second false x y h = refl
+choose_second b x y h = grind arith
 
 -- an id that is there
 pub there : (o : Option ℕ) (k d : ℕ) → o ≡ Some k → unwrap_or o d ≡ k
@@ -57,9 +54,6 @@ positive k = omega arith
 pub none_before : (k c : ℕ) → k ≡ 0 → (suc k - 1) * c ≡ 0
 none_before k c h = let z : suc k - 1 ≡ 0 = omega arith in ap (λ (i : ℕ). i * c) z ∙ zero-mul c
 
-pub place-of : (k c : ℕ) → 0 < k → (k - 1) * c + c ≡ k * c
-place-of k c h = let z : suc (k - 1) ≡ k = omega arith in sym (suc-mul (k - 1) c) ∙ ap (λ (i : ℕ). i * c) z
-
 -- there are more pieces exactly where the download isn't whole after the answer
 pub more_to_come : (l c k : ℕ) (w : Bool) → 0 < c → 0 < k → nat_le l ((k - 1) * c + c) ≡ w → nat_lt k ((l + c - 1) / c) ≡ not w
-more_to_come l c k w h j i = more_pieces l c k h ∙ ap (λ (b : Bool). not b) (ap (λ (n : ℕ). nat_le l n) (sym (place-of k c j)) ∙ i)
+more_to_come l c k w h m n = search (rules, more_pieces)

@@ -1,9 +1,6 @@
 -- A delivery to one of many connections, by what its master and the application do.
-use Rattle.multi_master.proofs.Common.{Accepts, Answer, AnswersFrame, AppView, Call, Connection, Deed, Deliver, Did, Follows, IsWhere, MasterSettings, MasterView, Meant, MultiView, PutsEach, Replies, RunsCycle, ShowsDue, StandsFor, after, answer, changed_from, cycle_in, deed, event_at, is_due, is_heard, meant, newest_at, next_deed, numbers_of, offer_at, offer_len, out, outputs_at, own_len, same_deed, settings_in, setup, tells_due, with_cycle, with_event, with_offers}
-use Rattle.std.proofs.Common.{◌≡◌, ℕ, suc, List, [], ◌∷◌, map, slice_get, slice_set, Option, Some, None, Bool, true, false, if◌then◌else◌, refl, sym, ap, ap₂, subst, ◌∙◌}
-use Rattle.std.specs.List.{AllZip}
-use Rattle.std.specs.Option.{option_map_or}
-use Rattle.std.proofs.lemmas.List.{map-set}
+use Rattle.multi_master.proofs.Common.{Accepts, AllZip, Answer, AnswersFrame, AppView, Call, Connection, Deed, Deliver, Did, Follows, IsWhere, MasterSettings, MasterView, Meant, MultiView, PutsEach, Replies, RunsCycle, ShowsDue, StandsFor, after, answer, changed_from, cycle_in, deed, event_at, is_due, map-set, meant, newest_at, next_deed, numbers_of, offer_at, offer_len, out, outputs_at, own_len, same_deed, settings_in, setup, tells_due, with_cycle, with_event, with_offers}
+use Rattle.std.proofs.Common.{◌≡◌, ℕ, suc, List, [], ◌∷◌, map, slice_get, slice_set, Option, Some, None, Bool, true, false, if◌then◌else◌, refl, sym, ap, ap₂, subst, ◌∙◌, arith}
 use Rattle.param_load.specs.declared.entry.Move.TheVariants as move
 use Rattle.multi_master.proofs.Following.{own_lens, cycle_answers, guards_alike}
 use Rattle.multi_master.proofs.Hearing.{replied}
@@ -15,14 +12,11 @@ use Rattle.multi_master.proofs.Reading.{StandsIn, stands_so, event_is, quiet_sta
 -- the cycle of a delivery to a connection that exists
 cycle-is : (m : Meant) (place : ℕ) (c : Connection) (bytes : List ℕ) (b : Bool) → slice_get m.connections place ≡ Some c → tells_due (next_deed (move.Deliver bytes) c).did ≡ b
     → cycle_in (Deliver (suc place) bytes) m ≡ (if b then Some (answer false (event_at (suc place) (move.Deliver bytes) m)) else None)
-cycle-is m place c bytes b h t =
-    ap (λ (o : Option Connection). if is_heard bytes o then Some (answer false (event_at (suc place) (move.Deliver bytes) m)) else None) h
-    ∙ ap (λ (x : Bool). if x then Some (answer false (event_at (suc place) (move.Deliver bytes) m)) else None) t
+cycle-is m place c bytes b h k = grind arith
 
 -- the newest deed of a connection that is there
 newest-is : (m : Meant) (place : ℕ) (c : Connection) (x : Deed) (e : List Deed) → slice_get m.connections place ≡ Some c → c.deeds ≡ x ∷ e → newest_at (suc place) m ≡ Some x
-newest-is m place c x e h d =
-    ap (λ (o : Option Connection). slice_get (option_map_or (λ c. c.deeds) o []) 0) h ∙ ap (λ (ds : List Deed). slice_get ds 0) d
+newest-is m place c x e h k = grind arith
 
 -- nothing is taken of the frame and no session ends
 pub record Drops (old : MultiView) (place : ℕ) (bytes : List ℕ) (did : Did) (new : MultiView) : Type 0 where

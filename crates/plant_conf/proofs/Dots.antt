@@ -1,5 +1,5 @@
 -- A text is cut at its first dot.
-use Rattle.std.proofs.Common.{◌≡◌, ℕ, ◌+◌, ◌≤◌, List, [], ◌∷◌, ◌++◌, length, take, drop, get_or, slice_index, All, false, arith, ap, ◌∙◌, sym, refl, ◌<◌}
+use Rattle.std.proofs.Common.{◌≡◌, ℕ, ◌+◌, ◌≤◌, List, [], ◌∷◌, ◌++◌, length, take, drop, get_or, slice_index, All, false, arith, ap, ◌∙◌, sym, ◌<◌}
 use Rattle.std.specs.Prelude.{Option, None, Some}
 use Rattle.std.proofs.lemmas.List.{drop_more, get_or-take, get_or_default, length-take, take-append-drop}
 use Rattle.std.proofs.lemmas.List.Splits.{slice_split_at, slice_split_none, length-slice_split}
@@ -28,8 +28,7 @@ pub cut_nowhere : (text : List ℕ) → IsFirstByte (is_byte 46) text None → p
 cut_nowhere text none = slice_split_none is_dot text (λ k d lt. ap is_dot (get_or_default text k d 0 lt) ∙ false_from_ne_true _ (none k (omega arith) lt))
 
 three_parts : (a b : List ℕ) (parts : List (List ℕ)) → 0 < length parts → place_said (a ∷ b ∷ parts) ≡ None
-three_parts a b [] h = absurd (omega arith)
-three_parts a b (c ∷ parts) h = refl
+three_parts a b parts h = grind arith
 
 -- a text with two dots is no place
 pub two_dots : (text a b : List ℕ) (rest more : Option (Bor (List ℕ))) (x y : Bor (List ℕ)) → parts_of text ≡ a ∷ parts_after rest → rest ≡ Some x

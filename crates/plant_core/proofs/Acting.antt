@@ -1,34 +1,13 @@
 -- What the slave or the master of a connection does and what is pushed, and what those of all connections do in a tick.
-use Rattle.plant_core.proofs.Common.{ActedTo, AllActed, AreNoted, Did, End, Entry, HasAgeParts, HaveParts, IsPlant, Lengths, LinkConf, LinkIs, LinkStands, LinkView, LinksAre, MasterActs, MasterNoted, Move, MultiValue, NotesOne, Placed, PushesParcel, SlaveActs, SlaveGoesOn, Told, Trace, Use, each_uses, fixed_in, fixed_of, frames_pushed, lengths_at, lengths_kept, map_set, one_each, one_each_to, place_of, same_length, sent_uses}
-use Rattle.std.proofs.Common.{◌≡◌, ◌≢◌, ◌≤◌, ℕ, zero, suc, ◌+◌, ◌*◌, ◌==◌, nat_lt, Bool, true, false, List, [], ◌∷◌, ◌++◌, take, drop, length, slice_get, slice_set, Option, Some, None, option_map, if◌then◌else◌, refl, sym, ap, ap₂, subst, ◌∙◌, append_assoc, arith}
-use Rattle.std.proofs.lemmas.Bool.{eqb-true, lt-ltb, le-ltb}
-use Rattle.std.proofs.lemmas.Bool.Decides.{nat_tests}
-use Rattle.std.specs.Prelude.{IsSomeAnd}
-use Rattle.std.proofs.lemmas.Option.{get_or_from_slice_get, slice_get_within, slice_get-map}
-use Rattle.std.proofs.lemmas.List.{append-nil, drop-set-lt, drop_more, take_all, take_more_set}
-use Rattle.std.proofs.lemmas.List.Elements.{All-head, All-tail, All-push, All-set, All-weaker}
+use Rattle.plant_core.proofs.Common.{ActedTo, All-head, All-push, All-tail, All-weaker, AllActed, AreNoted, Did, End, Entry, HasAgeParts, HaveParts, IsSomeAnd, Lengths, LinkConf, LinkIs, LinkStands, LinkView, LinksAre, MasterActs, MasterNoted, Move, NotesOne, Placed, SlaveActs, SlaveGoesOn, Told, Trace, Use, append-nil, drop-set-lt, drop_more, each_uses, fixed_in, fixed_of, frames_pushed, get_or_from_slice_get, le-ltb, lengths_at, lengths_kept, lt-ltb, map_set, one_each, one_each_to, place_of, same_length, sent_uses, slice_get-map, slice_get_within, take_all, take_more_set}
+use Rattle.std.proofs.Common.{◌≡◌, ◌≢◌, ◌≤◌, ℕ, zero, suc, ◌+◌, nat_lt, Bool, true, List, [], ◌∷◌, ◌++◌, take, drop, length, slice_get, slice_set, Option, Some, None, option_map, if◌then◌else◌, refl, sym, ap, ap₂, subst, ◌∙◌, append_assoc, arith}
 use Rattle.fsoe_base.specs.declared.command.End.TheVariants as side
-use Rattle.black_channel.specs.declared.channel.Place.{Place}
-use Rattle.multi_master.specs.Standing as multi
 use Rattle.plant_core.proofs.Linking.{each_at, each_from, each_set, each_count}
 
 -- one trace after another
 pub trace_append : (xs ys : List Use) (a b c : Told) → Trace xs a b → Trace ys b c → Trace (xs ++ ys) a c
 trace_append [] ys a b c t u = subst (λ (z : Told). Trace ys z c) (sym t) u
 trace_append (x ∷ xs) ys a b c t u = (t.0, t.1, trace_append xs ys t.0 b c t.2 u)
-
-pub cut_uses : (to : Place) (frame : List ℕ) (t : Told) (cut : Bool) → cut ≡ true → Trace (sent_uses to frame cut) t t
-cut_uses to [] t cut e = refl
-cut_uses to (x ∷ frame) t cut e = subst (λ (b : Bool). Trace (sent_uses to (x ∷ frame) b) t t) (sym e) refl
-
-pub none_uses : (to : Place) (frame : List ℕ) (t : Told) (cut : Bool) → (length frame == 0) ≡ true → Trace (sent_uses to frame cut) t t
-none_uses to [] t cut e = refl
-none_uses to (x ∷ frame) t cut e = let none : suc (length frame) ≡ 0 = eqb-true (suc (length frame)) 0 e in absurd (omega arith)
-
-pub one_use : (to : Place) (frame : List ℕ) (before after : Told) (cut : Bool) → cut ≡ false → (length frame == 0) ≡ false → PushesParcel (record { to = to; frame = frame }) before after
-    → Trace (sent_uses to frame cut) before after
-one_use to [] before after cut c e p = absurd (cc e)
-one_use to (x ∷ frame) before after cut c e p = subst (λ (b : Bool). Trace (sent_uses to (x ∷ frame) b) before after) (sym c) (after, p, refl)
 
 pub slave_acts : (k : ℕ) (what : Move) (old new : LinkView) (did : Did) (sent : List ℕ) (before after : Told) → SlaveGoesOn old what did sent new → NotesOne old new
     → Trace (sent_uses (place_of k side.Master) sent new.cut) before after → SlaveActs k what old new before after
@@ -78,7 +57,7 @@ acted_none to links cut done next vs t h = record {
 }
 
 same_side : (i n m : ℕ) → n ≡ suc i → m ≢ n → nat_lt i m ≡ nat_lt n m
-same_side i n m e h = grind (arith, nat_tests)
+same_side i n m e h = grind arith
 
 acted_here : (i n : ℕ) (done : ℕ → LinkConf → List Entry) (next : ℕ → LinkConf → Entry) (link : LinkConf) (v : LinkView) → nat_lt i n ≡ true → LinkStands link v (one_each_to i next done n link)
     → LinkStands link v (done n link)
@@ -148,10 +127,6 @@ noted_more i most vs old new h at one =
 pub noted_all : (i most : ℕ) (vs : List LinkView) → length vs ≤ i → NotedTo i most vs → AreNoted (most + 1) vs
 noted_all i most vs past h = subst (AreNoted (most + 1)) (take_all i vs past) h.done
 
--- the same at one place of which more is known
-pub noted_set : (most i : ℕ) (vs : List LinkView) (new : LinkView) → AreNoted most vs → new.monitor.noted ≤ most → AreNoted most (slice_set vs i new)
-noted_set most i vs new h le = All-set (λ (z : LinkView). z.monitor.noted ≤ most) vs i new le h
-
 pub noted_less : (most more : ℕ) (vs : List LinkView) → most ≤ more → AreNoted most vs → AreNoted more vs
 noted_less most more vs le h = All-weaker (λ (z : LinkView). z.monitor.noted ≤ most) (λ (z : LinkView). z.monitor.noted ≤ more) (λ v was. omega arith) vs h
 
@@ -177,13 +152,3 @@ master_one i n links done next dids frames link did sent old new before after e 
       stands = acts.stands link (done n link) (next n link) h own;
       channel = subst (λ (f : List ℕ). Trace (sent_uses (place_of n side.Slave) f old.cut) before after) (sym own.parts.sent_is) acts.channel;
     }
-
--- the parts of a plant still fit one another
-pub still_plant : {A : Type 0} (master new : MultiValue A) (links vs : List LinkView) (dids dids_new : List Did) (outs outs_new : List (List ℕ)) (len len_new : ℕ) → IsPlant master links dids outs len → multi.links new ≡ multi.links master
-    → length vs ≡ length links → length dids_new ≡ length dids → length outs_new ≡ length outs → AreNoted (2 * len_new) vs → IsPlant new vs dids_new outs_new len_new
-still_plant master new links vs dids dids_new outs outs_new len len_new is same count dids_same outs_same noted =
-    let count_is = is.count in
-    let most = is.most in
-    let dids_fit = is.dids_fit in
-    let outs_fit = is.outs_fit in
-    record { count = omega arith; most = omega arith; dids_fit = omega arith; outs_fit = omega arith; noted = noted }

@@ -1,12 +1,7 @@
 -- Acts that run a cycle: the offers that it changed are noted with them.
-use Rattle.plant_core.proofs.Common.{Act, AnswersFrame, AnswersTick, App, AppView, Beginning, Call, ChangeApp, Connection, Deed, Deliver, Delivers, Did, End, Entry, Event, GoesOn, Happen, HasAgeParts, HasWatchdog, HaveParts, IsOne, JournalStep, LinkConf, LinkIs, LinkStands, LinkView, LinksAre, MasterActs, MastersNoted, Meant, MultiView, OfMaster, OfSlave, OffersNoted, Parcel, Placed, PlantView, PullFrom, Setup, ShowsAt, SlavesTick, StandsFor, State, Tick, Told, Took, Use, all_pushes, call_of, calls, changed, connection, deed_in, deeds, delivery_call, frames_of, frames_pushed, is_cut, journal, link_at, master_with, mastered, masters, meant, newer, newest_at, next_deed, next_entry, next_of, no_entry, nothing, offers_by, on_expiry, one_each, pair, pair_more, pair_own, pairs_by, peer, place_of, push_to, pushes_each, pushes_of, reaches_limit, sent_uses, settings, setup, state_of, told_terms, watchdog_in}
-use Rattle.std.proofs.Common.{false, true, ◌≡◌, ℕ, suc, Bool, List, [], ◌∷◌, ◌++◌, map, slice_get, slice_set, Option, Some, None, option_map, if◌then◌else◌, refl, sym, ap, ap₂, subst, ◌∙◌, append_assoc}
-use Rattle.std.specs.Option.{option_map_or}
-use Rattle.std.specs.Prelude.{IfSome, option_to_list}
-use Rattle.std.proofs.lemmas.Option.{slice_get-map}
+use Rattle.plant_core.proofs.Common.{Act, AnswersFrame, AnswersTick, App, AppView, Beginning, Call, ChangeApp, Connection, Deed, Deliver, Delivers, Did, End, Entry, Event, GoesOn, Happen, HasAgeParts, HasWatchdog, HaveParts, IsOne, JournalStep, LinkConf, LinkIs, LinkStands, LinkView, LinksAre, MasterActs, MastersNoted, Meant, MultiView, OfMaster, OffersNoted, Parcel, Placed, PlantView, PullFrom, Setup, ShowsAt, SlavesTick, StandsFor, Tick, Told, Use, all_pushes, call_of, calls, changed, connection, deed_in, deeds, delivery_call, frames_of, frames_pushed, is_cut, journal, link_at, master_with, mastered, masters, meant, newer, newest_at, next_deed, next_entry, next_of, no_entry, offers_by, one_each, option_to_list, pair, pair_more, pair_own, pairs_by, peer, place_of, push_to, pushes_each, pushes_of, sent_uses, settings, setup, slice_get-map, told_terms, watchdog_in}
+use Rattle.std.proofs.Common.{false, ◌≡◌, ℕ, suc, Bool, List, [], ◌∷◌, ◌++◌, map, slice_get, slice_set, Option, Some, None, option_map, if◌then◌else◌, refl, sym, ap, ap₂, subst, ◌∙◌, append_assoc, arith, rules}
 use Rattle.fsoe_base.specs.declared.command.End.TheVariants as side
-use Rattle.fsoe_base.specs.declared.command.Command.TheVariants as command
-use Rattle.fsoe_base.specs.declared.command.State.TheVariants as state
 use Rattle.param_load.specs.declared.terms.Terms.{Terms}
 use Rattle.param_load.specs.declared.entry.Move.TheVariants as move
 use Rattle.multi_master.specs.Standing as multi
@@ -48,20 +43,8 @@ some_same f xs place x y ys e at found =
     let same : Some y ≡ Some (f x) = sym found ∙ mapped in
     cc
 
--- a tick takes no frame, so no watchdog is asked of its entry
-none_taken : (now : State) (s : Setup) → (on_expiry now s).took ≡ None
-none_taken state.Reset (OfMaster ms) = refl
-none_taken state.Reset (OfSlave ss) = refl
-none_taken _ s = refl
-
-tick_takes : (s : Setup) (e : List Deed) (b : Bool) → (if b then on_expiry (state_of s e) s else nothing).took ≡ None
-tick_takes s e true = none_taken (state_of s e) s
-tick_takes s e false = refl
-
 tick_tells : (s : Setup) (e : List Deed) → HasWatchdog (next_entry s e move.Tick) None
-tick_tells s e =
-    let asked : Option ℕ = None in
-    subst (λ (o : Option Took). IfSome o (λ t. t.command ≡ command.ProcessData → asked ≡ watchdog_in (next_entry s e move.Tick).terms)) (sym (tick_takes s e (reaches_limit s e))) tt
+tick_tells s e = search rules
 
 tick_parts : (b : Beginning) (done : List Act) (m : MultiView) (dids : List Did) (frames : List (List ℕ)) → StandsFor (settings b) b.app m (calls b done) → AnswersTick m dids frames
     → HaveParts b.links (master_next (journal b done)) dids frames
@@ -179,11 +162,7 @@ later_pushes links cut before mid now h =
 
 -- the newest deed of a connection
 newest_of : (m : Meant) (n : ℕ) (c : Connection) (x : Deed) (e : List Deed) (y : Deed) → connection n m ≡ Some c → c.deeds ≡ x ∷ e → newest_at n m ≡ Some y → x ≡ y
-newest_of m n c x e y is d h =
-    let there : newest_at n m ≡ slice_get c.deeds 0 = ap (λ (o : Option Connection). slice_get (option_map_or (λ c. c.deeds) o []) 0) is in
-    let first : slice_get c.deeds 0 ≡ Some x = ap (λ (z : List Deed). slice_get z 0) d in
-    let same : Some x ≡ Some y = sym first ∙ sym there ∙ h in
-    cc
+newest_of m n c x e y h k l = grind arith
 
 -- the call of a parcel for a master that exists
 master_call : (b : Beginning) (n : ℕ) (frame : List ℕ) (link : LinkConf) → link_at b.links n ≡ Some link → delivery_call (link_at b.links n) side.Master n frame ≡ Some (Deliver n frame)

@@ -1,10 +1,7 @@
 -- What a plant shows by the number of a connection, which may not exist.
-use Rattle.plant_core.proofs.Common.{Act, Beginning, BoundSpec, EachLink, End, Entry, LinkConf, LinkIs, LinkView, PlantStands, PlantView, Shows, ShowsApp, ShowsOn, ShowsWorst, TellsStill, Unset, bit_of, calls, deeds, is_cut, is_guarded, journal, kept_at, link_at, next_offered, of_end, offers_bit, out, outputs_at, pair, pairs_by, settings}
-use Rattle.std.proofs.Common.{Bor, ◌≡◌, ◌≤◌, ◌<◌, ◌-◌, ◌&&◌, ℕ, zero, suc, Bool, false, not, List, [], ◌∷◌, length, slice_get, Option, Some, None, refl, sym, ap, ◌∙◌, arith}
-use Rattle.std.specs.Prelude.{IfSome, option_copied}
+use Rattle.plant_core.proofs.Common.{Act, Beginning, BoundSpec, EachLink, End, Entry, IfSome, LinkConf, LinkIs, LinkView, PlantStands, PlantView, Shows, ShowsApp, ShowsOn, ShowsWorst, TellsStill, Unset, bit_of, calls, deeds, is_cut, is_guarded, journal, kept_at, link_at, next_offered, of_end, offers_bit, option_copied, option_map_or, out, outputs_at, pair, pairs_by, settings, slice_get_past, slice_get_read}
+use Rattle.std.proofs.Common.{Bor, ◌≡◌, ◌≤◌, ◌<◌, ◌-◌, ◌&&◌, ℕ, zero, suc, Bool, false, not, List, [], ◌∷◌, length, slice_get, Option, Some, None, refl, sym, ap, ◌∙◌, arith, rules}
 use Rattle.std.specs.Slice.{IsItemAt}
-use Rattle.std.proofs.lemmas.Option.{slice_get_past, slice_get_read}
-use Rattle.std.specs.Option.{option_map_or}
 use Rattle.fsoe_base.specs.declared.command.End.TheVariants as side
 use Rattle.failsafe_io.specs.declared.bit.Bit.{Bit}
 use Rattle.reaction_bound.specs.Age.{told_age, worst_of}
@@ -13,22 +10,18 @@ use Rattle.plant_core.proofs.Linking.{each_at}
 
 -- what a look-up of an element gives
 pub item_copied : {X : Type 0} (xs : List X) (i : ℕ) (r : Option (Bor X)) → IsItemAt xs i r → option_copied r ≡ slice_get xs i
-item_copied xs i None h = sym (slice_get_past xs i h.3)
-item_copied xs i (Some x) h = sym (slice_get_read xs (length xs) i x.now refl h.3.0 h.1)
+item_copied xs i r h = search (rules, slice_get_past, slice_get_read)
 
 -- what is kept of a connection by its place
 pub kept_by : (vs : List LinkView) (k from : ℕ) → from ≡ k → 1 ≤ k → slice_get vs (from - 1) ≡ kept_at vs k
-kept_by vs zero from e some = absurd (omega arith)
-kept_by vs (suc place) from e some = let same : from - 1 ≡ place = omega arith in ap (slice_get vs) same
+kept_by vs k from h l = grind arith
 
 -- nothing is kept of a connection that there isn't
 pub none_before : (vs : List LinkView) (k : ℕ) → k ≤ 0 → kept_at vs k ≡ None
-none_before vs zero h = refl
-none_before vs (suc place) h = absurd (omega arith)
+none_before vs k h = grind arith
 
 pub none_after : (vs : List LinkView) (k : ℕ) → length vs < k → kept_at vs k ≡ None
-none_after vs zero h = refl
-none_after vs (suc place) h = slice_get_past vs place (omega arith)
+none_after vs k h = search (rules, slice_get_past)
 
 -- there is no more kept than there are connections
 none_kept : (P : ℕ → LinkConf → LinkView → Type 0) (k : ℕ) (links : List LinkConf) (vs : List LinkView) (place : ℕ) → EachLink P k links vs → slice_get vs place ≡ None → slice_get links place ≡ None
@@ -39,8 +32,7 @@ none_kept P k _ _ place h e = absurd h
 
 -- what is kept of a connection, if there is one
 missing : (b : Beginning) (v : PlantView) (acts : List Act) (k : ℕ) → PlantStands b v acts → kept_at v.links k ≡ None → link_at b.links k ≡ None
-missing b v acts zero h e = refl
-missing b v acts (suc place) h e = none_kept (LinkIs (λ j. is_cut j acts) (pairs_by v.journal)) 1 b.links v.links place h.has_done.links e
+missing b v acts k h l = search (rules, none_kept)
 
 record Found (b : Beginning) (v : PlantView) (acts : List Act) (k : ℕ) (l : LinkView) : Type 0 where
   link : LinkConf

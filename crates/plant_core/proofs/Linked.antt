@@ -1,7 +1,8 @@
 -- The slave of a connection and what notes its pair, after a deed of either end.
-use Rattle.plant_core.proofs.Common.{AgesNote, AgesView, Deed, Did, End, Entry, Fixed, HasAgeParts, Lengths, LinkConf, LinkStands, LinkView, MasterNoted, MonitorView, Move, NotesOne, NotesParts, NotesSlave, OfSlave, SlaveGoesOn, SlaveIsAfter, SlaveView, Took, deed_in, deeds, delivered, new_ages, new_link, next_entry, same_end, step, watchdog_in}
-use Rattle.std.proofs.Common.{◌≡◌, ℕ, ◌+◌, List, [], ◌∷◌, Bool, true, false, ap, ap₂, ◌∙◌, refl, sym, subst, Option, Some, None, if◌then◌else◌}
-use Rattle.std.specs.Prelude.{IfSome, is_some}
+use Rattle.plant_core.proofs.Common.{AgesNote, AgesView, Deed, Did, End, Entry, Fixed, HasAgeParts, IfSome, Lengths, LinkConf, LinkStands, LinkView, MasterNoted, Move, NotesOne, NotesParts, NotesSlave, OfSlave, SlaveGoesOn, SlaveIsAfter, SlaveView, deed_in, deeds, delivered, is_some, new_ages, new_link, next_entry, same_end, watchdog_in}
+use Rattle.fsoe_base.specs.declared.did.Took.{Took}
+use Rattle.end_model.specs.Step.{step}
+use Rattle.std.proofs.Common.{◌≡◌, ℕ, ◌+◌, List, [], ◌∷◌, Bool, false, ap, ap₂, refl, sym, subst, Option, if◌then◌else◌, arith}
 use Rattle.fsoe_base.specs.declared.command.Command.TheVariants as command
 use Rattle.fsoe_base.specs.declared.command.End.TheVariants as side
 use Rattle.param_load.specs.declared.slave_settings.SlaveSettings.{SlaveSettings}
@@ -12,30 +13,20 @@ use Rattle.slave_core.specs.ViewOf.{view_of}
 use Rattle.slave_core.specs.Standing as slave_core
 
 pub is_new : (link : LinkConf) (aged : Bool) (new : LinkView) → SlaveIsAfter link.slave new.slave [] → new.monitor ≡ monitor.view_of [] → new.ages ≡ new_ages aged → new.cut ≡ false → new ≡ new_link aged link
-is_new link aged new slave noted ages_are cut = ap (λ (z : SlaveView). record new { slave = z }) slave.is
-    ∙ ap (λ (z : MonitorView). record new { slave = view_of link.slave []; monitor = z }) noted
-    ∙ ap (λ (z : Option AgesView). record new { slave = view_of link.slave []; monitor = monitor.view_of []; ages = z }) ages_are
-    ∙ ap (λ (z : Bool). record { slave = view_of link.slave []; monitor = monitor.view_of []; ages = new_ages aged; cut = z }) cut
-
-none_noted : (aged : Bool) → IfSome (new_ages aged) (λ a. a ≡ ages.view_of [])
-none_noted true = refl
-none_noted false = tt
+is_new link aged new h k l m = grind arith
 
 -- what is new stands for no entries
 pub new_stands : (aged : Bool) (link : LinkConf) → LinkStands link (new_link aged link) []
-new_stands aged link = record { slave = record { is = refl; reached = tt }; monitor = refl; ages = none_noted aged }
+new_stands aged link = grind arith
 
 -- ages that had noted some entries have noted one more
 ages_noted : (old new : Option AgesView) (at : End) (tick : Bool) (came : List ℕ) (did : Did) (sent : List ℕ) (watchdog : Option ℕ) (x : Entry) (w : List Entry) → AgesNote old at tick came did sent watchdog new
     → HasAgeParts x at tick came did sent watchdog → IfSome old (λ a. a ≡ ages.view_of w) → IfSome new (λ a. a ≡ ages.view_of (x ∷ w))
-ages_noted None new at tick came did sent watchdog x w noted parts h = subst (λ (z : Option AgesView). IfSome z (λ a. a ≡ ages.view_of (x ∷ w))) (sym noted) tt
-ages_noted (Some old) None at tick came did sent watchdog x w noted parts h = absurd noted
-ages_noted (Some old) (Some new) at tick came did sent watchdog x w noted parts h = (noted.notes x parts).notes w h
+ages_noted old new at tick came did sent watchdog x w h k l = grind arith
 
 -- what is told whatever was taken
 pub whatever : (took : Option Took) (watchdog told : Option ℕ) → watchdog ≡ told → IfSome took (λ t. t.command ≡ command.ProcessData → watchdog ≡ told)
-whatever None watchdog told e = tt
-whatever (Some t) watchdog told e = λ process. e
+whatever took watchdog told h = grind arith
 
 pub slave_goes : (old new : LinkView) (what : Move) (did : Did) (sent : List ℕ) → slave_core.Follows old.slave what new.slave → slave_core.Answers old.slave what did sent
     → NotesParts old.monitor side.Slave (delivered what) did sent new.monitor → NotesSlave new.slave old.ages (is_tick what) (delivered what) did sent new.ages → SlaveGoesOn old what did sent new
@@ -61,8 +52,7 @@ slave_goes old new what did sent follows answers noted aged = record {
 
 -- an entry of the master is none of the slave's deeds
 masters_own : (end : End) (x : Entry) (w : List Entry) → end ≡ side.Master → (if same_end side.Slave end then deed_in x ∷ deeds side.Slave w else deeds side.Slave w) ≡ deeds side.Slave w
-masters_own side.Master x w e = refl
-masters_own side.Slave x w e = absurd (cc e)
+masters_own end x w h = grind arith
 
 pub master_noted : (old new : LinkView) (tick : Bool) (came : List ℕ) (did : Did) (sent : List ℕ) (watchdog : Option ℕ) → NotesParts old.monitor side.Master came did sent new.monitor
     → AgesNote old.ages side.Master tick came did sent watchdog new.ages → new.slave ≡ old.slave → MasterNoted old tick came did sent watchdog new

@@ -1,9 +1,7 @@
 -- What a plant keeps of its connections before anything happened.
-use Rattle.plant_core.proofs.Common.{AreNoted, BoundSpec, Did, EachLink, Fixed, IsPlant, Lengths, LinkConf, LinkIs, LinkView, MultiValue, fixed_in, is_named, lengths_in, lengths_kept, links_made, new_link, pairs_by}
-use Rattle.std.proofs.Common.{◌≡◌, ◌≤◌, ◌<◌, ◌+◌, ◌*◌, ℕ, zero, suc, Bool, false, List, [], ◌∷◌, ◌++◌, get_or, length, map, take, slice_get, Some, refl, sym, ap, ap₂, subst, ◌∙◌, arith}
-use Rattle.std.proofs.lemmas.List.Elements.{All-cons, All-nil}
-use Rattle.std.specs.Prelude.{Err, Ok, Result, if◌then◌else◌, is_err, is_ok}
-use Rattle.std.proofs.lemmas.Option.{slice_get_read}
+use Rattle.plant_core.proofs.Common.{All-cons, All-nil, AreNoted, BoundSpec, Did, EachLink, Fixed, IsPlant, Lengths, LinkConf, LinkIs, LinkView, MultiValue, Result, fixed_in, is_err, is_named, is_ok, lengths_in, lengths_kept, links_made, new_link, pairs_by, slice_get_read}
+use Rattle.std.proofs.Common.{◌≡◌, ◌≤◌, ◌<◌, ◌+◌, ◌*◌, ℕ, zero, suc, Bool, false, List, [], ◌∷◌, ◌++◌, get_or, length, map, take, slice_get, Some, refl, sym, ap, ap₂, ◌∙◌, arith, rules}
+use Rattle.std.specs.Prelude.{if◌then◌else◌}
 use Rattle.multi_master.specs.Standing as multi
 use Rattle.plant_core.proofs.Linked.{new_stands}
 
@@ -22,8 +20,7 @@ made_more k (suc i) bounds (first ∷ confs) conf e =
 
 -- what was pushed without an error
 pub pushed : {T E X : Type 0} (r : Result T E) (b : Bool) (new longer old : X) → b ≡ is_err r → b ≡ false → new ≡ (if is_ok r then longer else old) → new ≡ longer
-pushed (Ok x) b new longer old e f h = h
-pushed (Err x) b new longer old e f h = absurd (cc (e, f))
+pushed r b new longer old h k l = grind arith
 
 -- so it is of the connections that were gone through
 pub made_next : (bounds : List BoundSpec) (confs : List LinkConf) (i : ℕ) (conf : LinkConf) (aged : Bool) (old new : List LinkView) (link : LinkView) → old ≡ links_made 1 bounds (take i confs) → conf ≡ get_or confs i conf → i < length confs
@@ -52,9 +49,7 @@ made_count k bounds (conf ∷ confs) = ap suc (made_count (suc k) bounds confs)
 
 pub made_ready : {A : Type 0} (master : MultiValue A) (links : List LinkView) (dids : List Did) (outs : List (List ℕ)) (bounds : List BoundSpec) (confs : List LinkConf) → links ≡ links_made 1 bounds confs → length confs ≤ 64 → multi.links master ≡ length confs
     → length dids ≡ length confs → length outs ≡ length confs → IsPlant master links dids outs 0
-made_ready master links dids outs bounds confs e most masters dids_are outs_are =
-    let count : length links ≡ length confs = ap length e ∙ made_count 1 bounds confs in
-    record { count = count ∙ sym masters; most = omega arith; dids_fit = dids_are ∙ sym count; outs_fit = outs_are ∙ sym count; noted = subst (AreNoted (2 * 0)) (sym e) (made_noted 1 bounds confs) }
+made_ready master links dids outs bounds confs h k l m n = search (rules, made_count, made_noted)
 
 made_lengths : (k : ℕ) (bounds : List BoundSpec) (confs : List LinkConf) → lengths_kept (links_made k bounds confs) ≡ map lengths_in confs
 made_lengths k bounds [] = refl
@@ -65,8 +60,5 @@ fixed_lengths : (vs : List LinkView) → lengths_kept vs ≡ map (λ (f : Fixed)
 fixed_lengths [] = refl
 fixed_lengths (v ∷ vs) = ap (λ (ls : List Lengths). v.slave.kit.settings.lengths ∷ ls) (fixed_lengths vs)
 
-pub same_lengths : (vs ws : List LinkView) → fixed_in vs ≡ fixed_in ws → lengths_kept vs ≡ lengths_kept ws
-same_lengths vs ws e = fixed_lengths vs ∙ ap (map (λ (f : Fixed). f.lengths)) e ∙ sym (fixed_lengths ws)
-
 pub lengths_made : (bounds : List BoundSpec) (confs : List LinkConf) (vs : List LinkView) → fixed_in vs ≡ fixed_in (links_made 1 bounds confs) → lengths_kept vs ≡ map lengths_in confs
-lengths_made bounds confs vs e = same_lengths vs (links_made 1 bounds confs) e ∙ made_lengths 1 bounds confs
+lengths_made bounds confs vs h = search (rules, fixed_lengths, made_lengths)

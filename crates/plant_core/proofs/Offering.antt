@@ -1,10 +1,6 @@
 -- The offers that a cycle changed, in the journal and at their connections.
-use Rattle.plant_core.proofs.Common.{AllSound, AppView, Call, Connection, End, IsOne, IsSound, JournalStep, LinkConf, LinkView, LinksAre, MasterNoted, Meant, MultiView, OffersNoted, ShowsAt, ShowsChanged, StandsFor, changed, changed_by, changed_from, connection, cycle_in, frames_of, is_offer, meant, next_of, nothing, numbers_of, offer_at, offer_step, pair, pairs_by, with_frame}
-use Rattle.std.proofs.Common.{◌≡◌, ◌≤◌, ℕ, zero, suc, ◌+◌, ◌==◌, Bool, true, false, List, [], ◌∷◌, ◌++◌, map, take, length, slice_get, slice_set, Option, Some, None, option_map, if◌then◌else◌, refl, sym, ap, ap₂, subst, ◌∙◌, append_assoc, arith}
-use Rattle.std.specs.Option.{option_map_or}
-use Rattle.std.specs.Prelude.{IfSome}
-use Rattle.std.proofs.lemmas.Option.{slice_get-map}
-use Rattle.std.proofs.lemmas.List.{append-nil, map-append, take_all}
+use Rattle.plant_core.proofs.Common.{AllSound, AppView, Call, Connection, End, IfSome, IsOne, IsSound, JournalStep, LinkConf, LinkView, LinksAre, MasterNoted, Meant, MultiView, OffersNoted, ShowsAt, ShowsChanged, StandsFor, append-nil, changed, changed_by, changed_from, connection, frames_of, is_offer, map-append, meant, next_of, nothing, numbers_of, offer_at, offer_step, option_map_or, pair, pairs_by, slice_get-map, take_all, with_frame}
+use Rattle.std.proofs.Common.{◌≡◌, ◌≤◌, ℕ, zero, suc, ◌+◌, ◌==◌, Bool, true, false, List, [], ◌∷◌, ◌++◌, map, take, length, slice_get, slice_set, Option, Some, None, option_map, if◌then◌else◌, refl, sym, ap, ap₂, subst, ◌∙◌, append_assoc, arith, rules}
 use Rattle.fsoe_base.specs.declared.command.End.TheVariants as side
 use Rattle.failsafe_io.specs.Application.{Answer}
 use Rattle.param_load.specs.declared.entry.Move.TheVariants as move
@@ -23,17 +19,8 @@ pub record OffersOf (master : MultiView) (listed : List ℕ) (old new : List Lin
   pub offers_are : (settings : List MasterSettings) (app : AppView) (calls : List Call) → StandsFor settings app master calls → offers ≡ map (shown_step (meant settings app calls)) listed
   pub links : (links : List LinkConf) (cut : ℕ → Bool) (steps : List JournalStep) → LinksAre links cut (pairs_by steps) old → LinksAre links cut (pairs_by (steps ++ offers)) new
 
-pub offers_none : (master : MultiView) (vs : List LinkView) (steps : List JournalStep) → OffersOf master [] vs vs steps steps
-offers_none master vs steps = record {
-  offers = [];
-  steps = sym (append-nil steps);
-  offers_are = λ settings app calls h. refl;
-  links = λ links cut js h. subst (λ (z : List JournalStep). LinksAre links cut (pairs_by z) vs) (sym (append-nil js)) h;
-}
-
 shown_or : (o : Option Connection) (shown : List ℕ) → option_map offer_at o ≡ Some shown → option_map_or offer_at o [] ≡ shown
-shown_or None shown e = absurd (cc e)
-shown_or (Some c) shown e = cc
+shown_or o shown h = grind arith
 
 pub offers_more : (master : MultiView) (listed : List ℕ) (n place : ℕ) (shown : List ℕ) (old mid : List LinkView) (v is : LinkView) (before js after : List JournalStep) → OffersOf master listed old mid before js
     → slice_get mid place ≡ Some v → n ≡ suc place → MasterNoted v false [] nothing [] None is → is.cut ≡ v.cut → ShowsAt master n shown offer_at → after ≡ js ++ step.Offer n shown ∷ []
@@ -77,8 +64,7 @@ shown_at m loads place k load a e is =
 
 one_shown : (m : Meant) (n : ℕ) (load : List ℕ) (b : Bool) (rest : List (ℕ × List ℕ)) → shown_step m n ≡ step.Offer n load → map (shown_step m) (numbers_of rest) ≡ map offer_step rest
     → map (shown_step m) (numbers_of (if b then rest else (n, load) ∷ rest)) ≡ map offer_step (if b then rest else (n, load) ∷ rest)
-one_shown m n load true rest one h = h
-one_shown m n load false rest one h = ap₂ (λ (s : JournalStep) (steps : List JournalStep). s ∷ steps) one h
+one_shown m n load b rest h k = grind arith
 
 all_shown : (m : Meant) (n : ℕ) (cs : List Connection) (loads : List (List ℕ)) → ((place k : ℕ) (load : List ℕ) → k ≡ n + place → slice_get loads place ≡ Some load → shown_step m k ≡ step.Offer k load)
     → map (shown_step m) (numbers_of (changed_from n cs loads)) ≡ map offer_step (changed_from n cs loads)
@@ -87,12 +73,10 @@ all_shown m n (c ∷ cs) (load ∷ loads) f =
 all_shown m n _ _ f = refl
 
 cycle_shown : (m : Meant) (o : Option Answer) (cs : List Connection) → IfSome o (IsSound m) → map (shown_step m) (numbers_of (changed_by o cs)) ≡ map offer_step (changed_by o cs)
-cycle_shown m None cs h = refl
-cycle_shown m (Some a) cs h = all_shown m 1 cs a.outputs (λ place k load e is. shown_at m a.outputs place k load h.answered (omega arith) is)
+cycle_shown m o cs h = search (rules, all_shown, shown_at)
 
 changed_shown : (settings : List MasterSettings) (app : AppView) (calls : List Call) → AllSound settings app calls → map (shown_step (meant settings app calls)) (numbers_of (changed settings app calls)) ≡ map offer_step (changed settings app calls)
-changed_shown settings app [] h = refl
-changed_shown settings app (call ∷ calls) h = cycle_shown (meant settings app (call ∷ calls)) (cycle_in call (meant settings app calls)) (meant settings app calls).connections h.0
+changed_shown settings app calls h = search (rules, cycle_shown)
 
 pub offers_all : (master : MultiView) (listed : List ℕ) (i : ℕ) (old new : List LinkView) (before after : List JournalStep) → length listed ≤ i → ShowsChanged master listed → OffersOf master (take i listed) old new before after
     → OffersNoted master old new before after
@@ -106,8 +90,7 @@ offers_all master listed i old new before after past shows h = record {
 
 -- offers send nothing
 nothing_sent : (b c : Bool) (frames : List (List ℕ)) → with_frame (if b then (if c then [] else []) else []) frames ≡ frames
-nothing_sent true true frames = refl
-nothing_sent _ _ frames = refl
+nothing_sent b c frames = grind arith
 
 offer_sends : (at : End) (link : LinkConf) (k : ℕ) (steps : List JournalStep) (n : ℕ) (load : List ℕ) → frames_of at (pair link k (steps ++ step.Offer n load ∷ [])) ≡ frames_of at (pair link k steps)
 offer_sends side.Master link k steps n load =

@@ -1,9 +1,6 @@
 -- Acts in which one end of one connection does something, and no cycle is run.
-use Rattle.plant_core.proofs.Common.{Act, Beginning, Call, Delivers, End, Entry, Event, Fits, GoesOn, Happen, HasDone, IsOne, IsProper, JournalStep, LinkConf, LinkIs, LinkStands, LinkView, LinksAre, MasterNoted, Move, MultiView, Nonce, OfSlave, Parcel, Placed, PlantEvent, PlantView, PullFrom, SlaveActs, StandsFor, Told, Trace, Use, all_pushes, call_of, calls, cut_after, delivery_call, each_none, each_one, event_call, frames_next, frames_of, is_cut, journal, lengths_kept, link_at, next_of, next_uses, no_entry, not_same, nothing, offers_by, pair, pair_one, pair_other, pair_own, pairs_by, peer, place_of, pushes_each, pushes_of, same_end, sent_in, sent_uses, settings, slave_move, steps_of, with_frame}
-use Rattle.std.proofs.Common.{◌≡◌, ◌≢◌, length, ℕ, suc, ◌==◌, Bool, true, false, List, [], ◌∷◌, ◌++◌, slice_get, slice_set, Option, Some, None, if◌then◌else◌, refl, sym, ap, ap₂, subst, ◌∙◌, arith}
-use Rattle.std.specs.Prelude.{IfSome, option_to_list}
-use Rattle.std.proofs.lemmas.Bool.{eq-eqb}
-use Rattle.std.proofs.lemmas.List.{append-nil}
+use Rattle.plant_core.proofs.Common.{Act, Beginning, Call, Delivers, End, Entry, Event, Fits, GoesOn, Happen, HasDone, IfSome, IsOne, IsProper, JournalStep, LinkConf, LinkIs, LinkStands, LinkView, LinksAre, MasterNoted, Move, MultiView, Nonce, OfSlave, Parcel, Placed, PlantEvent, PlantView, PullFrom, SlaveActs, StandsFor, Told, Trace, Use, all_pushes, append-nil, call_of, calls, cut_after, delivery_call, each_none, each_one, eq-eqb, event_call, frames_of, is_cut, journal, lengths_kept, link_at, next_of, next_uses, no_entry, not_same, nothing, offers_by, option_to_list, pair, pair_one, pair_other, pair_own, pairs_by, peer, place_of, pushes_each, pushes_of, same_end, sent_in, sent_uses, settings, slave_move, steps_of, with_frame}
+use Rattle.std.proofs.Common.{◌≡◌, ◌≢◌, length, ℕ, suc, ◌==◌, Bool, false, List, [], ◌∷◌, ◌++◌, slice_get, slice_set, Option, Some, None, if◌then◌else◌, refl, sym, ap, ap₂, subst, ◌∙◌, arith}
 use Rattle.fsoe_base.specs.declared.command.End.TheVariants as side
 use Rattle.param_load.specs.declared.entry.Move.TheVariants as move
 use Rattle.multi_master.specs.Standing as multi
@@ -29,8 +26,7 @@ frame_in at n end what steps k link = if n == k then sent_in at end (next_of end
 
 frames_if : (at end : End) (what : Move) (link : LinkConf) (w : List Entry) (b : Bool)
     → frames_of at (if b then next_of end what link w ∷ w else w) ≡ with_frame (if b then sent_in at end (next_of end what link w) else []) (frames_of at w)
-frames_if at end what link w true = frames_next at end what link w
-frames_if at end what link w false = refl
+frames_if at end what link w b = grind arith
 
 pub one_frames : (at : End) (link : LinkConf) (k : ℕ) (steps : List JournalStep) (s : JournalStep) (n : ℕ) (end : End) (what : Move) → IsOne s n end what
     → frames_of at (pair link k (steps ++ s ∷ [])) ≡ with_frame (frame_in at n end what steps k link) (frames_of at (pair link k steps))
@@ -46,16 +42,14 @@ quiet_pushes links cut before now h =
 
 -- the other end sends nothing
 silent : (at end : End) (x : Entry) (b c : Bool) (k : ℕ) → same_end at end ≡ false → sent_uses (place_of k (peer at)) (if b then sent_in at end x else []) c ≡ []
-silent at end x false c k h = refl
-silent at end x true c k h = ap (λ (same : Bool). sent_uses (place_of k (peer at)) (if same then x.sent else []) c) h
+silent at end x b c k h = grind arith
 
 -- other connections send nothing
 pub apart : (n k : ℕ) (at : End) (f : List ℕ) (c : Bool) → k ≢ n → sent_uses (place_of k (peer at)) (if n == k then f else []) c ≡ []
 apart n k at f c h = ap (λ (b : Bool). sent_uses (place_of k (peer at)) (if b then f else []) c) (not_same n k (λ e. h (sym e)))
 
 here : (n : ℕ) (end : End) (x : Entry) (c : Bool) → sent_uses (place_of n (peer end)) (if n == n then sent_in end end x else []) c ≡ sent_uses (place_of n (peer end)) x.sent c
-here n side.Master x c = ap (λ (b : Bool). sent_uses (place_of n side.Slave) (if b then x.sent else []) c) (eq-eqb n n refl)
-here n side.Slave x c = ap (λ (b : Bool). sent_uses (place_of n side.Master) (if b then x.sent else []) c) (eq-eqb n n refl)
+here n end x c = grind arith
 
 own_pushes : (links : List LinkConf) (cut : ℕ → Bool) (steps : List JournalStep) (s : JournalStep) (n : ℕ) (end : End) (what : Move) (place : ℕ) (link : LinkConf) → IsOne s n end what → slice_get links place ≡ Some link → n ≡ suc place
     → pushes_of end 1 links cut steps (steps ++ s ∷ []) ≡ next_uses n end what link (pair link n steps) (cut n)
@@ -115,16 +109,7 @@ pub record Acted (b : Beginning) (act : Act) (done : List Act) (new : PlantView)
 pub act_done : (b : Beginning) (act : Act) (done : List Act) (old new : PlantView) (vs : List LinkView) (now : List JournalStep) (us : List Use) (before after : Told) → HasDone b old done → new.links ≡ vs → new.journal ≡ now → new.journal ≡ journal b (act ∷ done)
     → StandsFor (settings b) b.app new.master (calls b (act ∷ done)) → LinksAre b.links (λ k. is_cut k (act ∷ done)) (pairs_by now) vs → all_pushes b.links (λ k. is_cut k (act ∷ done)) old.journal now ≡ us → Trace us before after
     → Acted b act done new before after
-act_done b act done old new vs now us before after h links journal journal_is master stand pushes trace =
-    let cut : ℕ → Bool = λ k. is_cut k (act ∷ done) in
-    record {
-      has_done = record {
-        master = master;
-        links = subst (λ (z : List LinkView). LinksAre b.links cut (pairs_by new.journal) z) (sym links) (subst (λ (js : List JournalStep). LinksAre b.links cut (pairs_by js) vs) (sym journal) stand);
-        journal_is = journal_is;
-      };
-      pushed = subst (λ (z : List Use). Trace z before after) (sym (ap₂ (all_pushes b.links cut) (sym h.journal_is) (sym journal_is ∙ journal) ∙ pushes)) trace;
-    }
+act_done b act done old new vs now us before after h k l m n o p q = grind arith
 
 pub slave_acted : (b : Beginning) (act : Act) (done : List Act) (old new : PlantView) (s : JournalStep) (n : ℕ) (what : Move) (before after : Told) → IsAtSlave b act s n what → SlaveChange old new s n what before after
     → HasDone b old done → Acted b act done new before after
@@ -180,8 +165,7 @@ slave_event old new e n what before after is c =
 
 -- a parcel for a slave
 delivery_to_slave : (o : Option LinkConf) (n : ℕ) (frame : List ℕ) → delivery_call o side.Slave n frame ≡ None
-delivery_to_slave None n frame = refl
-delivery_to_slave (Some link) n frame = refl
+delivery_to_slave o n frame = grind arith
 
 pub slave_delivered : (old new : PlantView) (n : ℕ) (frame : List ℕ) (before after : Told) → SlaveChange old new (step.Pulled (record { to = place_of n side.Slave; frame = frame })) n (move.Deliver frame) before after
     → Delivers old (record { to = place_of n side.Slave; frame = frame }) new before after
@@ -237,8 +221,7 @@ pub record CutChange (old new : PlantView) (n : ℕ) (cut : Bool) : Type 0 where
   pub journal : new.journal ≡ old.journal ++ step.Script (event.Cut n cut) ∷ []
 
 same_stands : (link : LinkConf) (w : List Entry) (was is : LinkView) (cut : Bool) → is ≡ record was { cut = cut } → LinkStands link was w → LinkStands link is w
-same_stands link w was is cut e h =
-    subst (λ (v : LinkView). LinkStands link v w) (sym e) (record { slave = h.slave; monitor = h.monitor; ages = h.ages })
+same_stands link w was is cut h k = grind arith
 
 pub cut_event : (old new : PlantView) (n : ℕ) (cut : Bool) (t : Told) → CutChange old new n cut → GoesOn old (Happen (Event (event.Cut n cut)) ∷ []) new t t
 cut_event old new n cut t c = record {

@@ -1,9 +1,8 @@
 -- The lowest connection whose pair has an other entry.
-use Rattle.plant_core.proofs.Common.{AllNoted, EachLink, Entry, JournalStep, LinkConf, LinkIs, LinkView, PlantView, TellsOther, has_other, is_cut, lowest_other, pair, pairs_by, view_of}
-use Rattle.std.proofs.lemmas.List.{drop_more}
-use Rattle.std.proofs.Common.{◌≡◌, ◌≤◌, ◌<◌, ℕ, zero, suc, ◌+◌, List, [], ◌∷◌, length, get_or, drop, subst, Option, Some, None, Bool, true, false, if◌then◌else◌, refl, sym, ap, ◌∙◌, arith}
-use Rattle.std.specs.Prelude.{is_some}
+use Rattle.plant_core.proofs.Common.{AllNoted, EachLink, Entry, JournalStep, LinkConf, LinkIs, LinkView, PlantView, TellsOther, has_other, is_cut, is_some, lowest_other, pair, pairs_by, view_of}
+use Rattle.std.proofs.Common.{◌≡◌, ◌≤◌, ◌<◌, ℕ, suc, ◌+◌, List, [], ◌∷◌, length, get_or, drop, subst, Option, Some, None, Bool, true, false, if◌then◌else◌, refl, sym, ap, ◌∙◌, arith}
 use Rattle.exchange_model.specs.Other.{first_other}
+use Rattle.std.proofs.lemmas.Grind.{common_steps}
 
 -- what is left to look through gives what all gives
 pub record Left (k : ℕ) (confs : List LinkConf) (links : List LinkView) (steps : List JournalStep) (all : Option ℕ) : Type 0 where
@@ -13,10 +12,7 @@ pub record Left (k : ℕ) (confs : List LinkConf) (links : List LinkView) (steps
 -- the first of those left has none
 pub passed : (k : ℕ) (confs : List LinkConf) (v : LinkView) (links : List LinkView) (steps : List JournalStep) (all : Option ℕ) (found : Bool) → found ≡ false
     → ((w : List Entry) → v.monitor ≡ view_of w → found ≡ is_some (first_other w)) → Left k confs (v ∷ links) steps all → Left (suc k) (drop 1 confs) links steps all
-passed k [] v links steps all found is tells h = absurd h.noted
-passed k (conf ∷ confs) v links steps all found is tells h =
-    let none : has_other conf k steps ≡ false = sym (tells (pair conf k steps) h.noted.0) ∙ is in
-    record { noted = h.noted.1; lowest = sym (ap (λ (b : Bool). if b then Some k else lowest_other (suc k) confs steps) none) ∙ h.lowest }
+passed k confs v links steps all found h l m = grind arith
 
 -- the first of those left has one
 pub met : (k : ℕ) (confs : List LinkConf) (v : LinkView) (links : List LinkView) (steps : List JournalStep) (all : Option ℕ) (found : Bool) → found ≡ true
@@ -36,16 +32,12 @@ drop_one (suc i) (x ∷ xs) = drop_one i xs
 drop_one _ _ = refl
 
 drop_none : {X : Type 0} (i : ℕ) (xs : List X) → length xs ≤ i → drop i xs ≡ []
-drop_none zero (x ∷ xs) h = absurd (omega arith)
-drop_none zero [] h = refl
-drop_none (suc i) [] h = refl
-drop_none (suc i) (x ∷ xs) h = drop_none i xs (omega arith)
+drop_none i xs h = grind (arith, common_steps)
 
 -- the first of those left is at the place
 pub left_at : (k : ℕ) (confs : List LinkConf) (links : List LinkView) (i : ℕ) (v : LinkView) (steps : List JournalStep) (all : Option ℕ) → v ≡ get_or links i v → i < length links
     → Left k confs (drop i links) steps all → Left k confs (v ∷ drop (i + 1) links) steps all
-left_at k confs links i v steps all is lt h =
-    subst (λ (z : List LinkView). Left k confs z steps all) (drop_more links i v lt ∙ ap (λ (z : LinkView). z ∷ drop (i + 1) links) (sym is)) h
+left_at k confs links i v steps all h l m = grind (arith, common_steps)
 
 pub goes_on : (i : ℕ) (confs : List LinkConf) (links : List LinkView) (v : LinkView) (steps : List JournalStep) (all : Option ℕ) (found : Bool) → found ≡ false
     → ((w : List Entry) → v.monitor ≡ view_of w → found ≡ is_some (first_other w)) → v ≡ get_or links i v → i < length links

@@ -1,10 +1,6 @@
 -- The pulls of a tick, a plant's start, and how it goes on by a line of its script.
-use Rattle.plant_core.proofs.Common.{Act, App, AppView, Beginning, Begins, BoundSpec, Call, ChangeApp, Delivers, DoesLine, EachLink, End, Entry, Event, Fits, Follows, GoesOn, Happen, HasDone, IsOne, JournalStep, Lengths, LinkConf, LinkIs, LinkStands, LinkView, LinksAre, Move, MultiView, OffersNoted, Parcel, PlantEvent, PlantView, PullFrom, Pulls, PullsParcel, Said, SlaveView, StandsFor, Start, Starts, Told, Trace, Use, all_pushes, call_of, calls, changed, delivery_call, each_uses, frames_of, is_cut, is_tick, journal, lengths_in, lengths_kept, line_step, link_at, links_made, master_in, next_of, offers, pair, pair_other, pairs_by, peer, place_of, pulls_after, pushes_each, pushes_of, sent_in, sent_uses, settings, uses, uses_after, uses_of}
-use Rattle.std.proofs.Common.{◌≡◌, ◌≢◌, ◌≤◌, ◌<◌, ◌⊎◌, inl, inr, ℕ, zero, suc, ◌+◌, ◌-◌, ◌*◌, Bool, false, List, [], ◌∷◌, ◌++◌, map, All, length, Option, Some, None, refl, sym, ap, ap₂, subst, ◌∙◌, append_assoc, arith, if◌then◌else◌}
-use Rattle.std.proofs.Math.Nat.{suc-mul}
-use Rattle.std.proofs.lemmas.List.{append-nil}
-use Rattle.std.proofs.lemmas.List.Elements.{All-append, All-cons, All-nil}
-use Rattle.std.proofs.lemmas.Option.{slice_get_past}
+use Rattle.plant_core.proofs.Common.{Act, All-append, All-cons, All-nil, App, AppView, Beginning, Begins, BoundSpec, Call, ChangeApp, Delivers, DoesLine, EachLink, End, Entry, Event, Fits, Follows, GoesOn, Happen, HasDone, IsOne, JournalStep, Lengths, LinkConf, LinkIs, LinkStands, LinkView, LinksAre, Move, MultiView, OffersNoted, Parcel, PlantEvent, PlantView, PullFrom, Pulls, PullsParcel, Said, SlaveView, StandsFor, Start, Starts, Told, Trace, Use, all_pushes, append-nil, call_of, calls, changed, delivery_call, each_uses, frames_of, is_cut, is_tick, journal, lengths_in, lengths_kept, line_step, link_at, links_made, master_in, next_of, offers, pair, pair_other, pairs_by, peer, place_of, pulls_after, pushes_each, pushes_of, sent_in, sent_uses, settings, slice_get_past, uses, uses_after, uses_of}
+use Rattle.std.proofs.Common.{◌≡◌, ◌≢◌, ◌≤◌, ◌<◌, ◌⊎◌, inl, inr, ℕ, suc, ◌+◌, ◌-◌, ◌*◌, Bool, false, List, [], ◌∷◌, ◌++◌, map, All, length, Option, Some, None, refl, sym, ap, ap₂, subst, ◌∙◌, append_assoc, arith, rules}
 use Rattle.fsoe_base.specs.declared.command.End.TheVariants as side
 use Rattle.param_load.specs.declared.entry.Move.TheVariants as move
 use Rattle.multi_master.specs.Standing as multi
@@ -57,9 +53,7 @@ none_pulled v before after p = record {
 
 -- a connection that doesn't exist
 pub nowhere : (links : List LinkConf) (n : ℕ) → (n ≡ 0) ⊎ (length links < n) → link_at links n ≡ None
-nowhere links zero h = refl
-nowhere links (suc k) (inl e) = absurd (omega arith)
-nowhere links (suc k) (inr lt) = slice_get_past links k (omega arith)
+nowhere links n h = search (rules, slice_get_past)
 
 each_absent : (uses : ℕ → LinkConf → List Use) (k n : ℕ) (links : List LinkConf) → ((j : ℕ) (link : LinkConf) → j ≢ n → uses j link ≡ []) → (n < k) ⊎ (k + length links ≤ n) → each_uses uses k links ≡ []
 each_absent uses k n [] h e = refl
@@ -73,12 +67,10 @@ absent_of links cut steps s n at end what one h =
     (λ k l other. apart n k at (sent_in at end (next_of end what l (pair l k steps))) (cut k) other) h
 
 ends_of : (links : List LinkConf) (n : ℕ) → (n ≡ 0) ⊎ (length links < n) → (n < 1) ⊎ (1 + length links ≤ n)
-ends_of links n (inl e) = inl (omega arith)
-ends_of links n (inr lt) = inr (omega arith)
+ends_of links n h = grind arith
 
 not_within : (links : List LinkConf) (n k : ℕ) → (n ≡ 0) ⊎ (length links < n) → 1 ≤ k → k < 1 + length links → k ≢ n
-not_within links n k (inl e) le lt = λ z. absurd (omega arith)
-not_within links n k (inr more) le lt = λ z. absurd (omega arith)
+not_within links n k h l m = grind arith
 
 -- a parcel for a connection that doesn't exist is noted
 pub nowhere_delivered : (old new : PlantView) (parcel : Parcel) (t : Told) → (parcel.to.link ≡ 0) ⊎ (length old.links < parcel.to.link) → new.master ≡ old.master → new.links ≡ old.links
@@ -208,9 +200,4 @@ starts b new before after c =
 
 -- room for the rest of the pulls
 pub pull_room : (counter len later cap roomy n same : ℕ) → counter < 64 → len + (64 - counter) * (n + 1) ≤ cap → later ≤ len + 1 + n → cap ≤ roomy → same ≡ n → later + (64 - (counter + 1)) * (same + 1) ≤ roomy
-pull_room counter len later cap roomy n same below room few larger e =
-    let left : ℕ = 64 - (counter + 1) in
-    let one : 64 - counter ≡ suc left = omega arith in
-    let next : suc left * (n + 1) ≡ left * (n + 1) + (n + 1) = suc-mul left (n + 1) in
-    let whole = rw (one, next) at room in
-    rw e (omega arith)
+pull_room counter len later cap roomy n same h k l m o = grind arith

@@ -1,8 +1,8 @@
 -- What a plant shows of an end is what the pair of its connection tells.
-use Rattle.plant_core.proofs.Common.{Act, Beginning, Connection, Deed, Did, HasLink, IsPlant, JournalStep, LinkConf, LinkIs, LinkView, OfMaster, OfSlave, Placed, PlantStands, PlantValue, PlantView, Setup, ShowsAt, ShowsPair, State, calls, deeds, is_cut, journal, link_at, master_with, mastered, masters, out, pair, pairs_by, settings, setup, some_at, state_of}
+use Rattle.plant_core.proofs.Common.{Act, Beginning, Connection, Deed, Did, HasLink, IsPlant, IsSomeAnd, JournalStep, LinkConf, LinkIs, LinkView, OfMaster, OfSlave, Placed, PlantStands, PlantValue, PlantView, Setup, ShowsAt, ShowsPair, calls, deeds, is_cut, journal, link_at, master_with, mastered, masters, out, pair, pairs_by, settings, setup, some_at, state_of}
 use Rattle.multi_master.specs.Connection.{outputs_at}
+use Rattle.fsoe_base.specs.declared.command.State.{State}
 use Rattle.std.proofs.Common.{◌≡◌, ◌≤◌, ◌<◌, ℕ, zero, suc, List, length, slice_get, Option, Some, option_map, sym, ap, subst, ◌∙◌, arith}
-use Rattle.std.specs.Prelude.{IsSomeAnd}
 use Rattle.fsoe_base.specs.declared.command.End.TheVariants as side
 use Rattle.slave_core.specs.Standing as slave_core
 use Rattle.multi_master.specs.Standing as multi
@@ -22,10 +22,7 @@ slave_shown v k place l shown word p s = record {
 
 -- the same of the master
 pub told_by : {X : Type 0} (shown : X) (word : Setup → List Deed → X) (o : Option Connection) (c : Connection) → o ≡ Some c → option_map (λ (z : Connection). word (setup z) z.deeds) o ≡ Some shown → shown ≡ word (setup c) c.deeds
-told_by shown word o c is h =
-    let told : Some (word (setup c) c.deeds) ≡ Some shown = sym (ap (option_map (λ (z : Connection). word (setup z) z.deeds)) is) ∙ h in
-    let same : word (setup c) c.deeds ≡ shown = cc in
-    sym same
+told_by shown word o c h k = grind arith
 
 master_at : {X : Type 0} (v : PlantView) (place : ℕ) (shown : X) (word : Setup → List Deed → X) → ShowsAt v.master (suc place) shown (λ c. word (setup c) c.deeds) → place < length v.links
     → (b : Beginning) (acts : List Act) → PlantStands b v acts → IsSomeAnd (link_at b.links (suc place)) (λ link. shown ≡ word (OfMaster link.master) (deeds side.Master (pair link (suc place) v.journal)))

@@ -1,16 +1,15 @@
 -- What is picked by its name is there, and it is picked alike out of what contracts see.
-use Rattle.std.proofs.Common.{◌≡◌, ◌<◌, ◌+◌, ℕ, zero, suc, Bool, true, false, List, [], ◌∷◌, length, map, cond, refl, arith, ap, ◌∙◌}
+use Rattle.std.proofs.Common.{◌≡◌, ◌<◌, ◌+◌, ℕ, zero, suc, Bool, true, false, List, [], ◌∷◌, length, map, cond, refl, arith, ap, ◌∙◌, rules}
 use Rattle.std.specs.Prelude.{Option, Some, option_map}
 use Rattle.std.specs.List.{position_from, remove}
 use Rattle.std.specs.Str.{bytes_eq}
 use Rattle.std.proofs.lemmas.List.{length-map}
 use Rattle.std.proofs.lemmas.Option.{slice_get-map}
 use Rattle.plant_setup.specs.Names.{place_of, IsTaken}
-use Rattle.plant_setup.specs.Setup.{ChosenBy, IsChosen, is_net}
+use Rattle.plant_setup.specs.Setup.{ChosenBy, IsChosen}
 
 within_by : (b : Bool) (k n len : ℕ) (rest : Option ℕ) → cond b (Some k) rest ≡ Some n → (rest ≡ Some n → n < (k + 1) + len) → n < k + suc len
-within_by true k n len rest e later = let at : k ≡ n = cc in omega (arith, at)
-within_by false k n len rest e later = let more = later e in omega (arith, more)
+within_by b k n len rest h l = grind arith
 
 within_from : {X : Type 0} (t : X → Bool) (k n : ℕ) (xs : List X) → position_from t k xs ≡ Some n → n < k + length xs
 within_from t k n [] e = cc
@@ -49,5 +48,4 @@ chosen_by_seen false f name_of app all left IsNet IsNet' IsOne IsOne' net own ch
 pub chosen_seen : {X Y : Type 0} (f : X → Y) (name_of : Y → List ℕ) (app : List ℕ) (all left : List X) (IsNet IsNet' : Type 0) (IsOne : X → Type 0) (IsOne' : Y → Type 0)
     → (IsNet → IsNet') → ((x : X) → IsOne x → IsOne' (f x)) → IsChosen (λ x. name_of (f x)) app all left IsNet IsOne
     → IsChosen name_of app (map f all) (map f left) IsNet' IsOne'
-chosen_seen f name_of app all left IsNet IsNet' IsOne IsOne' net own chosen =
-    chosen_by_seen (is_net app) f name_of app all left IsNet IsNet' IsOne IsOne' net own chosen
+chosen_seen f name_of app all left IsNet IsNet' IsOne IsOne' h k l = search (rules, chosen_by_seen)

@@ -1,5 +1,5 @@
 -- What runs where a configuration has no fault.
-use Rattle.std.proofs.Common.{◌≡◌, ℕ, List, [], length, map, subst, sym, ap, ◌∙◌, refl, slice_index_or, slice_set}
+use Rattle.std.proofs.Common.{◌≡◌, ℕ, List, [], length, map, refl, slice_index_or, slice_set, arith, rules}
 use Rattle.std.specs.Prelude.{Option, Some, None, Ok, string_bytes}
 use Rattle.std.proofs.lemmas.Option.{slice_get_read}
 use Rattle.fsoe_io.specs.declared.status.Ended.{Ended}
@@ -30,17 +30,13 @@ ran_whole : (Ran : PlantRun) (conf taken : ConfView) (app : AppView) (spare : Li
     → taken ≡ record conf { blocks = []; drives = [] }
     → Ran (record { begins = begins_with taken app; spare = spare; bounds = taken.bounds }) ended o before after steps
     → Ran (record { begins = begins_with conf app; spare = spare; bounds = conf.bounds }) ended o before after steps
-ran_whole Ran conf taken app spare ended o before after steps rest ran =
-    subst (λ (c : ConfView). Ran (record { begins = begins_with c app; spare = spare; bounds = c.bounds }) ended o before after steps) rest ran
+ran_whole Ran conf taken app spare ended o before after steps h k = grind arith
 
 -- a fault of the names that were handed in is that of those that are seen
 ran_unless : {X C : Type 0} (Ran : PlantRun) (f : X → Named) (apps : List X) (conf : ConfView) (names : List (List ℕ)) (found : Option SetupFault) (ended : Ended) (o : Outside) (h : Handed C)
     → found ≡ setup_fault conf (map (λ x. (f x).name) apps) names
     → RanUnless Ran found conf ended o h → RanUnless Ran (setup_fault conf (map (λ named. named.name) (map f apps)) names) conf ended o h
-ran_unless Ran f apps conf names found ended o h same ran =
-    let fault : found ≡ setup_fault conf (map (λ (named : Named). named.name) (map f apps)) names =
-    same ∙ ap (λ (apps : List (List ℕ)). setup_fault conf apps names) (sym (map_twice f (λ (named : Named). named.name) apps)) in
-    subst (λ (fault : Option SetupFault). RanUnless Ran fault conf ended o h) fault ran
+ran_unless Ran f apps conf names found ended o h k l = search (rules, map_twice)
 
 -- the line of a fault is what its configuration comes to
 pub set_up_refused : {H C : Type 0} (Ran : PlantRun) (app_of : H → AppView) (name_of : C → List ℕ) (tells : C → Told) (conf : ConfView) (apps : List (EntryOf H)) (channels : List C) (why : SetupFault) (ended : Ended) (o : Outside)
@@ -48,8 +44,7 @@ pub set_up_refused : {H C : Type 0} (Ran : PlantRun) (app_of : H → AppView) (n
     → Some why ≡ setup_fault conf (map (λ entry. string_bytes entry.name) apps) (map name_of channels)
     → WroteLine (config_line why) status.Config ended o (handed app_of name_of tells apps channels channels steps)
     → RanSaid Ran (Ok conf) ended o (handed app_of name_of tells apps channels channels steps)
-set_up_refused Ran app_of name_of tells conf apps channels why ended o steps fault wrote =
-    ran_unless Ran (entry_seen app_of) apps conf (map name_of channels) (Some why) ended o (handed app_of name_of tells apps channels channels steps) fault wrote
+set_up_refused Ran app_of name_of tells conf apps channels why ended o steps h k = search (rules, ran_unless)
 
 -- a plant that was set up and ran is what its configuration comes to
 pub set_up_ran : {H C : Type 0} (Ran : PlantRun) (app_of : H → AppView) (name_of : C → List ℕ) (tells : C → Told) (conf taken : ConfView) (apps spare : List (EntryOf H)) (app : KindOf H) (seen : AppView) (channels : List C)

@@ -1,15 +1,12 @@
 -- A tick is late for a bound only where a pair has another entry: from the first of the still moments that reach it on
 -- the bound is quiet. Acts and what is heard are listed newest first.
-use Rattle.plant_model.proofs.Common.{Act, AllSound, Beginning, BoundSpec, Happen, HasLinks, JournalStep, LinkConf, PullFrom, Said, StaysOff, first_of_both, is_guarded, is_off, is_on, is_still, is_tick, journal, limit, line_step, offers, steps_of, ticks}
-use Rattle.std.proofs.Common.{◌≡◌, ◌≤◌, ℕ, zero, suc, ◌+◌, ◌-◌, Bool, true, false, cond, ◌||◌, List, [], ◌∷◌, ◌++◌, Option, None, refl, sym, ap, ap₂, subst, ◌∙◌, arith}
-use Rattle.std.specs.Option.{option_map_or}
-use Rattle.std.proofs.Math.Dec.{leb-suc-zero}
-use Rattle.std.proofs.lemmas.List.{append-nil}
+use Rattle.plant_model.proofs.Common.{Act, AllSound, Beginning, BoundSpec, Happen, HasLinks, JournalStep, LinkConf, PullFrom, Said, StaysOff, append-nil, first_of_both, is_on, is_still, is_tick, journal, limit, line_step, offers, option_map_or, steps_of, ticks}
+use Rattle.std.proofs.Common.{◌≡◌, ◌≤◌, ℕ, suc, ◌+◌, ◌-◌, Bool, true, false, cond, ◌||◌, List, [], ◌∷◌, ◌++◌, Option, None, refl, sym, ap, ap₂, subst, ◌∙◌, arith, rules}
 use Rattle.reaction_bound.specs.Reaction as reaction
 use Rattle.plant_model.specs.BoundLines.{limit_by, limit_of, is_driven, is_ticking, heard, heard_before}
 use Rattle.plant_model.proofs.Reacting.{Clean, clean_at, clean_before, steps_off}
 use Rattle.plant_model.proofs.Since.{act_ticks, is_tick_act}
-use Rattle.plant_model.proofs.StillTicks.{Pulls, both_first, of_tick, quiet_on, stays_still}
+use Rattle.plant_model.proofs.StillTicks.{Pulls, of_tick, quiet_on, stays_still}
 use Rattle.plant_model.proofs.FairPlant.{AreWorlds}
 use Rattle.plant_model.specs.Broken.{BrokenByOther}
 
@@ -24,17 +21,6 @@ record QuietFor (b : Beginning) (bound : BoundSpec) (done : List Act) (n : ℕ) 
 
 fewer : (b : Beginning) (bound : BoundSpec) (done : List Act) (n m : ℕ) → m ≤ n → QuietFor b bound done n → QuietFor b bound done m
 fewer b bound done n m few q = let long = q.long in record { later = q.later; earlier = q.earlier; acts_are = q.acts_are; long = omega arith; still = q.still; quiet = q.quiet }
-
--- from here on
-quiet_here : (b : Beginning) (bound : BoundSpec) (done : List Act) → is_still b bound done ≡ true → QuietFor b bound done 0
-quiet_here b bound done still = record {
-  later = [];
-  earlier = done;
-  acts_are = refl;
-  long = omega arith;
-  still = still;
-  quiet = both_first (is_off b bound.estop done) (is_guarded b bound done) still;
-}
 
 -- through an act after which it is still
 quiet_act : (b : Beginning) (bound : BoundSpec) (act : Act) (done : List Act) (n : ℕ) → AllSound b (act ∷ done) → is_still b bound (act ∷ done) ≡ true
@@ -56,18 +42,10 @@ quiet_act b bound act done n s still q =
 -- from here on or from earlier on
 quiet_now : (b : Beginning) (bound : BoundSpec) (done : List Act) (n : ℕ) (still : Bool) (heard : List reaction.Heard) → is_still b bound done ≡ still
     → (is_still b bound done ≡ true → reaction.quiet_for n heard ≡ true → QuietFor b bound done n) → reaction.quiet_for n (reaction.Quiet still ∷ heard) ≡ true → QuietFor b bound done n
-quiet_now b bound done zero true heard is on quiet = quiet_here b bound done is
-quiet_now b bound done (suc n) true heard is on quiet = on is (sym (ap (λ (now : Bool). now || reaction.quiet_for (suc n) heard) (leb-suc-zero n)) ∙ quiet)
-quiet_now b bound done n false heard is on quiet = absurd (cc quiet)
-
--- a tick isn't late where a quiet stop keeps the drive off
-untrue : (x : Bool) → (x ≡ true → ⊥) → x ≡ false
-untrue true h = absurd (h refl)
-untrue false h = refl
+quiet_now b bound done n still heard h k l = search rules
 
 not_late : (limit : ℕ) (on : Bool) (heard : List reaction.Heard) → (reaction.quiet_for (limit - 1) heard ≡ true → on ≡ false) → reaction.is_late limit (reaction.Tick on ∷ heard) ≡ false
-not_late limit true heard off = untrue (reaction.quiet_for (limit - 1) heard) (λ quiet. absurd (cc (off quiet)))
-not_late limit false heard off = refl
+not_late limit on heard h = grind arith
 
 -- before its newest line a bound was quiet for as long as was heard, and not broken: it is quiet after a tick, and where
 -- it is still after another line
@@ -103,8 +81,7 @@ kept_line b bound estop drive done false before links ce cd k = record {
 -- where a bound was still before a tick it is so after it
 still_on : (b : Beginning) (bound : BoundSpec) (said : Said) (done : List Act) (tick : Bool) → is_tick (line_step said) ≡ tick → (tick || is_still b bound (Happen said ∷ done)) ≡ true → is_still b bound done ≡ true
     → is_still b bound (Happen said ∷ done) ≡ true
-still_on b bound said done true e on still = stays_still b bound (Happen said) done (of_tick said e) ∙ still
-still_on b bound said done false e on still = on
+still_on b bound said done tick h k l = search (rules, stays_still, of_tick)
 
 kept_acts : (b : Beginning) (bound : BoundSpec) (estop drive : LinkConf) (done : List Act) → HasLinks b bound estop drive → AllSound b done
     → Clean estop bound.estop.link (journal b done) → Clean drive bound.drive.link (journal b done) → KeptBefore b bound done (is_ticking done) (heard_before b bound done)

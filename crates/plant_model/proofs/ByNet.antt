@@ -1,7 +1,6 @@
 -- A net that runs answers by looking back over its cycles.
-use Rattle.plant_model.proofs.Common.{Act, Answer, AppView, Beginning, Call, ChangeApp, Connection, Deliver, MasterSettings, Meant, Nonce, Rule, Tick, after, all_tick, answer, call_of, calls, connection, cycle_in, event_at, event_keeps, event_on, is_heard, is_offer, masters, meant, offer_len, outputs_at, settings, settings_alone, with_cycle, with_event, with_offers}
-use Rattle.std.proofs.Common.{◌≡◌, ℕ, zero, suc, Bool, true, false, List, [], ◌∷◌, ◌++◌, map, Option, Some, None, IfSome, if◌then◌else◌, refl, sym, ap, ap₂, ◌∙◌}
-use Rattle.std.specs.Prelude.{option_and_then, option_to_list}
+use Rattle.plant_model.proofs.Common.{Act, Answer, AppView, Beginning, Call, ChangeApp, Connection, Deliver, MasterSettings, Meant, Nonce, Rule, Tick, after, all_tick, answer, call_of, calls, connection, cycle_in, event_at, event_keeps, event_on, is_heard, is_offer, masters, meant, offer_len, option_and_then, option_to_list, outputs_at, settings, settings_alone, with_cycle, with_event, with_offers}
+use Rattle.std.proofs.Common.{◌≡◌, ℕ, zero, suc, Bool, true, false, List, [], ◌∷◌, ◌++◌, map, Option, Some, None, IfSome, if◌then◌else◌, refl, sym, ap, ap₂, ◌∙◌, arith}
 use Rattle.fb_net.specs.Calls as net
 use Rattle.fb_net.specs.Calls.{cycles_of, held_after}
 use Rattle.fb_net.specs.NetView.{NetView}
@@ -48,8 +47,7 @@ abbrev answer_to : Call → Meant → Answer
 answer_to call m = (answering call m).rule (answering call m).holds (is_ticked call) (map outputs_at (after call m).connections) (map offer_len m.connections)
 
 heard_answer : (link : ℕ) (bytes : List ℕ) (m : Meant) (heard : Bool) (a : Answer) → (if heard then Some (answer false (event_at link (move.Deliver bytes) m)) else None) ≡ Some a → a ≡ answer false (event_at link (move.Deliver bytes) m)
-heard_answer link bytes m true a e = cc
-heard_answer link bytes m false a e = absurd (cc e)
+heard_answer link bytes m heard a h = grind arith
 
 answered : (call : Call) (m : Meant) (a : Answer) → cycle_in call m ≡ Some a → a ≡ answer_to call m
 answered (Deliver link bytes) m a e =
@@ -72,13 +70,8 @@ abbrev held_by : Option Answer → AppView → AppView
 held_by None app = app
 held_by (Some a) app = record app { holds = a.holds }
 
-cycle_app : (o : Option Answer) (m : Meant) → (with_cycle o m).app ≡ held_by o m.app
-cycle_app None m = refl
-cycle_app (Some a) m = refl
-
 app_after : (call : Call) (m : Meant) → (after call m).app ≡ held_by (cycle_in call m) (answering call m)
-app_after (Deliver link bytes) m = cycle_app (cycle_in (Deliver link bytes) m) m
-app_after _ m = refl
+app_after call m = grind arith
 
 -- the calls of a net by its cycles
 abbrev net_calls : List MasterSettings → List NetCycle → List net.Call
@@ -95,8 +88,7 @@ record HasHad (settings : List MasterSettings) (begun : AppView) (e : List NetCy
 
 answering_had : (settings : List MasterSettings) (app : AppView) (calls : List Call) (call : Call) (m : Meant) (e : List NetCycle) → HasHad settings (app_begun app calls) e m.app
     → HasHad settings (app_begun app (call ∷ calls)) (cycles_before call e) (answering call m)
-answering_had settings app calls (ChangeApp other) m e h = record { rule = refl; holds = refl }
-answering_had settings app calls _ m e h = h
+answering_had settings app calls call m e h = grind arith
 
 -- an answer is that of what it began as
 had_answers : (settings : List MasterSettings) (begun app : AppView) (e : List NetCycle) (c : NetCycle) → HasHad settings begun e app

@@ -3,22 +3,20 @@ pub use Rattle.black_channel.specs.declared.channel.Parcel.{Parcel}
 pub use Rattle.end_model.specs.Deed.{Deed, is_empty, ticked}
 pub use Rattle.end_model.specs.Outputs.{out}
 pub use Rattle.end_model.specs.Phases.{is_data_frame}
-pub use Rattle.end_model.specs.Readiness.{held, held_after, offer, offer_after, reaches_limit, state_of}
 pub use Rattle.end_model.specs.Setup.{OfMaster, OfSlave, Setup, sends}
-pub use Rattle.end_model.specs.Step.{deed_of, did_on, on_expiry, step}
+pub use Rattle.end_model.specs.Step.{did_on, step}
 pub use Rattle.exchange_model.proofs.Fairness.Headline.{fair_before, fair_world}
-pub use Rattle.exchange_model.proofs.Offering.Older.{older_clean, older_world, ticked_most, ticks_joined}
+pub use Rattle.exchange_model.proofs.Offering.Older.{older_clean, older_world, ticks_joined}
 pub use Rattle.exchange_model.specs.Ends.{of_end, peer, same_end}
 pub use Rattle.exchange_model.specs.Fair.{Fair, offers_bit, outputs_due, received_len}
-pub use Rattle.exchange_model.specs.Items.{FailSafe, Offered, Unset, is_held, last_put, next_offered, offered_put, put_after}
+pub use Rattle.exchange_model.specs.Items.{FailSafe, Offered, Unset, is_held, last_put, next_offered, offered_put}
 pub use Rattle.exchange_model.specs.Offering.{WasOffered, ticks_of}
 pub use Rattle.exchange_model.specs.Other.{NoOther, before_other, first_of_both}
 pub use Rattle.exchange_model.specs.Schedules.{IsNextEntry, IsProperEvent, IsWorld}
-pub use Rattle.exchange_model.specs.World.{SameLengths, deed_in, deeds, end_of_event, entry_at, entry_on, frames_of, going_on, move_from, next_entry, setup_of, world, world_after}
+pub use Rattle.exchange_model.specs.World.{SameLengths, deed_in, deeds, end_of_event, entry_at, entry_on, frames_of, going_on, move_from, next_entry, setup_of, world_after}
 pub use Rattle.failsafe_io.specs.Application.{Answer}
 pub use Rattle.failsafe_io.specs.Bits.{bit_at}
 pub use Rattle.failsafe_io.specs.declared.bit.Bit.{Bit}
-pub use Rattle.fsoe_base.specs.Did.{nothing}
 pub use Rattle.fsoe_base.specs.Image.{bit_of}
 pub use Rattle.fsoe_base.specs.declared.command.End.{End}
 pub use Rattle.fsoe_base.specs.declared.lengths.Lengths.{Lengths}
@@ -33,9 +31,9 @@ pub use Rattle.plant_conf.specs.Kept.{HasSameLengths}
 pub use Rattle.plant_conf.specs.declared.conf.BoundSpec.{BoundSpec}
 pub use Rattle.plant_conf.specs.declared.conf.LinkConf.{LinkConf}
 pub use Rattle.plant_model.specs.Acts.{Act, App, Beginning, Event, Happen, PullFrom, Said, Event as SaysEvent, Start, all_pushes, call_of, calls, cycle_of, delivery_call, is_cut, journal, line_step, masters, newer, offer_step, offers, push_to, pushes_of, settings, steps_of, uses, uses_after, uses_of}
-pub use Rattle.plant_model.specs.Bound.{HasLinks, Reacts, StaysOff, inputs_after, is_guarded, is_off, is_on, is_still, limit, offers_after, slave_offers}
+pub use Rattle.plant_model.specs.Bound.{HasLinks, Reacts, StaysOff, inputs_after, is_off, is_on, is_still, limit, offers_after}
 pub use Rattle.plant_model.specs.FairPairs.{PairsAreFair, StepFits}
-pub use Rattle.plant_model.specs.Gifts.{EmptiesRose, GivesHeld, GrewBy, RoseBy, ToldHolds, ToldLists, counted, each_uses, empty_pulls, gifts, place_of, pushes, sent_uses}
+pub use Rattle.plant_model.specs.Gifts.{EmptiesRose, GivesHeld, GrewBy, RoseBy, ToldHolds, ToldLists, counted, each_uses, empty_pulls, gifts, held_after, place_of, pushes, sent_uses}
 pub use Rattle.plant_model.specs.JournalLaws.{Cycles, MastersAgree, PullsFit, line_steps, master_hears, one_if_left, pulled_in, short_ticks, tells_hearing}
 pub use Rattle.plant_model.specs.Pair.{if_same, is_tick, is_tick_event, link_at, next_of, own_events, own_part, pair, pairs_by, pulls_after, script_part, ticks}
 pub use Rattle.plant_model.specs.Past.{AppsAreSpare, IsPast, Named, Taken, passed, said, said_in, said_with, take_app, with_line}
@@ -43,3 +41,9 @@ pub use Rattle.plant_model.specs.Promises.{AllSound}
 pub use Rattle.plant_model.specs.Uses.{Begin, Pull, Push, Trace, Use}
 pub use Rattle.plant_model.specs.declared.event.PlantEvent.{PlantEvent}
 pub use Rattle.plant_model.specs.declared.journal.JournalStep.{JournalStep}
+pub use Rattle.std.proofs.lemmas.Bool.{cases_lt, eq-eqb}
+pub use Rattle.std.proofs.lemmas.Grind.{common_steps, flat_map-append}
+pub use Rattle.std.proofs.lemmas.List.{append-nil, map-append}
+pub use Rattle.std.proofs.lemmas.List.Sums.{sum_by-append}
+pub use Rattle.std.specs.Option.{option_map_or}
+pub use Rattle.std.specs.Prelude.{IfSome, IsSomeAnd, IsTrue, None, Option, Some, cond, is_some, option_and_then, option_map, option_to_list}

@@ -1,8 +1,7 @@
 -- Which acts run a cycle, and that its answer is sound.
-use Rattle.plant_model.proofs.Common.{Act, AllSound, Answer, Beginning, Call, Cycles, Deed, Deliver, End, Entry, Event, Happen, IsSound, JournalStep, LinkConf, MasterSettings, OfMaster, Parcel, PullFrom, call_of, calls, changed_by, connection, cycle_in, deeds, delivery_call, did_on, is_heard, journal, link_at, master_hears, masters, meant, next_of, nothing, offer_step, pair, place_of, settings, tells_hearing}
-use Rattle.std.proofs.Common.{◌≡◌, ℕ, zero, suc, ◌==◌, Bool, true, false, List, [], ◌∷◌, ◌++◌, map, slice_get, Option, Some, None, if◌then◌else◌, refl, sym, ap, ◌∙◌, append_assoc}
-use Rattle.std.specs.Prelude.{is_some, option_and_then, option_to_list, IfSome}
-use Rattle.std.proofs.lemmas.List.{append-nil}
+use Rattle.plant_model.proofs.Common.{Act, AllSound, Answer, Beginning, Call, Cycles, Deed, Deliver, End, Entry, Event, Happen, IfSome, IsSound, JournalStep, LinkConf, MasterSettings, OfMaster, Parcel, PullFrom, append-nil, call_of, calls, changed_by, connection, cycle_in, deeds, delivery_call, did_on, is_heard, is_some, journal, link_at, master_hears, masters, meant, next_of, offer_step, option_and_then, option_to_list, pair, place_of, settings, tells_hearing}
+use Rattle.fsoe_base.specs.Did.{nothing}
+use Rattle.std.proofs.Common.{◌≡◌, ℕ, zero, suc, ◌==◌, Bool, true, false, List, [], ◌∷◌, ◌++◌, map, slice_get, Option, Some, None, if◌then◌else◌, refl, sym, ap, ◌∙◌, append_assoc, arith}
 use Rattle.fsoe_base.specs.declared.command.End.TheVariants as side
 use Rattle.param_load.specs.declared.entry.Move.TheVariants as move
 use Rattle.master_core.specs.Calls.{tells_due}
@@ -32,8 +31,7 @@ after_offers (x ∷ listed) link k bytes steps =
     ∙ put_if link x.1 bytes (pair link k steps) (x.0 == k)
 
 some_if : (b : Bool) (a : Answer) → is_some (if b then Some a else None) ≡ b
-some_if true a = refl
-some_if false a = refl
+some_if b a = grind arith
 
 -- a frame for the master of a connection that exists
 heard : (b : Beginning) (done : List Act) (place : ℕ) (frame : List ℕ) (link : LinkConf) → slice_get b.links place ≡ Some link
@@ -67,8 +65,7 @@ cycles b _ done = refl
 -- calls with sound answers were made by acts with sound answers
 sound-act : (b : Beginning) (acts : List Act) (o : Option Call) → multi.AllSound (settings b) b.app (option_to_list o ++ calls b acts)
     → IfSome (option_and_then (λ call. cycle_in call (masters b acts)) o) (IsSound (meant (settings b) b.app (option_to_list o ++ calls b acts))) × multi.AllSound (settings b) b.app (calls b acts)
-sound-act b acts None h = (tt, h)
-sound-act b acts (Some call) h = h
+sound-act b acts o h = grind arith
 
 pub sound_acts : (b : Beginning) (acts : List Act) → multi.AllSound (settings b) b.app (calls b acts) → AllSound b acts
 sound_acts b [] h = tt

@@ -1,8 +1,7 @@
 -- A pair is a world of proper events where the deeds of both its ends are runs; and the law of the pair holds of
 -- worlds.
-use Rattle.plant_model.proofs.Common.{End, Entry, Fair, HasSameLengths, IsNextEntry, IsWorld, JournalStep, Lengths, LinkConf, MasterSettings, Move, OfMaster, OfSlave, PairsAreFair, SameLengths, SlaveSettings, before_other, deed_in, deeds, end_of_event, entry_on, fair_world, frames_of, going_on, link_at, move_from, next_entry, own_events, pair, peer, same_end, setup_of, world_after}
-use Rattle.std.proofs.Common.{◌≡◌, ℕ, zero, suc, List, [], ◌∷◌, slice_get, Option, Some, None, if◌then◌else◌, refl, sym, ap}
-use Rattle.std.specs.Prelude.{IfSome}
+use Rattle.plant_model.proofs.Common.{End, Entry, Fair, HasSameLengths, IfSome, IsNextEntry, IsWorld, JournalStep, Lengths, LinkConf, MasterSettings, Move, OfMaster, OfSlave, PairsAreFair, SameLengths, SlaveSettings, before_other, deed_in, deeds, end_of_event, entry_on, fair_world, frames_of, going_on, link_at, move_from, next_entry, own_events, pair, peer, same_end, setup_of, world_after}
+use Rattle.std.proofs.Common.{◌≡◌, ℕ, zero, suc, List, [], ◌∷◌, slice_get, Option, Some, None, if◌then◌else◌, refl, sym, ap, arith}
 use Rattle.fsoe_base.specs.declared.command.End.TheVariants as side
 use Rattle.schedule_file.specs.declared.event.Event.{Event}
 use Rattle.end_model.specs.Runs.{IsRun}
@@ -16,9 +15,7 @@ AreNext ms ss (x ∷ w) = (x ≡ next_entry (setup_of ms ss x.end) (deeds x.end 
 next_on : (ms : MasterSettings) (ss : SlaveSettings) (events : List Event) (w : List Entry) (end : End) (what : Option Move) → AreNext ms ss w
     → ((x : Entry) → AreNext ms ss (x ∷ w) → AreNext ms ss (world_after ms ss events (x ∷ w)))
     → AreNext ms ss (going_on w (entry_on (setup_of ms ss end) (deeds end w) what) (world_after ms ss events))
-next_on ms ss events w end None h f = h
-next_on ms ss events w side.Master (Some what) h f = f (next_entry (OfMaster ms) (deeds side.Master w) what) (refl, h)
-next_on ms ss events w side.Slave (Some what) h f = f (next_entry (OfSlave ss) (deeds side.Slave w) what) (refl, h)
+next_on ms ss events w end what h k = grind arith
 
 pub are_next : (ms : MasterSettings) (ss : SlaveSettings) (events : List Event) (w : List Entry) → AreNext ms ss w → AreNext ms ss (world_after ms ss events w)
 are_next ms ss [] w h = h
@@ -34,8 +31,7 @@ record Before (ms : MasterSettings) (ss : SlaveSettings) (end : End) (x : Entry)
 before : (ms : MasterSettings) (ss : SlaveSettings) (end : End) (x : Entry) (w : List Entry) → x ≡ next_entry (setup_of ms ss end) (deeds end w) x.what
     → IsRun (OfMaster ms) (if same_end side.Master end then deed_in x ∷ deeds side.Master w else deeds side.Master w)
     → IsRun (OfSlave ss) (if same_end side.Slave end then deed_in x ∷ deeds side.Slave w else deeds side.Slave w) → Before ms ss end x w
-before ms ss side.Master x w e m s = record { next = record { proper = m.0.proper; stepped = e }; master = m.1; slave = s }
-before ms ss side.Slave x w e m s = record { next = record { proper = s.0.proper; stepped = e }; master = m; slave = s.1 }
+before ms ss end x w h k l = grind arith
 
 is_world : (ms : MasterSettings) (ss : SlaveSettings) (w : List Entry) → AreNext ms ss w → IsRun (OfMaster ms) (deeds side.Master w) → IsRun (OfSlave ss) (deeds side.Slave w) → IsWorld ms ss w
 is_world ms ss [] h m s = tt

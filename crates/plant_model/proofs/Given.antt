@@ -1,8 +1,6 @@
 -- What the channel gave, and how often it gave nothing, by the journal.
-use Rattle.plant_model.proofs.Common.{Act, App, Beginning, End, Event, Happen, IsPast, JournalStep, LinkConf, Parcel, Pull, PullFrom, Said, Start, Use, all_pushes, changed_by, counted, cycle_of, empty_pulls, frames_of, gifts, is_cut, is_tick, is_tick_event, journal, line_step, masters, newer, offer_step, offers, one_if_left, pair, peer, pulled_in, pulls_after, push_to, pushes_of, short_ticks, steps_of, uses, uses_after, uses_of}
-use Rattle.std.proofs.Common.{◌≡◌, ℕ, zero, suc, ◌+◌, ◌-◌, Bool, true, false, List, [], ◌∷◌, ◌++◌, map, Option, Some, None, if◌then◌else◌, refl, sym, ap, ap₂, ◌∙◌, append_assoc, arith}
-use Rattle.std.specs.Prelude.{option_to_list}
-use Rattle.std.proofs.lemmas.List.{append-nil}
+use Rattle.plant_model.proofs.Common.{Act, App, Beginning, End, Event, Happen, IsPast, JournalStep, LinkConf, Parcel, Pull, PullFrom, Said, Start, Use, all_pushes, append-nil, changed_by, counted, cycle_of, empty_pulls, frames_of, gifts, is_cut, is_tick, is_tick_event, journal, line_step, masters, newer, offer_step, offers, one_if_left, option_to_list, pair, peer, pulled_in, pulls_after, push_to, pushes_of, short_ticks, steps_of, uses, uses_after, uses_of}
+use Rattle.std.proofs.Common.{◌≡◌, ℕ, suc, ◌+◌, ◌-◌, Bool, List, [], ◌∷◌, ◌++◌, map, Option, Some, None, if◌then◌else◌, refl, sym, ap, ap₂, ◌∙◌, append_assoc, arith, rules}
 use Rattle.fsoe_base.specs.declared.command.End.TheVariants as side
 use Rattle.plant_model.specs.declared.journal.JournalStep.TheVariants as step
 use Rattle.plant_model.proofs.Lines.{past_fits, room_after}
@@ -13,8 +11,7 @@ gifts_append (Pull gift ∷ xs) ys = ap (λ (ps : List Parcel). option_to_list g
 gifts_append (_ ∷ xs) ys = gifts_append xs ys
 
 empty_counted : (gift : Option Parcel) (m n : ℕ) → counted gift (m + n) ≡ counted gift m + n
-empty_counted None m n = omega arith
-empty_counted (Some parcel) m n = refl
+empty_counted gift m n = grind arith
 
 empty_append : (xs ys : List Use) → empty_pulls (xs ++ ys) ≡ empty_pulls xs + empty_pulls ys
 empty_append [] ys = omega arith
@@ -37,8 +34,7 @@ push_list k end [] = record { none = refl; empty = refl }
 push_list k end (frame ∷ frames) = let rest = push_list k end frames in record { none = rest.none; empty = rest.empty }
 
 push_if : (cut : Bool) (us : List Use) → NoPulls us → NoPulls (if cut then [] else us)
-push_if true us h = record { none = refl; empty = refl }
-push_if false us h = h
+push_if cut us h = grind arith
 
 pushes_none : (end : End) (k : ℕ) (links : List LinkConf) (cut : ℕ → Bool) (before now : List JournalStep) → NoPulls (pushes_of end k links cut before now)
 pushes_none end k [] cut before now = record { none = refl; empty = refl }
@@ -64,10 +60,7 @@ no_parcels : (b : Beginning) (act : Act) (done : List Act) → pulled_in (offers
 no_parcels b act done = offers_pulled (changed_by (cycle_of b act done) (masters b done).connections)
 
 act_gives : (seed : ℕ) (act : Act) (pushes : List Use) (more : List JournalStep) → NoPulls pushes → pulled_in more ≡ [] → gifts (uses_of seed act pushes) ≡ pulled_in (steps_of act more)
-act_gives seed (Happen (App a)) pushes more h i = h.none ∙ sym i
-act_gives seed (PullFrom (Some parcel)) pushes more h i =
-    ap (λ (ps : List Parcel). parcel ∷ ps) h.none ∙ sym (pulled_append more (step.Pulled parcel ∷ []) ∙ ap (λ (ps : List Parcel). ps ++ parcel ∷ []) i)
-act_gives seed _ pushes more h i = h.none ∙ sym i
+act_gives seed act pushes more h k = search (rules, pulled_append)
 
 pub given : (b : Beginning) (done : List Act) → gifts (uses b done) ≡ pulled_in (journal b done)
 given b [] = refl
@@ -89,8 +82,7 @@ nones [] = 0
 nones (act ∷ done) = nones done + none_of act
 
 act_empty : (seed : ℕ) (act : Act) (pushes : List Use) → NoPulls pushes → empty_pulls (uses_of seed act pushes) ≡ none_of act
-act_empty seed (PullFrom None) pushes h = ap suc h.empty
-act_empty seed _ pushes h = h.empty
+act_empty seed act pushes h = grind arith
 
 uses_empty : (b : Beginning) (done : List Act) → empty_pulls (uses b done) ≡ nones done
 uses_empty b [] = refl
@@ -101,8 +93,7 @@ uses_empty b (act ∷ done) =
     ∙ ap₂ (λ (m n : ℕ). m + n) (uses_empty b done) (act_empty b.seed act pushes (all_none b.links (λ k. is_cut k (act ∷ before)) (journal b before) (journal b (act ∷ before))))
 
 none_adds : (room n : ℕ) → one_if_left room n ≡ one_if_left room 0 + n
-none_adds zero n = omega arith
-none_adds (suc room) n = omega arith
+none_adds room n = grind arith
 
 -- the short ticks of a journal that goes on: what may still come after its first part is counted with the second
 short_joined : (room : ℕ) (xs ys : List JournalStep) → short_ticks room (xs ++ ys) + one_if_left (room_after room xs) 0 ≡ short_ticks room xs + short_ticks (room_after room xs) ys

@@ -1,16 +1,10 @@
 -- How the entries of a pair grow with the journal, and which frames are pushed then.
-use Rattle.plant_model.proofs.Common.{End, Entry, JournalStep, LinkConf, MasterSettings, Move, PlantEvent, SlaveSettings, Use, deeds, each_uses, end_of_event, entry_at, entry_on, frames_of, going_on, if_same, is_empty, move_from, newer, next_entry, next_of, own_events, own_part, pair, pairs_by, peer, place_of, push_to, pushes_of, same_end, script_part, sent_uses, setup_of, world, world_after}
-use Rattle.std.proofs.Common.{◌≡◌, ◌≢◌, ◌⊎◌, inl, inr, ◌<◌, ℕ, zero, suc, ◌+◌, ◌-◌, ◌==◌, Bool, true, false, List, [], ◌∷◌, ◌++◌, map, take, reverse, length, slice_get, Option, Some, if◌then◌else◌, refl, sym, ap, ap₂, subst, ◌∙◌, arith}
-use Rattle.std.proofs.lemmas.Grind.{flat_map-append}
-use Rattle.std.proofs.lemmas.List.{append-nil}
-use Rattle.std.proofs.lemmas.Bool.{eq-eqb}
+use Rattle.plant_model.proofs.Common.{End, Entry, JournalStep, LinkConf, MasterSettings, Move, SlaveSettings, Use, append-nil, deeds, each_uses, end_of_event, entry_at, entry_on, eq-eqb, flat_map-append, frames_of, going_on, if_same, is_empty, move_from, newer, next_entry, next_of, own_events, own_part, pair, pairs_by, peer, place_of, push_to, pushes_of, same_end, sent_uses, setup_of, world_after}
+use Rattle.std.proofs.Common.{◌≡◌, ◌≢◌, ◌<◌, ℕ, zero, suc, ◌+◌, ◌-◌, ◌==◌, Bool, false, List, [], ◌∷◌, ◌++◌, map, slice_get, Option, Some, if◌then◌else◌, refl, sym, ap, ap₂, subst, ◌∙◌, arith, rules}
 use Rattle.std.proofs.lemmas.Bool.Decides.{eqb_tells}
-use Rattle.fsoe_base.specs.declared.command.End.TheVariants as side
 use Rattle.param_load.specs.declared.entry.Move.TheVariants as move
 use Rattle.schedule_file.specs.declared.event.Event.{Event}
 use Rattle.schedule_file.specs.declared.event.Event.TheVariants as at
-use Rattle.plant_model.specs.declared.event.PlantEvent.TheVariants as event
-use Rattle.plant_model.specs.declared.journal.JournalStep.TheVariants as journal_step
 
 -- an event names no frame
 abbrev pub IsPlain : Event → Type 0
@@ -22,38 +16,19 @@ abbrev pub ArePlain : List Event → Type 0
 ArePlain [] = Unit {0}
 ArePlain (e ∷ events) = IsPlain e × ArePlain events
 
-plain_if : (b : Bool) (e : Event) → IsPlain e → ArePlain (if b then e ∷ [] else [])
-plain_if true e h = (h, tt)
-plain_if false e h = tt
-
 plain_append : (xs ys : List Event) → ArePlain xs → ArePlain ys → ArePlain (xs ++ ys)
 plain_append [] ys h i = i
 plain_append (e ∷ xs) ys h i = (h.0, plain_append xs ys h.1 i)
 
-script_plain : (k : ℕ) (e : PlantEvent) → ArePlain (script_part k e)
-script_plain k event.Tick = (tt, (tt, tt))
-script_plain k (event.Put link load) = plain_if (link == k) (at.Put side.Slave load) tt
-script_plain k (event.Hold link failsafe) = plain_if (link == k) (at.Hold side.Slave failsafe) tt
-script_plain k (event.Local link) = plain_if (link == k) (at.Local side.Slave) tt
-script_plain k (event.Nonce link end id) = plain_if (link == k) (at.Nonce end id) tt
-script_plain k (event.Cut link cut) = tt
-
 step_plain : (k : ℕ) (s : JournalStep) → ArePlain (own_part k s)
-step_plain k (journal_step.Script e) = script_plain k e
-step_plain k journal_step.App = tt
-step_plain k (journal_step.Offer link load) = plain_if (link == k) (at.Put side.Master load) tt
-step_plain k (journal_step.Pulled parcel) = plain_if (parcel.to.link == k) (at.Raw parcel.to.end parcel.frame) tt
+step_plain k s = grind arith
 
 pub events_plain : (k : ℕ) (steps : List JournalStep) → ArePlain (own_events k steps)
 events_plain k [] = tt
 events_plain k (s ∷ steps) = plain_append (own_part k s) (own_events k steps) (step_plain k s) (events_plain k steps)
 
-not_same_by : (n k : ℕ) → n ≢ k → (((n == k) ≡ true) × (n ≡ k)) ⊎ (((n == k) ≡ false) × (n ≢ k)) → (n == k) ≡ false
-not_same_by n k h (inl i) = absurd (h i.1)
-not_same_by n k h (inr i) = i.0
-
 pub not_same : (n k : ℕ) → n ≢ k → (n == k) ≡ false
-not_same n k h = not_same_by n k h (eqb_tells n k)
+not_same n k h = search (rules, eqb_tells)
 
 -- an event that names no frame, at an end
 abbrev pub event_for : End → Move → Event
@@ -63,10 +38,6 @@ event_for end (move.Put load) = at.Put end load
 event_for end (move.Hold failsafe) = at.Hold end failsafe
 event_for end (move.Nonce id) = at.Nonce end id
 event_for end move.Local = at.Local end
-
-pub event_world : (link : LinkConf) (end : End) (what : Move) (w : List Entry) → world_after link.master link.slave (event_for end what ∷ []) w ≡ next_of end what link w ∷ w
-event_world link end (move.Deliver bytes) w = refl
-event_world link end _ w = refl
 
 -- what such an event is to its end
 plain_move : (e : Event) → IsPlain e → (m : Move) × ((frames : List (List ℕ)) → move_from frames e ≡ Some m)
@@ -89,8 +60,7 @@ world_append ms ss (e ∷ xs) ys w h =
 
 -- the entries of a pair by a longer journal
 pub pair_more : (link : LinkConf) (k : ℕ) (before more : List JournalStep) → pair link k (before ++ more) ≡ world_after link.master link.slave (own_events k more) (pair link k before)
-pair_more link k before more =
-    ap (world link.master link.slave) (flat_map-append (own_part k) before more) ∙ world_append link.master link.slave (own_events k before) (own_events k more) [] (events_plain k before)
+pair_more link k before more = search (rules, flat_map-append, world_append, events_plain)
 
 -- one more entry of an end of connection n
 abbrev pub one_more : ℕ → End → Move → (ℕ → LinkConf → List Entry) → ℕ → LinkConf → List Entry
@@ -102,8 +72,7 @@ pub record IsOne (s : JournalStep) (n : ℕ) (end : End) (what : Move) : Type 0 
 
 one_world : (link : LinkConf) (end : End) (what : Move) (w : List Entry) (b : Bool)
     → world_after link.master link.slave ((if b then event_for end what ∷ [] else []) ++ []) w ≡ (if b then next_of end what link w ∷ w else w)
-one_world link end what w true = event_world link end what w
-one_world link end what w false = refl
+one_world link end what w b = grind arith
 
 pub pair_one : (link : LinkConf) (k : ℕ) (before : List JournalStep) (s : JournalStep) (n : ℕ) (end : End) (what : Move) → IsOne s n end what
     → pair link k (before ++ s ∷ []) ≡ one_more n end what (pairs_by before) k link
@@ -131,24 +100,12 @@ with_frame frame frames = if is_empty frame then frames else frame ∷ frames
 abbrev pub sent_in : End → End → Entry → List ℕ
 sent_in end of x = if same_end end of then x.sent else []
 
-pub frames_next : (end of : End) (what : Move) (link : LinkConf) (w : List Entry) → frames_of end (next_of of what link w ∷ w) ≡ with_frame (sent_in end of (next_of of what link w)) (frames_of end w)
-frames_next side.Master side.Slave what link w = refl
-frames_next side.Slave side.Master what link w = refl
-frames_next _ _ what link w = refl
-
 -- the frames that are new
 new_frame : (frame : List ℕ) (frames : List (List ℕ)) → newer frames (with_frame frame frames) ≡ (if is_empty frame then [] else frame ∷ [])
-new_frame [] frames =
-    let none : length frames - length frames ≡ 0 = omega arith in
-    ap (λ (n : ℕ). reverse (take n frames)) none
-new_frame (x ∷ frame) frames =
-    let one : suc (length frames) - length frames ≡ 1 = omega arith in
-    ap (λ (n : ℕ). reverse (take n ((x ∷ frame) ∷ frames))) one
+new_frame frame frames = grind arith
 
 one_push : (k : ℕ) (end : End) (frame : List ℕ) (cut : Bool) → (if cut then [] else map (push_to k end) (if is_empty frame then [] else frame ∷ [])) ≡ sent_uses (place_of k end) frame cut
-one_push k end [] true = refl
-one_push k end (x ∷ frame) true = refl
-one_push k end _ _ = refl
+one_push k end frame cut = grind arith
 
 -- the frames of each connection, one at most, are pushed
 pub pushes_each : (end : End) (k : ℕ) (links : List LinkConf) (cut : ℕ → Bool) (before now : List JournalStep) (frame : ℕ → LinkConf → List ℕ)

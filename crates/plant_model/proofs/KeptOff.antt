@@ -1,11 +1,10 @@
 -- The bits of a bound at the master of many connections and in the pairs: what the application reads is what the master
 -- of a pair has, and what it answers is what that master offers. Acts and entries are listed newest first.
-use Rattle.plant_model.proofs.Common.{Act, Answer, Beginning, Bit, Call, Connection, Deliver, End, Entry, FailSafe, IsWorld, LinkConf, MasterSettings, Meant, Move, Nonce, OfMaster, SameLengths, Setup, SlaveSettings, after, bit_at, bit_of, call_of, calls, cycle_in, cycle_of, deed_in, deeds, event_at, event_keeps, held, held_after, inputs_after, is_held, journal, last_put, link_at, masters, meant, next_offered, of_end, offer, offer_after, offer_at, offered_put, offers_after, offers_bit, out, outputs_at, outputs_due, pair, put_after, received_len, same_end, sends, settings, setup_of, with_cycle}
-use Rattle.std.proofs.Common.{◌≡◌, ℕ, zero, suc, Bool, true, false, ◌&&◌, not, List, [], ◌∷◌, ◌++◌, map, get_or, replicate, slice_get, Option, Some, None, if◌then◌else◌, refl, sym, ap, ap₂, ◌∙◌}
-use Rattle.std.specs.Prelude.{option_and_then, option_to_list}
+use Rattle.plant_model.proofs.Common.{Act, Beginning, Bit, Call, Connection, End, Entry, FailSafe, IsWorld, LinkConf, MasterSettings, OfMaster, SameLengths, Setup, SlaveSettings, bit_at, bit_of, call_of, calls, cycle_in, cycle_of, deed_in, deeds, event_keeps, inputs_after, is_held, journal, last_put, link_at, masters, meant, next_offered, of_end, offer_at, offered_put, offers_after, offers_bit, option_and_then, option_to_list, out, outputs_at, outputs_due, pair, received_len, same_end, sends, settings, setup_of}
+use Rattle.end_model.specs.Readiness.{held, offer}
+use Rattle.std.proofs.Common.{◌≡◌, ℕ, zero, suc, Bool, false, ◌&&◌, not, List, [], ◌∷◌, ◌++◌, map, get_or, replicate, slice_get, Option, Some, None, if◌then◌else◌, refl, sym, ap, ap₂, ◌∙◌, arith, rules}
 use Rattle.fsoe_base.specs.declared.command.End.TheVariants as side
 use Rattle.fb_net.proofs.Bits.{zero_bit}
-use Rattle.param_load.specs.declared.entry.Move.TheVariants as move
 use Rattle.exchange_model.proofs.Fairness.Shown.{due_is_out, receives_is}
 use Rattle.exchange_model.proofs.Worlds.Projection.{told, deeds_are_run}
 use Rattle.plant_model.proofs.Masters.{master_with, mastered}
@@ -13,8 +12,7 @@ use Rattle.plant_model.proofs.Masters.{master_with, mastered}
 -- whether an end is held, and what it put last, by its entries and by its deeds
 held_if : (which : End) (x : Entry) (w : List Entry) (mine : Bool) → is_held (of_end which w) ≡ held (deeds which w)
     → is_held (if mine then x ∷ of_end which w else of_end which w) ≡ held (if mine then deed_in x ∷ deeds which w else deeds which w)
-held_if which x w true h = ap (held_after x.what) h
-held_if which x w false h = h
+held_if which x w mine h = grind arith
 
 held_is : (which : End) (w : List Entry) → is_held (of_end which w) ≡ held (deeds which w)
 held_is which [] = refl
@@ -25,14 +23,9 @@ abbrev put_or : Setup → Option (List ℕ) → List ℕ
 put_or s None = replicate (sends s) 0
 put_or s (Some load) = load
 
-after_is : (s : Setup) (m : Move) (before : List ℕ) (o : Option (List ℕ)) → before ≡ put_or s o → offer_after m before ≡ put_or s (put_after m o)
-after_is s (move.Put load) before o h = refl
-after_is s _ before o h = h
-
 offer_if : (s : Setup) (which : End) (x : Entry) (w : List Entry) (mine : Bool) → offer s (deeds which w) ≡ put_or s (last_put (of_end which w))
     → offer s (if mine then deed_in x ∷ deeds which w else deeds which w) ≡ put_or s (last_put (if mine then x ∷ of_end which w else of_end which w))
-offer_if s which x w true h = after_is s x.what (offer s (deeds which w)) (last_put (of_end which w)) h
-offer_if s which x w false h = h
+offer_if s which x w mine h = grind arith
 
 offer_is : (s : Setup) (which : End) (w : List Entry) → offer s (deeds which w) ≡ put_or s (last_put (of_end which w))
 offer_is s which [] = refl
@@ -44,13 +37,10 @@ bit_by s bit _ _ = refl
 
 -- whether an end offers a bit as 1, by its deeds
 pub offers_is : (s : Setup) (which : End) (bit : ℕ) (w : List Entry) → offers_bit bit (next_offered (of_end which w)) ≡ (not (held (deeds which w)) && bit_of (offer s (deeds which w)) bit)
-offers_is s which bit w =
-    bit_by s bit (is_held (of_end which w)) (last_put (of_end which w))
-    ∙ ap₂ (λ (now : Bool) (load : List ℕ). not now && bit_of load bit) (held_is which w) (sym (offer_is s which w))
+offers_is s which bit w = search (rules, bit_by, held_is, offer_is)
 
 pub and_false : (b : Bool) → (b && false) ≡ false
-and_false true = refl
-and_false false = refl
+and_false b = grind arith
 
 -- what has the place of a connection in a list of what all have
 mapped_at : (f : Connection → List ℕ) (cs : List Connection) (place : ℕ) (c : Connection) → slice_get cs place ≡ Some c → get_or (map f cs) place [] ≡ f c
@@ -87,18 +77,9 @@ offered_zero b bit acts link e is_off =
     ∙ ap (λ (z : Bool). not (held (deeds side.Master w)) && z) (sym (bit_in offer_at b bit.bit acts bit.link link e) ∙ is_off)
     ∙ and_false (not (held (deeds side.Master w)))
 
--- a call that runs no cycle changes no offer
-call_keeps : (m : Meant) (call : Call) → cycle_in call m ≡ None → map offer_at (after call m).connections ≡ map offer_at m.connections
-call_keeps m (Deliver link bytes) e =
-    ap (λ (o : Option Answer). map offer_at (event_at link (move.Deliver bytes) (with_cycle o m)).connections) e
-    ∙ event_keeps offer_at link (move.Deliver bytes) m.connections (λ c. refl)
-call_keeps m (Nonce link id) e = event_keeps offer_at link (move.Nonce id) m.connections (λ c. refl)
-call_keeps m _ e = absurd (cc e)
-
 keeps_by : (b : Beginning) (o : Option Call) (before : List Call) → option_and_then (λ call. cycle_in call (meant (settings b) b.app before)) o ≡ None
     → map offer_at (meant (settings b) b.app (option_to_list o ++ before)).connections ≡ map offer_at (meant (settings b) b.app before).connections
-keeps_by b None before e = refl
-keeps_by b (Some call) before e = call_keeps (meant (settings b) b.app before) call e
+keeps_by b o before h = search (rules, event_keeps)
 
 -- nor does an act that runs none
 pub act_keeps : (b : Beginning) (act : Act) (acts : List Act) → cycle_of b act acts ≡ None → offers_after b (act ∷ acts) ≡ offers_after b acts

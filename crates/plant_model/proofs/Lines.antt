@@ -1,7 +1,6 @@
 -- Where the lines of the script and the pulls stand in a journal.
-use Rattle.plant_model.proofs.Common.{Act, App, Beginning, Event, Happen, IsPast, JournalStep, Parcel, PullFrom, PullsFit, Said, Start, changed_by, cycle_of, is_tick, is_tick_event, journal, line_step, line_steps, masters, offer_step, offers, pulls_after, said_in, steps_of, with_line}
+use Rattle.plant_model.proofs.Common.{Act, App, Beginning, Event, Happen, IsPast, JournalStep, Parcel, PullFrom, PullsFit, Said, Start, append-nil, changed_by, cycle_of, is_tick, is_tick_event, journal, line_step, line_steps, map-append, masters, offer_step, offers, pulls_after, said_in, steps_of, with_line}
 use Rattle.std.proofs.Common.{◌≡◌, ◌<◌, ℕ, suc, ◌-◌, List, [], ◌∷◌, ◌++◌, map, Option, Some, None, refl, sym, ap, ap₂, subst, ◌∙◌, arith}
-use Rattle.std.proofs.lemmas.List.{append-nil, map-append}
 use Rattle.plant_model.specs.declared.journal.JournalStep.TheVariants as step
 
 -- how many parcels may still come after these steps
@@ -98,8 +97,7 @@ pub no_lines_pulled : (b : Beginning) (parcel : Parcel) (done : List Act) → li
 no_lines_pulled b parcel done = no_more (offers b (PullFrom (Some parcel)) done) (step.Pulled parcel ∷ []) refl ∙ no_lines_by b (PullFrom (Some parcel)) done
 
 one_line : (said : Said) (more : List JournalStep) → line_steps more ≡ [] → line_steps (line_step said ∷ more) ≡ line_step said ∷ []
-one_line (Event e) more none = ap (λ (z : List JournalStep). step.Script e ∷ z) none
-one_line (App a) more none = ap (λ (z : List JournalStep). step.App ∷ z) none
+one_line said more h = grind arith
 
 pub lines_are_said : (b : Beginning) (done : List Act) → line_steps (journal b done) ≡ map line_step (said_in done)
 lines_are_said b [] = refl

@@ -1,9 +1,6 @@
 -- The masters of a plant did what their pairs in the journal say: connection by connection both have the same deeds.
-use Rattle.plant_model.proofs.Common.{Act, Answer, App, AppView, Beginning, Call, Connection, End, Entry, Happen, JournalStep, LinkConf, MastersAgree, Move, PullFrom, SaysEvent, Start, calls, changed_by, changed_from, connection, cycle_in, cycle_of, deeds, delivery_call, event_on, fresh, is_offer, journal, link_at, masters, meant, next_of, offer_step, own_events, own_part, pair, settings, with_cycle, with_event, with_offers, world_after}
-use Rattle.std.proofs.Common.{◌≡◌, ℕ, zero, suc, ◌+◌, ◌<◌, ◌==◌, List, [], ◌∷◌, ◌++◌, map, slice_get, Option, Some, None, IfSome, Bool, true, false, if◌then◌else◌, refl, sym, ap, ap₂, subst, ◌∙◌, append_assoc, arith}
-use Rattle.std.specs.Prelude.{IsSomeAnd, option_and_then, option_map, option_to_list}
-use Rattle.std.proofs.lemmas.Bool.{eq-eqb}
-use Rattle.std.proofs.lemmas.List.{append-nil}
+use Rattle.plant_model.proofs.Common.{Act, Answer, App, AppView, Beginning, Call, Connection, End, Entry, Happen, IsSomeAnd, JournalStep, LinkConf, MastersAgree, Move, PullFrom, SaysEvent, Start, append-nil, calls, changed_by, changed_from, connection, cycle_in, cycle_of, deeds, delivery_call, eq-eqb, event_on, fresh, is_offer, journal, link_at, masters, meant, next_of, offer_step, option_and_then, option_map, option_to_list, own_events, own_part, pair, settings, with_cycle, with_event, with_offers, world_after}
+use Rattle.std.proofs.Common.{◌≡◌, ℕ, zero, suc, ◌+◌, ◌<◌, ◌==◌, List, [], ◌∷◌, ◌++◌, map, slice_get, Option, Some, None, IfSome, Bool, true, false, if◌then◌else◌, refl, sym, ap, ap₂, subst, ◌∙◌, append_assoc, arith, rules}
 use Rattle.fsoe_base.specs.declared.command.End.TheVariants as side
 use Rattle.param_load.specs.declared.entry.Move.TheVariants as move
 use Rattle.schedule_file.specs.declared.event.Event.{Event}
@@ -29,8 +26,7 @@ same_from k [] js ks h = refl
 same_from k (link ∷ links) js ks h = ap₂ (λ e (cs : List Connection). record { settings = link.master; deeds = e } ∷ cs) (h k link) (same_from (suc k) links js ks h)
 
 slave_keeps : (link : LinkConf) (what : Move) (w : List Entry) (b : Bool) → deeds side.Master (if b then next_of side.Slave what link w ∷ w else w) ≡ deeds side.Master w
-slave_keeps link what w true = refl
-slave_keeps link what w false = refl
+slave_keeps link what w b = grind arith
 
 -- a step at a slave, and one that means nothing for any end
 slave_from : (links : List LinkConf) (js : List JournalStep) (s : JournalStep) (n : ℕ) (what : Move) → IsOne s n side.Slave what → masters_from 1 links (js ++ s ∷ []) ≡ masters_from 1 links js
@@ -69,9 +65,7 @@ master_from (suc place) links js s what h = place_from 1 (suc place) place links
 -- offers of later connections are none of connection k, and that of an earlier one is none of the later
 none_if : (k n : ℕ) (load : List ℕ) (rest : List (ℕ × List ℕ)) (same : Bool) → k < n → own_events k (map offer_step rest) ≡ []
     → own_events k (map offer_step (if same then rest else (n, load) ∷ rest)) ≡ []
-none_if k n load rest true h e = e
-none_if k n load rest false h e =
-    ap₂ (λ (b : Bool) (es : List Event). (if b then at.Put side.Master load ∷ [] else []) ++ es) (not_same n k (λ z. absurd (omega arith))) e
+none_if k n load rest same h l = grind arith
 
 none_of : (k n : ℕ) (cs : List Connection) (loads : List (List ℕ)) → k < n → own_events k (map offer_step (changed_from n cs loads)) ≡ []
 none_of k n (c ∷ cs) (load ∷ loads) h = none_if k n load (changed_from (suc n) cs loads) (is_offer load c) h (none_of k (suc n) cs loads (omega arith))
@@ -112,10 +106,7 @@ puts_from k (link ∷ links) js (load ∷ loads) =
 -- the offers of a cycle, if there was one
 cycle_from : (links : List LinkConf) (js : List JournalStep) (cs : List Connection) (app : AppView) (o : Option Answer) → cs ≡ masters_from 1 links js
     → (with_cycle o (record { connections = cs; app = app })).connections ≡ masters_from 1 links (js ++ map offer_step (changed_by o cs))
-cycle_from links js cs app None e = e ∙ ap (masters_from 1 links) (sym (append-nil js))
-cycle_from links js cs app (Some a) e =
-    ap (with_offers a.outputs) e ∙ sym (puts_from 1 links js a.outputs)
-    ∙ ap (λ (ds : List Connection). masters_from 1 links (js ++ map offer_step (changed_from 1 ds a.outputs))) (sym e)
+cycle_from links js cs app o h = search (rules, puts_from)
 
 -- a line of the script, and then the offers of its cycle
 line_from : (links : List LinkConf) (js : List JournalStep) (s : JournalStep) (cs : List Connection) (app : AppView) (o : Option Answer) → cs ≡ masters_from 1 links (js ++ s ∷ [])
@@ -132,8 +123,7 @@ there k (suc place) (link ∷ links) js =
 
 there_at : (links : List LinkConf) (js : List JournalStep) (place : ℕ) (o : Option LinkConf) → slice_get links place ≡ o
     → slice_get (masters_from 1 links js) place ≡ option_map (λ link. master_with link (pair link (suc place) js)) o
-there_at links js place o e =
-    there 1 place links js ∙ (let number : 1 + place ≡ suc place = omega arith in ap₂ (λ (j : ℕ) (o : Option LinkConf). option_map (λ l. master_with l (pair l j js)) o) number e)
+there_at links js place o h = search (rules, there)
 
 -- an event of a connection that there isn't
 no_event : (place : ℕ) (what : Move) (cs : List Connection) → slice_get cs place ≡ None → event_on (suc place) what cs ≡ cs
@@ -142,8 +132,7 @@ no_event zero what (c ∷ cs) e = absurd (cc e)
 no_event (suc place) what (c ∷ cs) e = ap (λ (ds : List Connection). c ∷ ds) (no_event place what cs e)
 
 absent : (links : List LinkConf) (js : List JournalStep) (n : ℕ) (what : Move) → link_at links n ≡ None → event_on n what (masters_from 1 links js) ≡ masters_from 1 links js
-absent links js zero what e = none_on what (masters_from 1 links js)
-absent links js (suc place) what e = no_event place what (masters_from 1 links js) (there_at links js place None e)
+absent links js n what h = search (rules, none_on, no_event, there_at)
 
 -- the offers that an act changed which makes this call, or none
 abbrev pub offers_by : Beginning → Option Call → List Act → List JournalStep

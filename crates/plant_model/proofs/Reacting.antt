@@ -1,16 +1,10 @@
 -- Why a drive is off in time. The master of the e-stop has its bit as 0 from some tick on; each cycle from that tick's
 -- on answers the drive's bit as 0, so that its master offers it so; and its slave has it as 0 some ticks later. Acts
 -- and entries are listed newest first, steps oldest first.
-use Rattle.plant_model.proofs.Common.{Act, Answer, Beginning, BoundSpec, End, Entry, Event, Happen, HasLinks, IsWorld, JournalStep, LinkConf, NoOther, Reacts, SameLengths, StaysOff, Unset, WasOffered, bit_at, bit_of, cycle_of, deeds, inputs_after, is_off, is_on, is_tick, journal, link_at, next_offered, of_end, offers, offers_after, offers_bit, older_clean, older_world, out, outputs_due, pair, peer, received_len, setup_of, slave_offers, steps_of, ticks, ticks_of}
-use Rattle.std.proofs.Common.{◌≡◌, ◌≤◌, ◌<◌, ◌⊎◌, inl, inr, ℕ, zero, suc, ◌+◌, ◌-◌, ◌*◌, Bool, true, false, not, List, [], ◌∷◌, ◌++◌, Option, Some, None, refl, sym, ap, ap₂, subst, ◌∙◌, append_assoc, arith}
-use Rattle.std.specs.Prelude.{IfSome, IsTrue, cond, is_some}
-use Rattle.std.specs.Option.{option_map_or}
-use Rattle.std.proofs.lemmas.Bool.{cases_lt}
-use Rattle.std.proofs.lemmas.List.{append-nil}
-use Rattle.std.proofs.lemmas.List.Sums.{sum_by-append}
+use Rattle.plant_model.proofs.Common.{Act, Answer, Beginning, BoundSpec, End, Entry, HasLinks, IfSome, IsTrue, IsWorld, JournalStep, LinkConf, NoOther, Reacts, SameLengths, StaysOff, WasOffered, append-nil, bit_at, bit_of, cases_lt, cond, cycle_of, deeds, inputs_after, is_off, is_on, is_tick, journal, link_at, of_end, offers, offers_after, older_clean, older_world, out, outputs_due, pair, peer, received_len, setup_of, steps_of, sum_by-append, ticks, ticks_of}
+use Rattle.std.proofs.Common.{◌≡◌, ◌≤◌, ◌<◌, ◌⊎◌, inl, inr, ℕ, zero, suc, ◌+◌, ◌-◌, ◌*◌, Bool, false, List, [], ◌∷◌, ◌++◌, Option, Some, None, refl, sym, ap, ap₂, subst, ◌∙◌, append_assoc, arith}
 use Rattle.fsoe_base.specs.declared.command.End.TheVariants as side
 use Rattle.exchange_model.proofs.Offering.Offered.{was_offered}
-use Rattle.plant_model.proofs.Cycled.{cycles}
 use Rattle.plant_model.proofs.FairPlant.{AreWorlds}
 use Rattle.plant_model.proofs.KeptOff.{out_due, input_is, offered_zero, act_keeps}
 use Rattle.plant_model.proofs.Sends.{OffersZero, delivered_zero, ticks_since}
@@ -39,11 +33,7 @@ clean_before link k before more c =
 -- an end whose peer offered a bit as 0 for that long has it as 0
 off_by : (link : LinkConf) (which : End) (bit n : ℕ) (w : List Entry) (on : Bool) → (IsTrue on → WasOffered which bit (2 * link.master.watchdog - 2) w) → (WasOffered which bit (2 * link.master.watchdog - 2) w → n ≤ 2 * link.master.watchdog - 2)
     → 2 * link.master.watchdog ≤ n + 1 → on ≡ false
-off_by link which bit n w true law few many =
-    let some : 0 < link.master.watchdog = link.master.some_watchdog in
-    let most = few (law refl) in
-    absurd (omega arith)
-off_by link which bit n w false law few many = refl
+off_by link which bit n w on h k l = grind arith
 
 off_since : (which : End) (bit : ℕ) (link : LinkConf) (k : ℕ) (before after : List JournalStep) → Grown (OffersZero (peer which) bit) (peer which) link k before after → Clean link k after
     → ticks before + 2 * link.master.watchdog ≤ ticks after + 1 → bit_of (out (setup_of link.master link.slave which) (deeds which (pair link k after))) bit ≡ false
@@ -56,16 +46,9 @@ off_since which bit link k before after g c many =
     (λ was. ticks_since which bit (2 * link.master.watchdog - 2) g.new (pair link k before) g.sent (subst (WasOffered which bit (2 * link.master.watchdog - 2)) g.is was))
     (omega arith)
 
--- the slave of the e-stop offers its bit as 0 where that is off
-not_true : (b : Bool) → not b ≡ true → b ≡ false
-not_true true h = sym h
-not_true false h = refl
-
 zero_offered : (b : Beginning) (bound : BoundSpec) (estop : LinkConf) (done : List Act) → link_at b.links bound.estop.link ≡ Some estop → IsTrue (is_off b bound.estop done)
     → OffersZero side.Slave bound.estop.bit (pair estop bound.estop.link (journal b done))
-zero_offered b bound estop done e off =
-    sym (ap (λ (o : Option LinkConf). offers_bit bound.estop.bit (option_map_or (λ link. next_offered (of_end side.Slave (pair link bound.estop.link (journal b done)))) o Unset)) e)
-    ∙ not_true (offers_bit bound.estop.bit (slave_offers b bound.estop.link done)) off
+zero_offered b bound estop done h k = grind arith
 
 quiet_offers : (b : Beginning) (bound : BoundSpec) (estop : LinkConf) (later earlier : List Act) → link_at b.links bound.estop.link ≡ Some estop → StaysOff b bound later earlier
     → HoldsAfter (λ done. OffersZero side.Slave bound.estop.bit (pair estop bound.estop.link (journal b done))) later earlier
@@ -84,13 +67,11 @@ input_off b bound estop later earlier e q c many =
 
 -- a tick runs a cycle
 no_cycle_no_tick : (b : Beginning) (act : Act) (done : List Act) → cycle_of b act done ≡ None → is_tick_act act ≡ false
-no_cycle_no_tick b (Happen (Event event)) done e = sym (cycles b (Happen (Event event)) done) ∙ ap is_some e
-no_cycle_no_tick b _ done e = refl
+no_cycle_no_tick b act done h = grind arith
 
 -- by whether a cycle was run
 by_cycle : (X Y : Type 0) (was o : Option Answer) → was ≡ o → IfSome was (λ a. X → Y) → X → (was ≡ None → Y) → Y
-by_cycle X Y was None e some x none = none e
-by_cycle X Y was (Some a) e some x none = subst (λ (o : Option Answer). IfSome o (λ a. X → Y)) e some x
+by_cycle X Y was o h k l m = grind arith
 
 -- the master of the drive offers its bit as 0 from then on
 offer_off : (b : Beginning) (bound : BoundSpec) (estop : LinkConf) (later earlier : List Act) → link_at b.links bound.estop.link ≡ Some estop → StaysOff b bound later earlier

@@ -1,11 +1,7 @@
 -- What an end sent and when: data frames are sent as answers alone, and one that offered a bit as 1 came before all
 -- that were sent while it offered that bit as 0. Entries are listed newest first.
-use Rattle.plant_model.proofs.Common.{Deed, End, Entry, LinkConf, Move, OfMaster, Setup, WasOffered, deed_of, is_data_frame, next_of, next_offered, nothing, of_end, offers_bit, on_expiry, peer, reaches_limit, same_end, state_of, step, ticked, ticked_most, ticks_of}
-use Rattle.std.proofs.Common.{◌≡◌, ◌≤◌, ℕ, Bool, true, false, List, [], ◌∷◌, ◌++◌, if◌then◌else◌, refl, sym, ap, subst, ◌∙◌, append_assoc, arith}
-use Rattle.std.specs.Prelude.{IsTrue}
-use Rattle.fsoe_base.specs.declared.command.End.TheVariants as side
-use Rattle.fsoe_base.specs.declared.command.State.{State}
-use Rattle.fsoe_base.specs.declared.command.State.TheVariants as state
+use Rattle.plant_model.proofs.Common.{Deed, End, Entry, IsTrue, LinkConf, Move, Setup, WasOffered, is_data_frame, next_of, next_offered, of_end, offers_bit, peer, same_end, step, ticked, ticks_of}
+use Rattle.std.proofs.Common.{◌≡◌, ◌≤◌, ℕ, Bool, true, false, List, [], ◌∷◌, ◌++◌, if◌then◌else◌, sym, ap, subst, ◌∙◌, append_assoc, arith, rules}
 use Rattle.param_load.specs.declared.entry.Move.TheVariants as move
 
 -- no frame comes in an event
@@ -13,19 +9,9 @@ abbrev pub BringsNone : Move → Type 0
 BringsNone (move.Deliver bytes) = ⊥
 BringsNone _ = Unit {0}
 
-expiry_data : (now : State) (s : Setup) (e : List Deed) → is_data_frame (deed_of s e move.Tick (on_expiry now s)).sent ≡ false
-expiry_data state.Reset (OfMaster ms) e = refl
-expiry_data _ s e = refl
-
-tick_data : (s : Setup) (e : List Deed) (b : Bool) → is_data_frame (deed_of s e move.Tick (if b then on_expiry (state_of s e) s else nothing)).sent ≡ false
-tick_data s e true = expiry_data (state_of s e) s e
-tick_data s e false = refl
-
 -- where no frame comes no data frame is sent
 pub no_data : (s : Setup) (e : List Deed) (what : Move) → BringsNone what → is_data_frame (step s e what).sent ≡ false
-no_data s e (move.Deliver bytes) h = absurd h
-no_data s e move.Tick h = tick_data s e (reaches_limit s e)
-no_data s e _ h = refl
+no_data s e what h = grind arith
 
 -- where an end sent a data frame in these entries, after the old ones, this held of those before
 abbrev pub SentWhile : (List Entry → Type 0) → End → List Entry → List Entry → Type 0
@@ -43,15 +29,11 @@ OffersZero which bit w = offers_bit bit (next_offered (of_end which w)) ≡ fals
 
 -- a frame that comes changes no offer
 pub delivered_zero : (which : End) (bit : ℕ) (end : End) (bytes : List ℕ) (link : LinkConf) (w : List Entry) → OffersZero which bit (next_of end (move.Deliver bytes) link w ∷ w) → OffersZero which bit w
-delivered_zero side.Master bit side.Slave bytes link w h = h
-delivered_zero side.Slave bit side.Master bytes link w h = h
-delivered_zero _ bit _ bytes link w h = h
+delivered_zero which bit end bytes link w h = grind arith
 
 -- ticks of an end in entries that are the same
 most_if : (m n : Move) (one other : Bool) (a b : ℕ) → m ≡ n → one ≡ other → a ≤ b → (if one then ticked m a else a) ≤ (if other then ticked n b else b)
-most_if m n true true a b i j h = subst (λ (z : Move). ticked m a ≤ ticked z b) i (ticked_most m a b h)
-most_if m n false false a b i j h = h
-most_if m n _ _ a b i j h = absurd (cc j)
+most_if m n one other a b h k l = grind arith
 
 -- a data frame that offered the bit as 1 was sent before those that were sent while it was offered as 0
 sent_before : (which : End) (bit : ℕ) (new old later before : List Entry) (x : Entry) → SentWhile (OffersZero (peer which) bit) (peer which) new old → new ++ old ≡ later ++ (x ∷ before)
@@ -72,7 +54,4 @@ sent_before which bit (y ∷ new) old (z ∷ later) before x h e is sends on =
 
 -- so the ticks since are as few
 pub ticks_since : (which : End) (bit most : ℕ) (new old : List Entry) → SentWhile (OffersZero (peer which) bit) (peer which) new old → WasOffered which bit most (new ++ old) → ticks_of which new ≤ most
-ticks_since which bit most new old h o =
-    let few = sent_before which bit new old o.later o.before o.sending h o.parts_are o.by_peer o.sent_data o.offered in
-    let last = o.lately in
-    omega arith
+ticks_since which bit most new old h k = search (rules, sent_before)

@@ -1,10 +1,7 @@
 -- How the entries of a pair grow with the acts of a plant: the ticks that came, and what an end offered where it sent
 -- data. Acts and entries are listed newest first, steps oldest first.
-use Rattle.plant_model.proofs.Common.{Act, App, Beginning, End, Entry, Event, Happen, JournalStep, LinkConf, Move, Parcel, PlantEvent, PullFrom, Start, changed_by, cycle_of, deeds, is_data_frame, is_tick, journal, line_step, masters, next_of, offer_step, offers, pair, same_end, setup_of, steps_of, ticked, ticks, ticks_joined, ticks_of}
-use Rattle.std.proofs.Common.{◌≡◌, ◌≤◌, ℕ, ◌+◌, ◌==◌, Bool, true, false, List, [], ◌∷◌, ◌++◌, map, Some, None, if◌then◌else◌, refl, sym, ap, subst, ◌∙◌, append_assoc, arith}
-use Rattle.std.proofs.lemmas.List.{append-nil}
-use Rattle.std.proofs.lemmas.List.Sums.{sum_by-append}
-use Rattle.std.specs.Prelude.{IsTrue, cond}
+use Rattle.plant_model.proofs.Common.{Act, App, Beginning, End, Entry, Event, Happen, IsTrue, JournalStep, LinkConf, Move, Parcel, PlantEvent, PullFrom, Start, append-nil, changed_by, common_steps, cond, cycle_of, is_data_frame, is_tick, journal, line_step, masters, next_of, offer_step, offers, pair, same_end, steps_of, sum_by-append, ticked, ticks, ticks_joined, ticks_of}
+use Rattle.std.proofs.Common.{◌≡◌, ◌≤◌, ℕ, ◌+◌, ◌==◌, Bool, true, false, List, [], ◌∷◌, ◌++◌, map, Some, None, if◌then◌else◌, refl, sym, ap, subst, ◌∙◌, append_assoc, arith, rules}
 use Rattle.fsoe_base.specs.declared.command.End.TheVariants as side
 use Rattle.param_load.specs.declared.entry.Move.TheVariants as move
 use Rattle.plant_model.specs.declared.event.PlantEvent.TheVariants as event
@@ -44,23 +41,15 @@ grown_as P which link k before after other e g = subst (λ (z : List JournalStep
 
 -- one step that is no tick adds none to those of a journal
 no_tick : (before : List JournalStep) (s : JournalStep) → is_tick s ≡ false → ticks (before ++ s ∷ []) ≡ ticks before
-no_tick before s h =
-    let all : ticks (before ++ s ∷ []) ≡ ticks before + ticks (s ∷ []) = sum_by-append (λ x. cond (is_tick x) 1 0) before (s ∷ []) in
-    let one : ticks (s ∷ []) ≡ 0 = ap (λ (b : Bool). 0 + cond b 1 0) h in
-    omega arith
+no_tick before s h = grind (arith, common_steps)
 
 -- an event that is no tick
 abbrev NoTick : Move → Type 0
 NoTick move.Tick = ⊥
 NoTick _ = Unit {0}
 
-ticked_none : (what : Move) (n : ℕ) → NoTick what → ticked what n ≡ n
-ticked_none move.Tick n h = absurd h
-ticked_none _ n h = refl
-
 ticks_one : (mine : Bool) (what : Move) → NoTick what → (if mine then ticked what 0 else 0) ≡ 0
-ticks_one true what h = ticked_none what 0 h
-ticks_one false what h = refl
+ticks_one mine what h = grind arith
 
 -- a step in which an end of connection n does something, or none
 grown_if : (P : List Entry → Type 0) (which : End) (link : LinkConf) (k : ℕ) (before after : List JournalStep) (end : End) (what : Move) (mine : Bool)
@@ -83,20 +72,16 @@ grown_one P which link k before s n end what one quiet none p =
 
 -- where no frame comes, no data frame is sent
 silent : (P : List Entry → Type 0) (link : LinkConf) (end : End) (what : Move) (w : List Entry) → BringsNone what → IsTrue (is_data_frame (next_of end what link w).sent) → P w
-silent P link end what w h sends =
-    let no : true ≡ false = sym sends ∙ no_data (setup_of link.master link.slave end) (deeds end w) what h in
-    absurd (cc no)
+silent P link end what w h k = search (rules, no_data)
 
 -- one event of the script at one end
 grown_set : (P : List Entry → Type 0) (which : End) (link : LinkConf) (k : ℕ) (before : List JournalStep) (s : JournalStep) (n : ℕ) (end : End) (what : Move) → IsOne s n end what → is_tick s ≡ false → NoTick what → BringsNone what
     → Grown P which link k before (before ++ s ∷ [])
-grown_set P which link k before s n end what one quiet none brings =
-    grown_one P which link k before s n end what one quiet none (λ mine sends. silent P link end what (pair link k before) brings sends)
+grown_set P which link k before s n end what h l m o = search (rules, grown_one)
 
 -- a tick of both ends
 both_tick : (end : End) (link : LinkConf) (w : List Entry) → 1 ≡ ticks_of end (next_of side.Master move.Tick link (next_of side.Slave move.Tick link w ∷ w) ∷ next_of side.Slave move.Tick link w ∷ [])
-both_tick side.Master link w = refl
-both_tick side.Slave link w = refl
+both_tick end link w = grind arith
 
 grown_tick : (P : List Entry → Type 0) (which : End) (link : LinkConf) (k : ℕ) (before : List JournalStep) → Grown P which link k before (before ++ step.Script event.Tick ∷ [])
 grown_tick P which link k before =
@@ -161,8 +146,7 @@ GoesBack P link = (end : End) (bytes : List ℕ) (w : List Entry) → P (next_of
 
 came_if : (P : List Entry → Type 0) (link : LinkConf) (k : ℕ) (before after : List JournalStep) (end : End) (bytes : List ℕ) (mine : Bool) → mine ≡ true
     → pair link k after ≡ (if mine then next_of end (move.Deliver bytes) link (pair link k before) ∷ pair link k before else pair link k before) → GoesBack P link → P (pair link k after) → P (pair link k before)
-came_if P link k before after end bytes true here e back p = back end bytes (pair link k before) (subst P e p)
-came_if P link k before after end bytes false here e back p = absurd (cc here)
+came_if P link k before after end bytes mine h l m n = grind arith
 
 grown_pulled : (P : List Entry → Type 0) (which : End) (link : LinkConf) (k : ℕ) (before : List JournalStep) (parcel : Parcel) → GoesBack P link → P (pair link k (before ++ step.Pulled parcel ∷ []))
     → Grown P which link k before (before ++ step.Pulled parcel ∷ [])
@@ -217,10 +201,7 @@ abbrev pub Any : List Entry → Type 0
 Any w = Unit {0}
 
 any_step : (which : End) (link : LinkConf) (k : ℕ) (before : List JournalStep) (s : JournalStep) → Grown Any which link k before (before ++ s ∷ [])
-any_step which link k before (step.Script e) = grown_script Any which link k before e
-any_step which link k before step.App = grown_app Any which link k before
-any_step which link k before (step.Offer n load) = grown_step Any which link k before (step.Offer n load) tt
-any_step which link k before (step.Pulled parcel) = grown_pulled Any which link k before parcel (λ end bytes w h. tt) tt
+any_step which link k before s = search (rules, grown_step, grown_pulled)
 
 -- by any further steps
 pub grown_any : (which : End) (link : LinkConf) (k : ℕ) (steps before : List JournalStep) → Grown Any which link k before (before ++ steps)
@@ -252,33 +233,11 @@ is_tick_act _ = false
 
 ticks_listed : (listed : List (ℕ × List ℕ)) → ticks (map offer_step listed) ≡ 0
 ticks_listed [] = refl
-ticks_listed (x ∷ listed) =
-    let all : ticks (offer_step x ∷ map offer_step listed) ≡ 0 + ticks (map offer_step listed) = sum_by-append (λ s. cond (is_tick s) 1 0) (offer_step x ∷ []) (map offer_step listed) in
-    let rest = ticks_listed listed in
-    omega arith
-
-ticks_first : (s : JournalStep) (os : List JournalStep) → ticks os ≡ 0 → ticks (s ∷ os) ≡ cond (is_tick s) 1 0
-ticks_first s os h =
-    let all : ticks (s ∷ os) ≡ ticks (s ∷ []) + ticks os = sum_by-append (λ x. cond (is_tick x) 1 0) (s ∷ []) os in
-    let one : ticks (s ∷ []) ≡ 0 + cond (is_tick s) 1 0 = refl in
-    omega arith
-
-steps_ticks : (act : Act) (os : List JournalStep) → ticks os ≡ 0 → ticks (steps_of act os) ≡ cond (is_tick_act act) 1 0
-steps_ticks (Happen said) os h = ticks_first (line_step said) os h
-steps_ticks (PullFrom (Some parcel)) os h =
-    let all : ticks (os ++ step.Pulled parcel ∷ []) ≡ ticks os + ticks (step.Pulled parcel ∷ []) = sum_by-append (λ x. cond (is_tick x) 1 0) os (step.Pulled parcel ∷ []) in
-    all ∙ ap (λ (n : ℕ). n + 0) h
-steps_ticks _ os h = h
+ticks_listed (x ∷ listed) = omega (arith, sum_by-append (λ s. cond (is_tick s) 1 0) (offer_step x ∷ []) (map offer_step listed), ticks_listed listed)
 
 -- a tick alone counts
 pub act_ticks : (b : Beginning) (act : Act) (done : List Act) → ticks (journal b (act ∷ done)) ≡ ticks (journal b done) + cond (is_tick_act act) 1 0
-act_ticks b act done =
-    sum_by-append (λ s. cond (is_tick s) 1 0) (journal b done) (steps_of act (offers b act done))
-    ∙ ap (λ (n : ℕ). ticks (journal b done) + n) (steps_ticks act (offers b act done) (ticks_listed (changed_by (cycle_of b act done) (masters b done).connections)))
-
-one_at_most : (b : Bool) → cond b 1 0 ≤ 1
-one_at_most true = omega arith
-one_at_most false = omega arith
+act_ticks b act done = grind (arith, common_steps, ticks_listed)
 
 pub act_ticks_most : (b : Beginning) (act : Act) (done : List Act) → ticks (journal b (act ∷ done)) ≤ ticks (journal b done) + 1
-act_ticks_most b act done = let is = act_ticks b act done in let few = one_at_most (is_tick_act act) in omega arith
+act_ticks_most b act done = search (rules, act_ticks)

@@ -1,7 +1,6 @@
 -- The applications that a script takes are among those that were handed in.
-use Rattle.plant_model.proofs.Common.{AppsAreSpare, Named, Taken, passed, said, said_with, take_app}
+use Rattle.plant_model.proofs.Common.{AppsAreSpare, Named, None, Option, Some, Taken, passed, said, said_with, take_app}
 use Rattle.std.proofs.Common.{◌≡◌, ℕ, Bool, true, false, List, [], ◌∷◌, ◌++◌, if◌then◌else◌, refl, sym, ap, subst, ◌∙◌}
-use Rattle.std.specs.Prelude.{Option, Some, None}
 use Rattle.std.specs.Str.{bytes_eq}
 use Rattle.plant_model.specs.declared.event.PlantLine.{PlantLine}
 use Rattle.plant_model.specs.declared.event.PlantLine.TheVariants as line

@@ -1,11 +1,8 @@
 -- Where the moments of a plant are still for a bound, it is quiet: no act of a tick but the line of the script changes
 -- what a slave offers, nor which application runs, and each cycle keeps off what the application guards. Acts are listed
 -- newest first, steps oldest first.
-use Rattle.plant_model.proofs.Common.{Act, AllSound, Answer, App, Beginning, Bit, BoundSpec, Deliver, End, Entry, Event, Happen, IsSound, JournalStep, LinkConf, Meant, Move, Offered, Parcel, PullFrom, Said, StaysOff, Unset, bit_at, calls, changed_by, cycle_in, cycle_of, delivery_call, is_guarded, is_off, is_still, is_tick, journal, line_step, link_at, masters, meant, next_of, next_offered, of_end, offer_at, offer_step, offers, offers_bit, outputs_at, pair, settings, with_cycle}
-use Rattle.std.proofs.Common.{◌≡◌, ℕ, ◌==◌, Bool, true, false, ◌&&◌, not, List, [], ◌∷◌, ◌++◌, map, Option, Some, None, if◌then◌else◌, refl, sym, ap, ap₂, ◌∙◌, append_assoc}
-use Rattle.std.specs.Prelude.{IfSome, option_to_list}
-use Rattle.std.specs.Option.{option_map_or}
-use Rattle.std.proofs.lemmas.List.{append-nil}
+use Rattle.plant_model.proofs.Common.{Act, AllSound, Answer, App, Beginning, Bit, BoundSpec, Deliver, End, Entry, Event, Happen, IfSome, IsSound, JournalStep, LinkConf, Meant, Move, Offered, Parcel, PullFrom, Said, StaysOff, Unset, append-nil, bit_at, changed_by, cycle_of, is_still, is_tick, journal, line_step, link_at, masters, next_of, next_offered, of_end, offer_at, offer_step, offers, offers_bit, option_map_or, outputs_at, pair}
+use Rattle.std.proofs.Common.{◌≡◌, ℕ, ◌==◌, Bool, true, false, ◌&&◌, not, List, [], ◌∷◌, ◌++◌, map, Option, Some, None, if◌then◌else◌, refl, sym, ap, ap₂, ◌∙◌, append_assoc, arith, rules}
 use Rattle.fsoe_base.specs.declared.command.End.TheVariants as side
 use Rattle.param_load.specs.declared.entry.Move.TheVariants as move
 use Rattle.plant_model.specs.declared.event.PlantEvent.TheVariants as event
@@ -15,27 +12,15 @@ use Rattle.plant_model.proofs.Growing.{IsOne, pair_more, pair_one}
 -- a cycle keeps off what is guarded
 keeps_by : (m : Meant) (bound : BoundSpec) (o : Option Answer) → IfSome o (IsSound m) → m.app.guards bound.drive bound.estop ≡ true
     → IfSome o (λ a. bit_at (map outputs_at m.connections) bound.estop ≡ false → bit_at (map offer_at m.connections) bound.drive ≡ false)
-keeps_by m bound None s on = tt
-keeps_by m bound (Some x) s on = λ is_zero. ap (λ (images : List (List ℕ)). bit_at images bound.drive) s.answered ∙ s.guarded bound.drive bound.estop on is_zero
-
--- what is true of both
-pub both_first : (x y : Bool) → (x && y) ≡ true → x ≡ true
-both_first true y h = refl
-both_first false y h = h
+keeps_by m bound o h k = grind arith
 
 both_second : (x y : Bool) → (x && y) ≡ true → y ≡ true
-both_second false true h = refl
-both_second _ _ h = h
+both_second x y h = grind arith
 
 -- an act after which a bound is still goes on with what was quiet
 pub quiet_on : (b : Beginning) (bound : BoundSpec) (act : Act) (later earlier : List Act) → AllSound b (act ∷ later ++ earlier) → is_still b bound (act ∷ later ++ earlier) ≡ true
     → StaysOff b bound later earlier → StaysOff b bound (act ∷ later) earlier
-quiet_on b bound act later earlier s still q =
-    let done : List Act = act ∷ later ++ earlier in (
-      both_first (is_off b bound.estop done) (is_guarded b bound done) still,
-      keeps_by (masters b done) bound (cycle_of b act (later ++ earlier)) s.0 (both_second (is_off b bound.estop done) (is_guarded b bound done) still),
-      q,
-    )
+quiet_on b bound act later earlier h k l = search (rules, keeps_by, both_second)
 
 -- what a slave does at such an event leaves what it offers; so does what a master does
 abbrev Keeps : End → Move → Type 0
@@ -44,19 +29,11 @@ Keeps side.Slave move.Tick = Unit {0}
 Keeps side.Slave (move.Deliver bytes) = Unit {0}
 Keeps side.Slave _ = ⊥
 
-keeps_offer : (link : LinkConf) (end : End) (what : Move) (w : List Entry) → Keeps end what → next_offered (of_end side.Slave (next_of end what link w ∷ w)) ≡ next_offered (of_end side.Slave w)
-keeps_offer link side.Master what w h = refl
-keeps_offer link side.Slave move.Tick w h = refl
-keeps_offer link side.Slave (move.Deliver bytes) w h = refl
-keeps_offer link side.Slave _ w h = absurd h
-
 came_keeps : (end : End) (bytes : List ℕ) → Keeps end (move.Deliver bytes)
-came_keeps side.Master bytes = tt
-came_keeps side.Slave bytes = tt
+came_keeps end bytes = grind arith
 
 keeps_if : (link : LinkConf) (end : End) (what : Move) (w : List Entry) (mine : Bool) → Keeps end what → next_offered (of_end side.Slave (if mine then next_of end what link w ∷ w else w)) ≡ next_offered (of_end side.Slave w)
-keeps_if link end what w true h = keeps_offer link end what w h
-keeps_if link end what w false h = refl
+keeps_if link end what w mine h = grind arith
 
 -- what the slave of connection k offers by a journal
 abbrev offered_by : LinkConf → ℕ → List JournalStep → Offered
@@ -101,22 +78,10 @@ act_offers link k b _ done (Pulls (Some parcel)) =
 
 off_if : (o : Option LinkConf) (k bit : ℕ) (b : Beginning) (act : Act) (done : List Act) → IsOfTick act
     → offers_bit bit (option_map_or (λ link. offered_by link k (journal b (act ∷ done))) o Unset) ≡ offers_bit bit (option_map_or (λ link. offered_by link k (journal b done)) o Unset)
-off_if None k bit b act done h = refl
-off_if (Some link) k bit b act done h = ap (offers_bit bit) (act_offers link k b act done h)
-
--- the application that runs stays
-cycle_guards : (o : Option Answer) (m : Meant) → (with_cycle o m).app.guards ≡ m.app.guards
-cycle_guards None m = refl
-cycle_guards (Some a) m = refl
-
-parcel_guards : (b : Beginning) (done : List Act) (o : Option LinkConf) (end : End) (n : ℕ) (frame : List ℕ)
-    → (meant (settings b) b.app (option_to_list (delivery_call o end n frame) ++ calls b done)).app.guards ≡ (masters b done).app.guards
-parcel_guards b done (Some link) side.Master n frame = cycle_guards (cycle_in (Deliver n frame) (masters b done)) (masters b done)
-parcel_guards b done _ _ n frame = refl
+off_if o k bit b act done h = search (rules, act_offers)
 
 act_guards : (b : Beginning) (act : Act) (done : List Act) → IsOfTick act → (masters b (act ∷ done)).app.guards ≡ (masters b done).app.guards
-act_guards b _ done (Pulls (Some parcel)) = parcel_guards b done (link_at b.links parcel.to.link) parcel.to.end parcel.to.link parcel.frame
-act_guards b _ done _ = refl
+act_guards b act done h = grind arith
 
 -- so a bound stays still through a tick
 pub stays_still : (b : Beginning) (bound : BoundSpec) (act : Act) (done : List Act) → IsOfTick act → is_still b bound (act ∷ done) ≡ is_still b bound done

@@ -1,32 +1,21 @@
 -- What the uses of a channel make of what it tells.
-use Rattle.plant_model.proofs.Common.{Begin, EmptiesRose, GivesHeld, GrewBy, Parcel, Pull, Push, RoseBy, ToldHolds, ToldLists, Trace, Use, counted, empty_pulls, gifts, pushes}
-use Rattle.plant_model.specs.Gifts.{held_after}
-use Rattle.std.proofs.Common.{◌≡◌, ℕ, ◌≤◌, List, [], ◌∷◌, ◌++◌, refl, sym, ap, subst, ◌∙◌, arith}
-use Rattle.std.specs.Prelude.{Option, Some, None, IfSome, option_map, option_to_list}
-use Rattle.std.proofs.lemmas.List.{append-nil, append_assoc}
+use Rattle.plant_model.proofs.Common.{Begin, EmptiesRose, GivesHeld, GrewBy, IfSome, None, Option, Parcel, Pull, Push, RoseBy, Some, ToldHolds, ToldLists, Trace, Use, common_steps, counted, empty_pulls, gifts, held_after, option_map, option_to_list, pushes}
+use Rattle.std.proofs.Common.{◌≡◌, ℕ, ◌≤◌, List, [], ◌∷◌, ◌++◌, sym, ap, subst, ◌∙◌, arith, rules}
 use Rattle.fsoe_io.specs.Faults.{Rose}
 use Rattle.black_channel.specs.Holds.{Holds, begun, pushed, pulled}
 use Rattle.black_channel.specs.Told.{Told, GrowsByGift}
 
 no_more : (told : Option (List Parcel)) → GrewBy [] told told
-no_more None = tt
-no_more (Some parcels) = ap Some (append-nil parcels)
+no_more told = grind (arith, common_steps)
 
 stayed : (old new : Option (List Parcel)) → new ≡ old → GrewBy [] old new
 stayed old new e = subst (λ (z : Option (List Parcel)). GrewBy [] old z) (sym e) (no_more old)
 
 grown : (a b : List Parcel) (old mid new : Option (List Parcel)) → GrewBy a old mid → GrewBy b mid new → GrewBy (a ++ b) old new
-grown a b old mid None h i = tt
-grown a b old None (Some new) h i = cc
-grown a b None (Some mid) (Some new) h i = cc
-grown a b (Some old) (Some mid) (Some new) h i =
-    let first : old ++ a ≡ mid = cc in
-    let then : mid ++ b ≡ new = cc in
-    ap Some (sym (append_assoc old a b) ∙ ap (λ (z : List Parcel). z ++ b) first ∙ then)
+grown a b old mid new h k = grind (arith, common_steps)
 
 by_gift : (gift : Option Parcel) (old new : Option (List Parcel)) → GrowsByGift gift old new → GrewBy (option_to_list gift) old new
-by_gift None old new e = stayed old new e
-by_gift (Some parcel) old new h = h
+by_gift gift old new h = search rules
 
 pub told_lists : (uses : List Use) (old new : Told) → Trace uses old new → ToldLists uses old new
 told_lists [] old new e = record {
@@ -58,16 +47,13 @@ of_made P f None new e h = tt
 of_made P f (Some held) new e h = subst (λ (z : Option Holds). IfSome z P) e h
 
 both : (P Q : Holds → Type 0) (held : Option Holds) → IfSome held P → IfSome held Q → IfSome held (λ z. P z × Q z)
-both P Q None h i = tt
-both P Q (Some held) h i = (h, i)
+both P Q held h k = grind arith
 
 made_twice : (f g : Holds → Holds) (old mid : Option Holds) → mid ≡ option_map f old → option_map g mid ≡ option_map (λ held. g (f held)) old
-made_twice f g None mid e = ap (option_map g) e
-made_twice f g (Some held) mid e = ap (option_map g) e
+made_twice f g old mid h = grind arith
 
 same_held : (held : Option Holds) → held ≡ option_map (λ z. z) held
-same_held None = refl
-same_held (Some held) = refl
+same_held held = grind arith
 
 no_pull : (held : Option Holds) → IfSome held (GivesHeld [])
 no_pull None = tt
@@ -97,8 +83,7 @@ told_holds (Pull gift ∷ uses) old new t =
 
 -- a pull that gave nothing counts, unless the count stays
 one_rose : (gift : Option Parcel) (n old mid new : ℕ) → old ≤ mid → (gift ≡ None → Rose old mid) → RoseBy n mid new → RoseBy (counted gift n) old new
-one_rose None n old mid new le rose more = λ below. let later = more below in let one = rose refl (λ e. absurd (omega arith)) in omega arith
-one_rose (Some parcel) n old mid new le rose more = λ below. let later = more below in omega arith
+one_rose gift n old mid new h k l = grind arith
 
 pub empties_rose : (uses : List Use) (old new : Told) → Trace uses old new → EmptiesRose uses old new
 empties_rose [] old new e = λ below. let same : old.empties ≡ new.empties = ap (λ (z : Told). z.empties) e in omega arith

@@ -1,26 +1,8 @@
 -- The lines of the bounds that wait.
-use Rattle.plant_run.proofs.Common.{Act, Beginning, BoundSpec, ConfView, LinkConf, PlantStands, PlantView, ReactionView, ShowsBound, ShowsWorst, age_text, bit_text, bounds_waiting, broken_of, broken_text, heard_of, limit_of, line_by, lines_by, reactions_after, view_of}
+use Rattle.plant_run.proofs.Common.{Act, Beginning, BoundSpec, ConfView, LinkConf, PlantStands, PlantView, ReactionView, ShowsBound, bounds_waiting, broken_of, heard_of, limit_of, line_by, lines_by, reactions_after, slice_get-map, view_of}
 use Rattle.std.proofs.Common.{◌≡◌, ℕ, suc, List, ◌++◌, slice_get, Option, Some, option_map, sym, ap, ap₂, ◌∙◌}
-use Rattle.std.specs.Prelude.{codes, decimal}
-use Rattle.std.proofs.lemmas.Option.{slice_get-map}
-use Rattle.fsoe_base.specs.declared.command.End.TheVariants as side
 use Rattle.reaction_bound.specs.Reaction as reaction
 use Rattle.plant_run.proofs.LinkLines.{drop_at, some_is}
-
--- the line of a bound with these numbers
-abbrev pub line_with : BoundSpec → ℕ → Option ℕ → Option ℕ → Option ℕ → List ℕ
-line_with bound most master slave broken =
-    codes "bound i" ++ bit_text bound.estop ++ codes " o" ++ bit_text bound.drive ++ codes " " ++ decimal most
-    ++ codes " worst " ++ age_text master ++ codes " " ++ age_text slave ++ codes " " ++ broken_text broken ++ codes "\n"
-
-pub bound_shown : (v : PlantView) (bound : BoundSpec) (most : ℕ) (master slave broken : Option ℕ) (text : List ℕ) → ShowsWorst v bound.estop.link side.Master master → ShowsWorst v bound.drive.link side.Slave slave
-    → text ≡ line_with bound most master slave broken → ShowsBound v bound most broken text
-bound_shown v bound most master slave broken text m s is = record {
-  shows = λ b acts h limit.
-      is
-      ∙ ap (λ (z : ℕ). line_with bound z master slave broken) limit
-      ∙ ap₂ (λ (x y : Option ℕ). line_with bound (limit_of b.links bound) x y broken) (m.shows b acts h) (s.shows b acts h);
-}
 
 -- the line of the next bound is the first part of what waits, and the rest waits on
 pub bound_part : (b : Beginning) (acts : List Act) (v : PlantView) (conf : ConfView) (reactions : List ReactionView) (place next : ℕ) (bound : BoundSpec) (r : ReactionView) (most : ℕ) (broken : Option ℕ) (text : List ℕ) → PlantStands b v acts → conf.links ≡ b.links

@@ -3,9 +3,9 @@ pub use Rattle.black_channel.specs.Told.{Told}
 pub use Rattle.black_channel.specs.declared.channel.Parcel.{Parcel}
 pub use Rattle.fb_net.specs.declared.kind_of.EntryOf.{EntryOf}
 pub use Rattle.fb_net.specs.declared.kind_of.KindOf.{KindOf}
-pub use Rattle.file_run.specs.Machine.{EndsReport, EndsStopped, EndsUnmet, IsSaid}
+pub use Rattle.file_run.specs.Machine.{EndsReport, EndsStopped, IsSaid}
 pub use Rattle.file_run.specs.Ran.{EndsWhole, RanOver}
-pub use Rattle.file_run.specs.Report.{ended_with, other_line, refused_line}
+pub use Rattle.file_run.specs.Report.{ended_with, other_line}
 pub use Rattle.file_run.specs.Reporting.{IsPrefix, Reporting, ReportsSoFar, input_stopped}
 pub use Rattle.fsoe_base.specs.declared.lengths.Lengths.{Lengths}
 pub use Rattle.fsoe_io.specs.declared.status.Ended.{Ended}
@@ -16,10 +16,10 @@ pub use Rattle.plant_conf.specs.declared.conf.LinkConf.{LinkConf}
 pub use Rattle.plant_core.proofs.Acting.{same_count, trace_append}
 pub use Rattle.plant_core.proofs.Made.{lengths_made, made_count}
 pub use Rattle.plant_core.specs.Making.{is_named, links_made}
-pub use Rattle.plant_core.specs.Standing.{Follows, IsAged, PlantStands, PlantView, Plays, ShowsOn, ShowsPair, ShowsWorst, Starts, TellsOther, TellsStill, fixed_in, lengths_kept, seen}
+pub use Rattle.plant_core.specs.Standing.{Follows, IsAged, PlantStands, PlantView, Plays, ShowsOn, ShowsPair, Starts, TellsOther, TellsStill, fixed_in, lengths_kept, seen}
 pub use Rattle.plant_model.proofs.Lines.{line_said, lines_append, no_lines_by, no_lines_pulled}
-pub use Rattle.plant_model.specs.Acts.{Act, App, Beginning, Event, Happen, PullFrom, Said, Start, journal, line_step, offers, uses, uses_after}
-pub use Rattle.plant_model.specs.BoundLines.{age_text, bit_text, bound_line, bound_lines, broken_text, heard, heard_before, heard_of, is_driven, is_ticking, limit_by, limit_of, line_by}
+pub use Rattle.plant_model.specs.Acts.{Act, App, Beginning, Event, Happen, PullFrom, Said, Start, journal, line_step, offers, uses}
+pub use Rattle.plant_model.specs.BoundLines.{bound_line, bound_lines, heard, heard_before, heard_of, is_driven, is_ticking, limit_of, line_by}
 pub use Rattle.plant_model.specs.Fits.{Fits, lengths_at, lengths_in}
 pub use Rattle.plant_model.specs.JournalLaws.{line_steps}
 pub use Rattle.plant_model.specs.Pair.{has_other, is_tick, link_at, lowest_other, outputs_at, pair, pulls_after, state_at, ticks}
@@ -36,6 +36,13 @@ pub use Rattle.plant_run.specs.Watching.{AreAged, CanHear, HasRoom, HearsLine, H
 pub use Rattle.plant_setup.specs.Names.{IsTaken, place_of}
 pub use Rattle.reaction_bound.specs.Kept.{Hears, ReactionView, view_of}
 pub use Rattle.reaction_bound.specs.Reaction.{Quiet, Tick, broken_of}
-pub use Rattle.schedule_file.specs.Field.{bytes_said, fields_of, is_number, is_space}
+pub use Rattle.schedule_file.specs.Field.{bytes_said, fields_of, is_space}
 pub use Rattle.schedule_file.specs.Fields.{next_field, no_field, number_16, one_field, value_or}
-pub use Rattle.schedule_file.specs.Input.{AtEnd, NoApp, Refused, Stop, input_read}
+pub use Rattle.std.proofs.lemmas.Bool.{eq-eqb, eqb-true}
+pub use Rattle.std.proofs.lemmas.Grind.{common_steps}
+pub use Rattle.std.proofs.lemmas.List.{append-nil, length-map, length_push, take_all}
+pub use Rattle.std.proofs.lemmas.List.Elements.{All-cons, All-head, All-nil, All-tail}
+pub use Rattle.std.proofs.lemmas.Option.{slice_get-get_or, slice_get-map, slice_get_past, slice_get_read, slice_get_within}
+pub use Rattle.std.proofs.lemmas.Result.{IfOk-at_ok, err_from_is_err_and}
+pub use Rattle.std.specs.List.{onto_first, position_from, remove}
+pub use Rattle.std.specs.Prelude.{Err, IfOk, IfSome, IsSome, IsSomeAnd, None, Ok, Option, Some, codes, decimal, option_map, string_bytes}

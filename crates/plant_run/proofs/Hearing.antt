@@ -1,17 +1,11 @@
 -- A plant that runs can tell the reactions of its bounds of a line more, and tells the ages of their connections.
-use Rattle.plant_run.proofs.Common.{Act, AppView, AreAged, Beginning, BoundSpec, CanHear, EntryOf, GivenStands, Happen, HasRoom, HearsLine, IsAged, KindOf, LinkConf, PlantLine, PlantStands, PlantView, PullFrom, ReactionView, ScriptHeading, Start, Terms, Told, fixed_in, heard_before, heard_of, is_driven, is_named, is_tick, is_ticking, limit_of, line_step, links_made, reactions_after, reactions_by, said_in, view_of}
+use Rattle.plant_run.proofs.Common.{Act, All-cons, All-nil, AppView, AreAged, Beginning, BoundSpec, CanHear, EntryOf, GivenStands, Happen, HasRoom, HearsLine, IfSome, IsAged, IsSome, KindOf, LinkConf, PlantLine, PlantStands, PlantView, PullFrom, ReactionView, ScriptHeading, Start, Terms, Told, common_steps, eq-eqb, fixed_in, heard_before, heard_of, is_driven, is_named, is_tick, is_ticking, length-map, length_push, limit_of, line_step, links_made, option_map, reactions_after, reactions_by, said_in, slice_get-map, view_of}
 use Rattle.std.proofs.Common.{◌≡◌, ◌≤◌, ◌<◌, ◌+◌, ◌^◌, ◌==◌, ◌||◌, ℕ, zero, suc, Bool, true, false, List, [], ◌∷◌, All, length, slice_get, Option, Some, None, if◌then◌else◌, refl, sym, ap, subst, ◌∙◌, arith}
-use Rattle.std.specs.Prelude.{IfSome, IsSome, option_map}
-use Rattle.std.proofs.lemmas.Bool.{eq-eqb}
-use Rattle.std.proofs.lemmas.List.{length-map, length_push}
-use Rattle.std.proofs.lemmas.List.Elements.{All-cons, All-nil}
-use Rattle.std.proofs.lemmas.Option.{slice_get-map}
 use Rattle.reaction_bound.specs.Reaction as reaction
 use Rattle.plant_core.specs.Link.{Fixed, LinkView, fixed_of, new_link}
 
 if_ticks : (tick on : Bool) (before : List reaction.Heard) → reaction.ticks (if tick then reaction.Tick on ∷ before else before) ≤ suc (reaction.ticks before)
-if_ticks true on before = omega arith
-if_ticks false on before = omega arith
+if_ticks tick on before = grind arith
 
 -- no more ticks are heard than there are lines
 said_ticks : (b : Beginning) (bound : BoundSpec) (acts : List Act) (on : Bool) → reaction.ticks (if is_ticking acts then reaction.Tick on ∷ heard_before b bound acts else heard_before b bound acts) ≤ length (said_in acts)
@@ -31,21 +25,14 @@ rooms b acts (bound ∷ bounds) h =
 -- a plant that runs can tell its reactions of a line more
 pub can_hear : {H : Type 0} (view : KindOf H → AppView) (t : Terms) (v : PlantView) (reactions : List ReactionView) (left : List (EntryOf H)) (before after : Told) (count : ℕ) (h : ScriptHeading) (log : List PlantLine) (text : List ℕ) (bounds : List BoundSpec)
     → GivenStands view t v reactions left before after count h log text → length log + 1 < 2 ^ 64 → t.bounds ≡ bounds → CanHear reactions bounds
-can_hear view t v reactions left before after count h log text bounds k few same =
-    subst (λ (z : List BoundSpec). CanHear reactions z) same
-    (record {
-      count = ap length k.watched ∙ length-map t.bounds (λ bound. view_of (limit_of t.begins.links bound) (heard_of t.begins bound k.runs.acts));
-      room = subst (λ (z : List ReactionView). All HasRoom z) (sym k.watched) (rooms t.begins k.runs.acts t.bounds (let whole = k.runs.whole in omega (arith, whole, few)));
-    })
+can_hear view t v reactions left before after count h log text bounds k l m = grind (arith, common_steps, rooms)
 
 -- a bound names its connections
 or_first : (a b : Bool) → a ≡ true → (a || b) ≡ true
-or_first true b e = refl
-or_first false b e = absurd (cc e)
+or_first a b h = grind arith
 
 or_later : (a b : Bool) → b ≡ true → (a || b) ≡ true
-or_later true b e = refl
-or_later false b e = e
+or_later a b h = grind arith
 
 named_by : (k : ℕ) (bounds : List BoundSpec) (place : ℕ) (bound : BoundSpec) → slice_get bounds place ≡ Some bound → (bound.estop.link == k || bound.drive.link == k) ≡ true → is_named bounds k ≡ true
 named_by k [] place bound e named = absurd (cc e)
@@ -57,8 +44,7 @@ named_by k (first ∷ bounds) (suc place) bound e named =
 
 -- the ages of a connection are told that a bound names
 aged_new : (aged : Bool) (link : LinkConf) → aged ≡ true → (fixed_of (new_link aged link)).aged ≡ true
-aged_new true link e = refl
-aged_new false link e = absurd (cc e)
+aged_new aged link h = grind arith
 
 aged_made : (k place : ℕ) (bounds : List BoundSpec) (links : List LinkConf) → is_named bounds (k + place) ≡ true → IfSome (slice_get (fixed_in (links_made k bounds links)) place) (λ f. f.aged ≡ true)
 aged_made k place bounds [] h = tt

@@ -1,28 +1,19 @@
 -- The lines of the connections that wait.
-use Rattle.plant_run.proofs.Common.{Act, AppView, Beginning, EntryOf, GivenStands, JournalStep, KindOf, LinkConf, PlantLine, PlantStands, PlantView, ReactionView, ScriptHeading, ShowsPair, Terms, Told, link_at, link_line, link_lines, links_made, made_count, outputs_at, pair, same_count, state_at, waiting}
-use Rattle.std.proofs.Common.{◌≡◌, ◌<◌, ◌+◌, ℕ, zero, suc, List, [], ◌∷◌, ◌++◌, drop, length, slice_get, refl, sym, ap, ap₂, ◌∙◌, arith}
-use Rattle.std.specs.Prelude.{IsSomeAnd, Option, Some, None, codes, decimal}
+use Rattle.plant_run.proofs.Common.{Act, AppView, Beginning, EntryOf, GivenStands, IsSomeAnd, JournalStep, KindOf, LinkConf, None, Option, PlantLine, PlantStands, PlantView, ReactionView, ScriptHeading, ShowsPair, Some, Terms, Told, codes, decimal, link_at, link_line, link_lines, made_count, outputs_at, pair, same_count, slice_get_past, state_at, waiting}
+use Rattle.std.proofs.Common.{◌≡◌, ◌<◌, ◌+◌, ℕ, zero, suc, List, [], ◌∷◌, ◌++◌, drop, length, slice_get, refl, sym, ap, ◌∙◌, arith, rules}
 use Rattle.hex.specs.Hex.{encode_lower}
 use Rattle.fsoe_base.specs.Command.{state_name}
 use Rattle.fsoe_base.specs.declared.command.End.TheVariants as side
 use Rattle.fsoe_base.specs.declared.command.State.{State}
 use Rattle.param_load.specs.declared.entry.Entry.{Entry}
-use Rattle.std.proofs.lemmas.Option.{slice_get_past}
 
 -- the text of an end
 abbrev pub end_by : State → List ℕ → List ℕ
 end_by state outputs = codes " " ++ state_name state ++ codes " " ++ encode_lower outputs
 
-line_is : (l : LinkConf) (k : ℕ) (w : List Entry) (ms ss : State) (mo so text : List ℕ) → ms ≡ state_at l side.Master w → mo ≡ outputs_at l side.Master w → ss ≡ state_at l side.Slave w → so ≡ outputs_at l side.Slave w
-    → text ≡ ((decimal k ++ end_by ms mo) ++ end_by ss so) ++ codes "\n" → text ≡ link_line l k w
-line_is l k w ms ss mo so text a b c d is =
-    is
-    ∙ ap₂ (λ (master slave : List ℕ). decimal k ++ master ++ slave ++ codes "\n") (ap₂ end_by a b) (ap₂ end_by c d)
-
 line_by : (o : Option LinkConf) (k : ℕ) (w : LinkConf → List Entry) (ms ss : State) (mo so text : List ℕ) → IsSomeAnd o (λ l. ms ≡ state_at l side.Master (w l)) → IsSomeAnd o (λ l. mo ≡ outputs_at l side.Master (w l))
     → IsSomeAnd o (λ l. ss ≡ state_at l side.Slave (w l)) → IsSomeAnd o (λ l. so ≡ outputs_at l side.Slave (w l)) → text ≡ ((decimal k ++ end_by ms mo) ++ end_by ss so) ++ codes "\n" → IsSomeAnd o (λ l. text ≡ link_line l k (w l))
-line_by None k w ms ss mo so text a b c d is = a
-line_by (Some l) k w ms ss mo so text a b c d is = line_is l k (w l) ms ss mo so text a b c d is
+line_by o k w ms ss mo so text h l m n p = grind arith
 
 pub line_shown : (v : PlantView) (k : ℕ) (ms ss : State) (mo so text : List ℕ) → ShowsPair v k ms (λ l w. state_at l side.Master w) → ShowsPair v k mo (λ l w. outputs_at l side.Master w) → ShowsPair v k ss (λ l w. state_at l side.Slave w)
     → ShowsPair v k so (λ l w. outputs_at l side.Slave w) → text ≡ ((decimal k ++ end_by ms mo) ++ end_by ss so) ++ codes "\n" → ShowsPair v k text (λ l w. link_line l k w)
@@ -53,9 +44,6 @@ none_dropped [] (suc place) e = refl
 none_dropped (x ∷ xs) zero e = cc
 none_dropped (x ∷ xs) (suc place) e = none_dropped xs place e
 
-pub none_after : (links : List LinkConf) (place : ℕ) (steps : List JournalStep) → slice_get links place ≡ None → waiting (suc place) links steps ≡ []
-none_after links place steps e = ap (λ (z : List LinkConf). link_lines (suc place) z steps) (none_dropped links place e)
-
 -- the next part of what waits, where a line more does
 pub part_shown : (b : Beginning) (acts : List Act) (v : PlantView) (next : ℕ) (links : List LinkConf) (text : List ℕ) → PlantStands b v acts → links ≡ b.links → 0 < next → ShowsPair v next text (λ conf w. link_line conf next w)
     → waiting next links v.journal ≡ text ++ waiting (next + 1) links v.journal
@@ -67,8 +55,4 @@ part_shown b acts v (suc place) links text stands same above shows =
 -- none waits after the last
 pub links_done : {H : Type 0} (view : KindOf H → AppView) (t : Terms) (v : PlantView) (reactions : List ReactionView) (left : List (EntryOf H)) (before after : Told) (count : ℕ) (h : ScriptHeading) (log : List PlantLine) (text : List ℕ) (next most : ℕ) (links : List LinkConf)
     → GivenStands view t v reactions left before after count h log text → links ≡ t.begins.links → most ≡ length v.links → most < next → waiting next links v.journal ≡ []
-links_done view t v reactions left before after count h log text zero most links k same e past = absurd (omega (arith, past))
-links_done view t v reactions left before after count h log text (suc place) most links k same e past =
-    let kept : length v.links ≡ length t.begins.links = same_count v.links (links_made 1 t.bounds t.begins.links) k.fixed ∙ made_count 1 t.bounds t.begins.links in
-    let whole : length links ≡ most = ap length same ∙ sym kept ∙ sym e in
-    none_after links place v.journal (slice_get_past links place (omega arith))
+links_done view t v reactions left before after count h log text next most links k l m n = search (rules, same_count, made_count, none_dropped, slice_get_past)

@@ -1,9 +1,6 @@
 -- A field of a line is no longer than the line.
-use Rattle.plant_run.proofs.Common.{FieldsFit, fields_of, is_space, one_field}
+use Rattle.plant_run.proofs.Common.{All-cons, All-head, All-tail, FieldsFit, Ok, fields_of, is_space, one_field, onto_first}
 use Rattle.std.proofs.Common.{◌≡◌, ℕ, suc, ◌≤◌, Bool, true, false, List, [], ◌∷◌, length, All, refl, subst, arith}
-use Rattle.std.specs.Prelude.{Ok}
-use Rattle.std.specs.List.{onto_first}
-use Rattle.std.proofs.lemmas.List.Elements.{All-cons, All-head, All-tail}
 use Rattle.std.proofs.lemmas.List.Splits.{slice_split-cons_yes, slice_split-cons_no}
 use Rattle.schedule_file.specs.declared.line_buf.TheConstants.{MAX_LINE}
 
@@ -41,5 +38,4 @@ fields_fit line first rest most e =
 
 -- the only field is one of them
 pub one_fits : (fields : List (List ℕ)) (field : List ℕ) → FieldsFit fields → one_field fields ≡ Ok field → length field ≤ MAX_LINE
-one_fits (only ∷ []) field h e = let same : only ≡ field = cc in subst (IsShort MAX_LINE) same (All-head (IsShort MAX_LINE) only [] h)
-one_fits _ field h e = cc
+one_fits fields field h k = grind arith

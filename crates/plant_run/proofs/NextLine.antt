@@ -1,23 +1,19 @@
 -- A plant that runs goes on by a line of its script.
-use Rattle.plant_run.proofs.Common.{Act, App, AppView, AtEnd, Beginning, BoundSpec, ConfView, Ended, EndsStopped, EndsWhole, EntryOf, Event, Fits, Follows, GivenCloses, GivenStands, Happen, HearsLine, IsReportOf, IsSaid, IsTaken, JournalStep, KindOf, Lengths, LineFits, LinkConf, Named, Parcel, PlantLine, PlantStands, PlantView, Plays, PullFrom, ReactionView, RunStands, Said, ScriptHeading, Start, Starts, Taken, TellsOther, Terms, Told, bound_line, bound_lines, ended_with, fixed_in, happening, has_other, heard, heard_before, heard_of, is_tick, is_ticking, journal, last_lines, lengths_in, lengths_kept, lengths_made, line_said, line_step, line_steps, lines_by, links_made, lowest_other, named, no_lines_by, offers, other_line, place_of, plant_reporting, reactions_after, reactions_by, rest_in, said, said_in, said_with, script_format, terms_of, tick_lines, ticks, ticks_text, trace_append, uses, uses_after, waiting, with_line}
-use Rattle.std.proofs.Common.{◌≡◌, ℕ, ◌+◌, ◌≤◌, Bool, true, false, cond, suc, List, [], ◌∷◌, ◌++◌, length, map, All, if◌then◌else◌, refl, sym, ap, ap₂, subst, ◌∙◌, append_assoc, arith, inl, inr}
-use Rattle.std.specs.Prelude.{◌⊎◌, Option, Some, None, codes, decimal, string_bytes}
-use Rattle.std.proofs.lemmas.List.{append-nil, length_push}
-use Rattle.std.proofs.lemmas.List.Sums.{sum_by-append, sum_by-cons}
+use Rattle.plant_run.proofs.Common.{Act, App, AppView, Beginning, BoundSpec, ConfView, Ended, EndsStopped, EndsWhole, EntryOf, Event, Fits, Follows, GivenCloses, GivenStands, HearsLine, IsReportOf, IsSaid, IsTaken, JournalStep, KindOf, Lengths, LineFits, LinkConf, Named, None, Option, Parcel, PlantLine, PlantStands, PlantView, Plays, ReactionView, RunStands, Said, ScriptHeading, Some, Start, Starts, Taken, TellsOther, Terms, Told, bound_line, bound_lines, codes, common_steps, decimal, ended_with, fixed_in, happening, has_other, heard, heard_before, heard_of, is_tick, is_ticking, journal, length_push, lengths_in, lengths_kept, lengths_made, line_said, line_step, line_steps, lines_by, links_made, lowest_other, named, no_lines_by, offers, other_line, place_of, plant_reporting, reactions_after, reactions_by, rest_in, said, said_in, said_with, script_format, string_bytes, terms_of, tick_lines, ticks, ticks_text, trace_append, uses, waiting, with_line}
+use Rattle.std.proofs.Common.{◌≡◌, ℕ, ◌+◌, ◌≤◌, Bool, true, false, cond, suc, List, [], ◌∷◌, ◌++◌, length, map, All, if◌then◌else◌, refl, sym, ap, ap₂, subst, ◌∙◌, append_assoc, arith, rules}
+use Rattle.std.specs.Prelude.{◌⊎◌}
 use Rattle.fb_net.specs.declared.kind_of.KindOf.TheVariants as kind
 use Rattle.plant_run.specs.declared.machine.Rest.TheVariants as rest
 use Rattle.file_run.specs.declared.stopped.Stopped.{Stopped}
 use Rattle.file_run.specs.declared.stopped.Stopped.TheVariants as stopped
-use Rattle.file_run.proofs.EndedWith.{ended_whole}
 use Rattle.plant_conf.specs.Kept.{HasSameLengths}
 use Rattle.plant_model.specs.declared.event.PlantEvent.{PlantEvent}
 use Rattle.plant_model.specs.declared.event.PlantEvent.TheVariants as event
 use Rattle.plant_model.specs.declared.event.PlantLine.TheVariants as line
 use Rattle.plant_model.specs.declared.journal.JournalStep.TheVariants as step
-use Rattle.plant_model.specs.Uses.{Trace, Use}
+use Rattle.plant_model.specs.Uses.{Trace}
 use Rattle.plant_core.proofs.Pulling.{more_uses}
 use Rattle.plant_run.proofs.ScriptFits.{line_fits}
-use Rattle.plant_run.proofs.Scripted.{plant_unmet}
 use Rattle.plant_run.proofs.TakenApps.{app_missing, app_taken}
 use Rattle.plant_run.proofs.TicksText.{After, after_line, in_tick_quiet, lines_quiet, text_after}
 
@@ -33,22 +29,15 @@ abbrev pub one_if : Bool → ℕ
 one_if tick = cond tick 1 0
 
 one_most : (tick : Bool) → one_if tick ≤ 1
-one_most true = omega arith
-one_most false = omega arith
+one_most tick = grind arith
 
 ticks_after : (one : Said) (old new : List JournalStep) → After one old new → ticks new ≡ ticks old + one_if (is_tick (line_step one))
-ticks_after one old new a =
-    let none = ticks_quiet a.rest a.none in
-    let all = ap ticks a.is ∙ sum_by-append (λ x. one_if (is_tick x)) old (line_step one ∷ a.rest) in
-    let first = sum_by-cons (λ x. one_if (is_tick x)) (line_step one) a.rest in
-    omega (arith, none, all, first)
+ticks_after one old new h = grind (arith, common_steps, ticks_quiet)
 
 -- the journal of a plant that went on by a line is the one before, the line, and steps that are none
 played : (t : Terms) (old new : PlantView) (left : List Named) (h : ScriptHeading) (log : List PlantLine) (text : List ℕ) (one : Said) (before after : Told) (k : RunStands t old left h log text) → (p : Plays t.begins k.acts one new before after)
     → After one old.journal new.journal
-played t old new left h log text one before after k p =
-    subst (λ (j : List JournalStep). After one j new.journal) (sym k.stands.has_done.journal_is)
-    (subst (After one (journal t.begins k.acts)) (sym p.stands.has_done.journal_is) (after_line t.begins one p.gifts k.acts))
+played t old new left h log text one before after k p = search (rules, after_line)
 
 -- it stands for the line too, whatever is left of the applications, with the lines of the tick if it is one
 line_stands : (t : Terms) (old new : PlantView) (left next : List Named) (h : ScriptHeading) (log : List PlantLine) (text piece : List ℕ) (event : PlantLine) (one : Said) (before after : Told) (k : RunStands t old left h log text)
@@ -73,11 +62,7 @@ line_stands t old new left next h log text piece event one before after k p says
 -- its channel was used by that too
 used : (b : Beginning) (acts : List Act) (one : Said) (new : PlantView) (before mid after : Told) → Trace (uses b acts) before mid → (p : Plays b acts one new mid after)
     → Trace (uses b (with_line one p.gifts acts)) before after
-used b acts one new before mid after h p =
-    let more : List Act = with_line one p.gifts [] in
-    let whole = ap (uses b) (sym (append_assoc (map PullFrom p.gifts) (Happen one ∷ []) acts)) ∙ more_uses b more acts [] ∙ ap (λ (done : List Act). uses_after b acts [] ++ uses_after b more done) (append-nil acts) in
-    subst (λ (all : List Use). Trace all before after) (sym whole)
-    (trace_append (uses b acts) (uses_after b more acts) before mid after h p.channel)
+used b acts one new before mid after h p = grind (arith, common_steps, more_uses, trace_append)
 
 -- what is heard of bounds with a line
 line_heard : (b : Beginning) (one : Said) (gifts : List (Option Parcel)) (done now : List Act) (bounds : List BoundSpec) → let new : List Act = with_line one gifts done in
@@ -150,28 +135,20 @@ begun view conf app spare v reactions before after h starts fixed watched all le
       few = omega arith;
     }
 
--- an event of the script that is no tick
-pub no_tick : (e : PlantEvent) → (e ≡ event.Tick → ⊥) → is_tick (step.Script e) ≡ false
-no_tick event.Tick other = absurd (other refl)
-no_tick _ other = refl
-
 -- so the number of ticks stays
 pub same_count : (e : PlantEvent) (count : ℕ) → (e ≡ event.Tick → ⊥) → count ≡ count + one_if (is_tick (step.Script e))
-same_count e count other = let none = ap one_if (no_tick e other) in omega (arith, none)
+same_count e count h = grind arith
 
 -- where no line comes next, none waits
 pub nothing_written : (text : List ℕ) → text ≡ [] → text ++ [] ≡ []
 nothing_written text is = ap (λ (z : List ℕ). z ++ []) is
 
 pub nothing_at : (e : PlantEvent) (count : ℕ) (all : List LinkConf) (steps : List JournalStep) (text : List ℕ) → (e ≡ event.Tick → ⊥) → text ≡ [] → text ++ [] ≡ written_at (Event e) count all steps
-nothing_at e count all steps text other is =
-    nothing_written text is
-    ∙ sym (ap (λ (tick : Bool). if tick then (codes "tick" ++ codes " " ++ decimal count ++ codes "\n") ++ waiting 1 all steps else []) (no_tick e other))
+nothing_at e count all steps text h k = grind arith
 
 -- the line of an event
 says_step : (event : PlantLine) (e : PlantEvent) → happening event ≡ Some (line.Step e) → event ≡ line.Step e
-says_step (line.Step f) e is = cc
-says_step _ e is = cc
+says_step event e h = grind arith
 
 -- it fits the connections of the plant
 pub step_fits : {H : Type 0} (view : KindOf H → AppView) (t : Terms) (v : PlantView) (reactions : List ReactionView) (left : List (EntryOf H)) (before after : Told) (count : ℕ) (h : ScriptHeading) (log : List PlantLine) (text : List ℕ) (e : PlantEvent)
@@ -199,13 +176,8 @@ pub goes_step : {H : Type 0} (view : KindOf H → AppView) (t : Terms) (old new 
 goes_step view t old new old_reactions new_reactions left before mid after count now h log text piece event e is k follows fixed hears counts written =
     goes_on view t old new old_reactions new_reactions left left before mid after count now h log text piece event (Event e) k follows fixed hears (λ more. ap (λ (first : PlantLine). said (map (named view) left) (first ∷ more)) is) counts written
 
--- the lowest connection with an other entry is none before the first
-lowest_one : (k n : ℕ) → Some k ≡ Some n → k ≤ n
-lowest_one k n is = let same : k ≡ n = cc in omega (arith, same)
-
 lowest_by : (b : Bool) (k : ℕ) (rest : Option ℕ) (n : ℕ) → (rest ≡ Some n → suc k ≤ n) → (if b then Some k else rest) ≡ Some n → k ≤ n
-lowest_by true k rest n above is = lowest_one k n is
-lowest_by false k rest n above is = let more = above is in omega (arith, more)
+lowest_by b k rest n h l = grind arith
 
 lowest_from : (k : ℕ) (links : List LinkConf) (steps : List JournalStep) (n : ℕ) → lowest_other k links steps ≡ Some n → k ≤ n
 lowest_from k [] steps n is = cc
@@ -213,18 +185,13 @@ lowest_from k (link ∷ links) steps n is = lowest_by (has_other link k steps) k
 
 pub other_ends : {H : Type 0} (view : KindOf H → AppView) (t : Terms) (v : PlantView) (reactions : List ReactionView) (left : List (EntryOf H)) (before after : Told) (count : ℕ) (h : ScriptHeading) (log : List PlantLine) (text : List ℕ) (other : Option ℕ)
     → GivenStands view t v reactions left before after count h log text → TellsOther v other → EndsWhole true (ended_with other).status (ended_with other).place
-other_ends view t v reactions left before after count h log text other k told =
-    ended_whole other (λ n is. lowest_from 1 t.begins.links v.journal n (sym (told.tells t.begins k.runs.acts k.runs.stands) ∙ is))
+other_ends view t v reactions left before after count h log text other k l = search (rules, lowest_from)
 
 -- an application isn't taken: there is none of its name, or no memory
 pub app_stopped : {H : Type 0} (view : KindOf H → AppView) (t : Terms) (v : PlantView) (reactions : List ReactionView) (all : List (EntryOf H)) (before after : Told) (count : ℕ) (h : ScriptHeading) (log : List PlantLine) (text name : List ℕ) (event : PlantLine) (why : Stopped)
     → event ≡ line.App name → GivenStands view t v reactions all before after count h log text → (why ≡ stopped.Memory) ⊎ ((why ≡ stopped.NoApp) × (place_of name (map (λ e. string_bytes e.name) all) ≡ None))
     → EndsStopped (plant_reporting t) h log text event why
-app_stopped view t v reactions all before after count h log text name event why is k cause =
-    elim cause [
-      | inl memory ↦ rw memory refl
-      | inr none ↦ rw (none.0, is) (plant_unmet t v (map (named view) all) h log text name (app_missing view name all none.1) k.runs)
-    ]
+app_stopped view t v reactions all before after count h log text name event why k l m = grind (arith, common_steps, app_missing)
 
 -- the lines of bounds are those by their reactions
 lines_are : (b : Beginning) (acts : List Act) (bounds : List BoundSpec) → lines_by b.links (journal b acts) bounds (reactions_after b acts bounds) ≡ bound_lines b acts bounds
@@ -263,10 +230,4 @@ closed view t v reactions left before after count h log text other piece conf en
 -- what it has closed with is the report of its journal, and of any acts with the same reactions
 pub reported : {H : Type 0} (view : KindOf H → AppView) (t : Terms) (v : PlantView) (reactions : List ReactionView) (left : List (EntryOf H)) (h : ScriptHeading) (log : List PlantLine) (text : List ℕ) (ended : Ended) (acts : List Act)
     → v.journal ≡ journal t.begins acts → reactions ≡ reactions_after t.begins acts t.bounds → GivenCloses view t v reactions left h log text ended → IsReportOf t acts v.journal h log text ended
-reported view t v reactions left h log text ended acts journal_is watched k =
-    let own : v.journal ≡ journal t.begins k.closes.stands.acts = k.closes.stands.stands.has_done.journal_is in
-    let lines = same_lines t.begins k.closes.stands.acts acts t.bounds reactions k.watched watched (sym own ∙ journal_is) in (
-      k.closes.text_is
-          ∙ ap₂ (λ (ticks lines : List ℕ). ticks ++ last_lines t.begins.links v.journal lines AtEnd) k.closes.stands.text_is lines,
-      k.closes.ended_is,
-    )
+reported view t v reactions left h log text ended acts k l m = search (rules, same_lines)

@@ -1,13 +1,10 @@
 -- What a run over a script leaves is what a plant did.
-use Rattle.plant_run.proofs.Common.{Act, AppView, Ended, EntryOf, GivenStands, IsReportOf, KindOf, Lengths, LinkConf, PlantLine, PlantView, RanOver, RanPlant, ReactionView, Reporting, ScriptHeading, Terms, Told, journal, link_at, plant_reporting, reactions_after, said, said_in}
-use Rattle.std.proofs.Common.{◌≡◌, ℕ, List, [], Option, Some, None, refl, sym, ap, subst, ◌∙◌, inl, inr}
-use Rattle.std.specs.Prelude.{IfSome}
-use Rattle.std.proofs.lemmas.List.{append-nil}
+use Rattle.plant_run.proofs.Common.{Act, AppView, Ended, EntryOf, GivenStands, IfSome, IsReportOf, KindOf, Lengths, LinkConf, PlantLine, PlantView, RanOver, RanPlant, ReactionView, Reporting, ScriptHeading, Terms, Told, append-nil, journal, link_at, plant_reporting, reactions_after, said, said_in}
+use Rattle.std.proofs.Common.{◌≡◌, ℕ, List, [], Option, Some, None, refl, sym, ap, subst, ◌∙◌, inl, inr, arith}
 use Rattle.std.specs.List.{IsDistinct}
 use Rattle.fsoe_io.specs.declared.status.Status.{Status}
-use Rattle.fsoe_io.specs.declared.status.Status.TheVariants as status
 use Rattle.exchange_model.specs.Fair.{Fair}
-use Rattle.file_run.specs.Left.{Done, LeavesAs, MayFailIn}
+use Rattle.file_run.specs.Left.{Done, LeavesAs}
 use Rattle.file_run.specs.Running.{Leaves}
 use Rattle.file_run.specs.Outside.{Outside}
 use Rattle.plant_model.specs.FairPairs.{PairsAreFair}
@@ -21,19 +18,9 @@ Closing = ScriptHeading → List PlantLine → List ℕ → Ended → Type 0
 abbrev Closer : Closing → Closing → Type 0
 Closer one two = (h : ScriptHeading) (log : List PlantLine) (text : List ℕ) (e : Ended) → one h log text e → two h log text e
 
-may_fail : (t : Terms) (one two : Closing) → Closer one two → (d : Done ScriptHeading PlantLine) (whole : List ℕ) (told : Option (List ℕ)) → MayFailIn (plant_reporting t).format one d whole told → MayFailIn (plant_reporting t).format two d whole told
-may_fail t one two f d whole told may =
-    elim may [
-      | inl text ↦ inl text
-      | inr later ↦ inr (elim later [ inl refused ↦ inl refused | inr closed ↦ inr (closed.0, f d.heading d.log whole closed.0 closed.1, closed.2) ])
-    ]
-
 -- what a run leaves by one closing it leaves by the other
 leaves_as : (t : Terms) (one two : Closing) → Closer one two → (d : Done ScriptHeading PlantLine) (s : Status) (ended : Ended) (o : Outside) → LeavesAs (plant_reporting t) one d s ended o → LeavesAs (plant_reporting t) two d s ended o
-leaves_as t one two f d status.Ok ended o l = record { input = l.input; report = l.report; closed = f d.heading d.log l.report ended l.closed; wrote = l.wrote }
-leaves_as t one two f d status.Other ended o l = record { input = l.input; report = l.report; closed = f d.heading d.log l.report ended l.closed; wrote = l.wrote }
-leaves_as t one two f d status.Write ended o l = record { whole = l.whole; within = may_fail t one two f d l.whole o.source.before l.within; wrote = l.wrote; last = l.last }
-leaves_as t one two f d _ ended o l = l
+leaves_as t one two h d s ended o k = grind arith
 
 -- a plant stood for these lines
 pub record Stood {H : Type 0} (view : KindOf H → AppView) (t : Terms) (v : PlantView) (reactions : List ReactionView) (left : List (EntryOf H)) (before after : Told) (h : ScriptHeading) (log : List PlantLine) (text : List ℕ) : Type 0 where
@@ -88,8 +75,4 @@ ran_plant view t v ended o before after reactions left unbegun stands closes ran
 -- what holds by either way in which a run leaves what was handed
 pub left_so : {P H L E : Type 0} (r : Reporting H L E) (ended : Ended) (o : Outside) (unbegun : Type 0) (stands : H → List E → List ℕ → Type 0) (closes : H → List E → List ℕ → Ended → Type 0) → Leaves unbegun r stands closes ended o → (unbegun → P)
     → ((h : H) (log : List E) (text : List ℕ) → stands h log text → P) → P
-left_so r ended o unbegun stands closes leaves none some =
-    elim leaves [
-      | inl left ↦ none left.0
-      | inr did ↦ some did.done.heading did.done.log did.done.text did.stood
-    ]
+left_so r ended o unbegun stands closes k l m = grind arith

@@ -1,10 +1,7 @@
 -- The event of a script's line fits the connections.
-use Rattle.plant_run.proofs.Common.{Lengths, LineFits, PlantLine, bytes_said, fields_of, is_number, lengths_at, next_field, no_field, number_16, one_field, value_or}
-use Rattle.std.proofs.Common.{◌≡◌, ℕ, ◌≤◌, Bool, true, false, List, [], ◌∷◌, length, refl, sym, subst}
-use Rattle.std.specs.Prelude.{IfOk, IsSome, IsSomeAnd, Option, Some, None, Ok, Err, ◌==◌, ◌&&◌, nat_le, if◌then◌else◌}
-use Rattle.std.specs.Str.Parse.{digits_value}
-use Rattle.std.proofs.lemmas.Bool.{and_parts, eqb-true, leb-true}
-use Rattle.std.proofs.lemmas.Result.{IfOk-at_ok}
+use Rattle.plant_run.proofs.Common.{Err, IfOk, IfOk-at_ok, IsSome, IsSomeAnd, Lengths, LineFits, None, Ok, Option, PlantLine, Some, bytes_said, eqb-true, fields_of, lengths_at, next_field, no_field, number_16, one_field, value_or}
+use Rattle.std.proofs.Common.{◌≡◌, ℕ, ◌≤◌, Bool, true, false, List, [], ◌∷◌, length, refl, sym, subst, arith}
+use Rattle.std.specs.Prelude.{◌==◌, if◌then◌else◌}
 use Rattle.fsoe_base.specs.LengthsOf.{length_of}
 use Rattle.fsoe_base.specs.declared.command.End.TheVariants as side
 use Rattle.fsoe_base.specs.declared.lengths.TheConstants.{MOST_DATA}
@@ -23,21 +20,13 @@ ok_if false x why P h = tt
 
 -- lengths that exist stand at their place
 exists : (o : Option Lengths) → IfOk (value_or cause.NoLink o) (λ ends. o ≡ Some ends)
-exists (Some ends) = refl
-exists None = tt
+exists o = grind arith
 
 is_some_by : (o : Option Lengths) (ends : Lengths) → o ≡ Some ends → IsSome o
 is_some_by o ends is = rw is refl
 
--- a number of 16 bits
-within_if : (b : Bool) (n : ℕ) → (b ≡ true → n ≤ 65535) → IfOk (value_or cause.Number (if b then Some n else None)) (λ n. n ≤ 65535)
-within_if true n le = le refl
-within_if false n le = tt
-
 number_within : (text : List ℕ) → IfOk (number_16 text) (λ n. n ≤ 65535)
-number_within text =
-    within_if (is_number text && nat_le (digits_value 10 text) 65535) (digits_value 10 text)
-    (λ e. leb-true (digits_value 10 text) 65535 (and_parts (is_number text) (nat_le (digits_value 10 text) 65535) e).1)
+number_within text = grind arith
 
 put_fits : (lengths : List Lengths) (fields : List (List ℕ)) → IfOk (put_line lengths fields) (LineFits lengths)
 put_fits lengths fields =

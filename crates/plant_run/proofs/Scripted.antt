@@ -1,10 +1,7 @@
 -- What a plant reports of its script, as far as it ran.
-use Rattle.plant_run.proofs.Common.{Act, AtEnd, Beginning, Ended, EndsReport, EndsUnmet, IsPast, IsPrefix, JournalStep, LinkConf, Named, NoApp, Parcel, PlantLine, PlantReports, PlantView, Refused, ReportsSoFar, RunCloses, RunStands, Said, Script, ScriptHeading, Start, Stop, Terms, bound_lines, input_read, input_stopped, is_tick, journal, journal_after, last_lines, lengths_in, line_said, line_step, plant_reporting, pulls_after, refused_line, report_end, report_text, run_stop, said, said_in, script_format, take_app, tick_lines, ticks_text, with_line}
-use Rattle.std.proofs.Common.{◌≡◌, ℕ, ◌+◌, Bool, true, false, List, [], ◌∷◌, ◌++◌, length, map, if◌then◌else◌, refl, sym, ap, subst, ◌∙◌, append_assoc, arith, eq-eqb}
-use Rattle.std.specs.Prelude.{Option, None}
-use Rattle.std.proofs.lemmas.Bool.{ne_eqb}
-use Rattle.std.proofs.lemmas.List.{append-nil, length-append}
-use Rattle.plant_model.specs.declared.event.PlantLine.TheVariants as line
+use Rattle.plant_run.proofs.Common.{Act, Beginning, Ended, EndsReport, IsPast, IsPrefix, JournalStep, LinkConf, Named, None, Option, Parcel, PlantLine, PlantReports, PlantView, ReportsSoFar, RunCloses, RunStands, Said, Script, ScriptHeading, Start, Terms, append-nil, bound_lines, input_stopped, is_tick, journal, journal_after, last_lines, lengths_in, line_said, line_step, plant_reporting, pulls_after, report_end, report_text, run_stop, said, said_in, script_format, tick_lines, ticks_text, with_line}
+use Rattle.schedule_file.specs.Input.{AtEnd, NoApp, Refused, Stop, input_read}
+use Rattle.std.proofs.Common.{◌≡◌, ℕ, ◌+◌, Bool, true, false, List, [], ◌∷◌, ◌++◌, length, map, if◌then◌else◌, refl, sym, ap, subst, ◌∙◌, append_assoc, eq-eqb}
 use Rattle.plant_run.proofs.TicksText.{after_line, text_after}
 
 -- lines at which nothing was pulled
@@ -50,10 +47,6 @@ quiet_begins b (one ∷ more) acts =
 -- where all lines happened, a run stops as its script does
 stops_with : (happened : ℕ) (script : Script) → happened ≡ length script.events → run_stop happened script ≡ script.stop
 stops_with happened script all = ap (λ (whole : Bool). if whole then script.stop else Refused (script.lines + happened + 1) NoApp) (eq-eqb happened (length script.events) all)
-
--- else at the first that didn't
-stops_before : (happened : ℕ) (script : Script) → (happened ≡ length script.events → ⊥) → run_stop happened script ≡ Refused (script.lines + happened + 1) NoApp
-stops_before happened script fewer = ap (λ (whole : Bool). if whole then script.stop else Refused (script.lines + happened + 1) NoApp) (ne_eqb happened (length script.events) fewer)
 
 -- each script has a report
 some_report : (t : Terms) (script : Script) → (report : List ℕ) × (ended : Ended) × PlantReports t script ended report
@@ -116,27 +109,6 @@ plant_so_far t v left h log text k = record {
       );
   refused = λ lines number why. reports_stopped t v left h log text lines (Refused number why) k;
 }
-
--- no application of the name that the next line names is left
-pub plant_unmet : (t : Terms) (v : PlantView) (left : List Named) (h : ScriptHeading) (log : List PlantLine) (text name : List ℕ) → take_app name left ≡ None → RunStands t v left h log text
-    → EndsUnmet (plant_reporting t) h log text (line.App name) NoApp
-plant_unmet t v left h log text name none k = λ lines more stop.
-    let links : List LinkConf = t.begins.links in
-    let script : Script = input_stopped h lines ((log ++ line.App name ∷ []) ++ more) stop in
-    let steps : List JournalStep = journal t.begins k.acts in
-    let longer : (log ++ line.App name ∷ []) ++ more ≡ log ++ line.App name ∷ more = append_assoc log (line.App name ∷ []) more in
-    let unsaid : said left (line.App name ∷ more) ≡ [] = rw none refl in
-    let fewer : length (said_in k.acts) ≡ length script.events → ⊥ =
-    λ same. let all = ap (length {A = PlantLine}) longer in omega (arith, same, all, k.whole, length-append log (line.App name ∷ more)) in
-    let stops : run_stop (length (said_in k.acts)) script ≡ Refused (lines + length log + 1) NoApp =
-    stops_before (length (said_in k.acts)) script fewer ∙ ap (λ (n : ℕ). Refused (lines + n + 1) NoApp) k.whole in (
-      k.acts,
-      k.stands.may.past,
-      sym (ap (said t.spare) longer ∙ k.says (line.App name ∷ more) ∙ ap (λ (z : List Said). said_in k.acts ++ z) unsaid ∙ append-nil (said_in k.acts)),
-      ap (λ (z : List ℕ). z ++ refused_line (lines + length log + 1) NoApp) (k.text_is ∙ ap (ticks_text links) k.stands.has_done.journal_is)
-          ∙ ap (report_text links steps (bound_lines t.begins k.acts t.bounds)) (sym stops),
-      ap (report_end links steps) (sym stops),
-    )
 
 -- the whole report
 pub plant_ends : (t : Terms) (v : PlantView) (left : List Named) (h : ScriptHeading) (log : List PlantLine) (text : List ℕ) (ended : Ended) → RunCloses t v left h log text ended → EndsReport (plant_reporting t) h log text ended

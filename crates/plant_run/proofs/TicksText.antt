@@ -1,7 +1,6 @@
 -- The lines of the ticks of a journal that grows by a line of the script.
-use Rattle.plant_run.proofs.Common.{Act, App, Beginning, Event, Happen, JournalStep, LinkConf, Parcel, PullFrom, Said, in_tick, is_line, is_tick, journal, line_step, line_steps, lines_append, lines_due, lines_from, no_lines_by, no_lines_pulled, offers, tick_lines, ticks_text, with_line}
-use Rattle.std.proofs.Common.{◌≡◌, ℕ, Bool, true, false, List, [], ◌∷◌, ◌++◌, Option, Some, None, if◌then◌else◌, refl, sym, ap, ◌∙◌, append_assoc}
-use Rattle.std.proofs.lemmas.List.{append-nil}
+use Rattle.plant_run.proofs.Common.{Act, Beginning, Happen, JournalStep, LinkConf, Parcel, PullFrom, Said, append-nil, in_tick, is_line, is_tick, journal, line_step, line_steps, lines_append, lines_due, lines_from, no_lines_by, no_lines_pulled, offers, tick_lines, ticks_text, with_line}
+use Rattle.std.proofs.Common.{◌≡◌, ℕ, Bool, true, false, List, [], ◌∷◌, ◌++◌, Option, Some, None, if◌then◌else◌, refl, sym, ap, ◌∙◌, append_assoc, arith}
 use Rattle.plant_model.specs.declared.journal.JournalStep.TheVariants as step
 
 -- the lines go on after a line of the script
@@ -42,8 +41,7 @@ pub record After (said : Said) (old new : List JournalStep) : Type 0 where
   pub none : line_steps rest ≡ []
 
 line_is : (said : Said) → is_line (line_step said) ≡ true
-line_is (Event e) = refl
-line_is (App app) = refl
+line_is said = grind arith
 
 -- then its text is that of the other, and the lines of the tick, where the line is one
 pub text_after : (links : List LinkConf) (said : Said) (old new : List JournalStep) → After said old new → ticks_text links new ≡ ticks_text links old ++ (if is_tick (line_step said) then tick_lines links new else [])

@@ -1,65 +1,28 @@
 -- The reactions of a plant's bounds are told of each line of its script.
-use Rattle.plant_run.proofs.Common.{Act, Beginning, BoundSpec, Hears, HearsLine, HearsOne, JournalStep, LinkConf, PlantStands, PlantView, Quiet, ReactionView, ShowsOn, TellsStill, Tick, heard, is_driven, limit_by, limit_of, link_at, reactions_by, view_of}
-use Rattle.std.proofs.Common.{◌≡◌, ◌≤◌, ◌+◌, ◌*◌, ℕ, Bool, true, false, List, ◌∷◌, take, map, length, slice_get, slice_set, Option, Some, None, option_map, refl, sym, ap, ap₂, subst, ◌∙◌, arith}
-use Rattle.std.specs.Option.{option_map_or}
+use Rattle.plant_run.proofs.Common.{Act, Beginning, BoundSpec, Hears, HearsLine, HearsOne, LinkConf, PlantStands, PlantView, Quiet, ReactionView, ShowsOn, TellsStill, Tick, heard, limit_of, link_at, reactions_by, slice_get-map, slice_get_within, take_all, view_of}
+use Rattle.std.proofs.Common.{◌≡◌, ◌≤◌, ◌+◌, ◌*◌, ℕ, Bool, true, false, List, take, map, length, slice_get, slice_set, Some, None, option_map, refl, sym, ap, ◌∙◌, arith}
 use Rattle.std.proofs.Math.ListN.{length-set}
-use Rattle.std.proofs.lemmas.List.{take_all}
-use Rattle.std.proofs.lemmas.Option.{slice_get_within, slice_get-map}
 use Rattle.reaction_bound.specs.Reaction as reaction
 use Rattle.multi_master.proofs.Looping.{Untouched, next_taken, untouched_more, written_more}
-use Rattle.plant_model.specs.Bound.{is_on}
-
-limit_cases : (o p : Option LinkConf) (a b : Option ℕ) → a ≡ option_map (λ (l : LinkConf). l.master.watchdog) o → b ≡ option_map (λ (l : LinkConf). l.master.watchdog) p → (m n : ℕ) → a ≡ Some m → b ≡ Some n → 2 * m + 2 * n ≡ limit_by o p
-limit_cases None p a b e f m n g h = absurd (cc (e, g))
-limit_cases (Some l) None a b e f m n g h = absurd (cc (f, h))
-limit_cases (Some l) (Some k) a b e f m n g h =
-    let first : m ≡ l.master.watchdog = cc in
-    let second : n ≡ k.master.watchdog = cc in
-    ap₂ (λ (x y : ℕ). 2 * x + 2 * y) first second
 
 -- the limit of a bound whose connections there are
 pub limit_both : (links : List LinkConf) (bound : BoundSpec) (m n : ℕ) → Some m ≡ option_map (λ l. l.master.watchdog) (link_at links bound.estop.link) → Some n ≡ option_map (λ l. l.master.watchdog) (link_at links bound.drive.link)
     → 2 * m + 2 * n ≡ limit_of links bound
-limit_both links bound m n e f = limit_cases (link_at links bound.estop.link) (link_at links bound.drive.link) (Some m) (Some n) e f m n refl refl
-
-none_first : (o p : Option LinkConf) → None ≡ option_map (λ (l : LinkConf). l.master.watchdog) o → 0 ≡ limit_by o p
-none_first None p e = refl
-none_first (Some l) p e = absurd (cc e)
-
-none_second : (o p : Option LinkConf) → None ≡ option_map (λ (l : LinkConf). l.master.watchdog) p → 0 ≡ limit_by o p
-none_second (Some l) (Some k) e = absurd (cc e)
-none_second _ _ e = refl
+limit_both links bound m n h k = grind arith
 
 -- that of one without its e-stop's connection, and of one without its drive's
 pub limit_none : (links : List LinkConf) (bound : BoundSpec) → None ≡ option_map (λ l. l.master.watchdog) (link_at links bound.estop.link) → 0 ≡ limit_of links bound
-limit_none links bound e = none_first (link_at links bound.estop.link) (link_at links bound.drive.link) e
+limit_none links bound h = grind arith
 
 pub limit_less : (links : List LinkConf) (bound : BoundSpec) → None ≡ option_map (λ l. l.master.watchdog) (link_at links bound.drive.link) → 0 ≡ limit_of links bound
-limit_less links bound e = none_second (link_at links bound.estop.link) (link_at links bound.drive.link) e
-
--- what is shown of the drive's bit says whether the drive is on
-driven : (b : Beginning) (v : PlantView) (acts : List Act) (bound : BoundSpec) (on : Bool) → PlantStands b v acts → ShowsOn v bound.drive on → on ≡ is_driven b bound acts
-driven b v acts bound on h s =
-    s.shows b acts h
-    ∙ ap (λ (j : List JournalStep). option_map_or (λ drive. is_on bound drive j) (link_at b.links bound.drive.link) false) h.has_done.journal_is
+limit_less links bound h = grind arith
 
 pub tick_heard : (v : PlantView) (bound : BoundSpec) (tick : Bool) (old mid new : ReactionView) (on still : Bool) → ShowsOn v bound.drive on → Hears old (Tick on) mid → TellsStill v bound still → Hears mid (Quiet still) new → tick ≡ true
     → HearsOne v bound tick old new
-tick_heard v bound tick old mid new on still s ticks tells quiet e =
-    subst (λ (z : Bool). HearsOne v bound z old new) (sym e)
-    (record {
-      hears = λ b acts before h is.
-          quiet.hears (limit_of b.links bound) (Tick on ∷ before) (ticks.hears (limit_of b.links bound) before is)
-          ∙ ap₂ (λ (q o : Bool). view_of (limit_of b.links bound) (Quiet q ∷ Tick o ∷ before)) (tells.tells b acts h) (driven b v acts bound on h s);
-    })
+tick_heard v bound tick old mid new on still h k l m n = grind arith
 
 pub other_heard : (v : PlantView) (bound : BoundSpec) (tick : Bool) (old new : ReactionView) (still : Bool) → TellsStill v bound still → Hears old (Quiet still) new → tick ≡ false → HearsOne v bound tick old new
-other_heard v bound tick old new still tells quiet e =
-    subst (λ (z : Bool). HearsOne v bound z old new) (sym e)
-    (record {
-      hears = λ b acts before h is.
-          quiet.hears (limit_of b.links bound) before is ∙ ap (λ (q : Bool). view_of (limit_of b.links bound) (Quiet q ∷ before)) (tells.tells b acts h);
-    })
+other_heard v bound tick old new still h k l = grind arith
 
 -- what a reaction of a bound was told with a line
 abbrev told_with : Beginning → Bool → List Act → (BoundSpec → List reaction.Heard) → BoundSpec → ReactionView

@@ -1,45 +1,33 @@
 -- Slots of a plan without a fault lie inside the output image, and share no byte of it.
-use Rattle.process_image.proofs.Common.{Place, Plan, first_fault, first_outside, first_pair, first_with, lie_inside, outside_or, overlap, pair_or, share, spans_of}
-use Rattle.std.proofs.Common.{◌≡◌, ◌≤◌, ◌⊎◌, ℕ, ◌+◌, ◌&&◌, ◌||◌, List, [], ◌∷◌, length, Option, Some, None, Bool, true, false, nat_lt, nat_le, if◌then◌else◌, refl, arith}
-use Rattle.std.proofs.lemmas.Bool.Decides.{nat_tests}
+use Rattle.process_image.proofs.Common.{Place, Plan, first_fault, first_outside, first_pair, first_with, lie_inside, overlap, pair_or, share, spans_of}
+use Rattle.std.proofs.Common.{◌≡◌, ◌≤◌, ◌⊎◌, ℕ, ◌+◌, ◌&&◌, ◌||◌, List, [], ◌∷◌, length, Option, Some, None, Bool, true, false, nat_lt, nat_le, if◌then◌else◌, arith, rules}
 use Rattle.process_image.specs.declared.fault.SlotFault.{SlotFault}
-use Rattle.process_image.specs.declared.fault.SlotFault.TheVariants as fault
 use Rattle.process_image.proofs.Giving.{len_at, AwayFrom, AreApart}
 
 -- a test that is followed by no fault
 chosen : {A : Type 0} (b : Bool) (x : A) (rest : Option A) → (if b then Some x else rest) ≡ None → (b ≡ false) × (rest ≡ None)
-chosen true x rest h = absurd (cc h)
-chosen false x rest h = (refl, h)
+chosen b x rest h = grind arith
 
 passed : {A : Type 0} (b : Bool) (x : A) (rest : Option A) → (if b then rest else Some x) ≡ None → (b ≡ true) × (rest ≡ None)
-passed true x rest h = (refl, h)
-passed false x rest h = absurd (cc h)
-
-no-outside : (o : Option ℕ) (later : Option SlotFault) → outside_or o later ≡ None → (o ≡ None) × (later ≡ None)
-no-outside None later h = (refl, h)
-no-outside (Some n) later h = absurd (cc h)
+passed b x rest h = grind arith
 
 no-pair : (a : ℕ) (o : Option ℕ) (later : Option SlotFault) → pair_or a o later ≡ None → (o ≡ None) × (later ≡ None)
-no-pair a None later h = (refl, h)
-no-pair a (Some b) later h = absurd (cc h)
+no-pair a o later h = grind arith
 
 second-true : (a b : Bool) → (a && b) ≡ true → b ≡ true
-second-true true b h = h
-second-true false b h = absurd (cc h)
+second-true a b h = grind arith
 
 first-true : (a b : Bool) → (a && b) ≡ true → a ≡ true
-first-true true b h = refl
-first-true false b h = absurd (cc h)
+first-true a b h = grind arith
 
 second-false : (a b : Bool) → (a || b) ≡ false → b ≡ false
-second-false true b h = absurd (cc h)
-second-false false b h = h
+second-false a b h = grind arith
 
 inside-out : (n size : ℕ) → nat_le n size ≡ true → n ≤ size
-inside-out n size h = grind (arith, nat_tests)
+inside-out n size h = grind arith
 
 away : (a la b lb : ℕ) → (nat_lt a (b + lb) && nat_lt b (a + la)) ≡ false → (a + la ≤ b) ⊎ (b + lb ≤ a)
-away a la b lb h = grind (arith, nat_tests)
+away a la b lb h = grind arith
 
 away-all : (p : Place) (places : List Place) → first_with (spans_of p) places ≡ None → AwayFrom p places
 away-all p [] h = tt
@@ -58,10 +46,7 @@ apart size_in size_out (p ∷ places) h i =
     )
 
 pub plan_apart : (plan : Plan) → first_fault plan ≡ None → AreApart plan.size_out plan.places
-plan_apart plan h =
-    let c = chosen (nat_lt 64 (length plan.places)) fault.TooMany (outside_or (first_outside plan.size_in plan.size_out plan.places) (first_pair plan.places)) h in
-    let d = no-outside (first_outside plan.size_in plan.size_out plan.places) (first_pair plan.places) c.1 in
-    apart plan.size_in plan.size_out plan.places d.0 d.1
+plan_apart plan h = search (rules, apart)
 
 -- the frames of each slot lie inside both images
 abbrev pub AreInside : ℕ → ℕ → List Place → Type 0
@@ -80,14 +65,7 @@ inside-all size_in size_out (p ∷ places) h =
     )
 
 pub plan_inside : (plan : Plan) → first_fault plan ≡ None → AreInside plan.size_in plan.size_out plan.places
-plan_inside plan h =
-    let c = chosen (nat_lt 64 (length plan.places)) fault.TooMany (outside_or (first_outside plan.size_in plan.size_out plan.places) (first_pair plan.places)) h in
-    inside-all plan.size_in plan.size_out plan.places (no-outside (first_outside plan.size_in plan.size_out plan.places) (first_pair plan.places) c.1).0
-
--- there are at most 64
-few : (n : ℕ) → nat_lt 64 n ≡ false → n ≤ 64
-few n h = grind (arith, nat_tests)
+plan_inside plan h = search (rules, inside-all)
 
 pub few_places : (plan : Plan) → first_fault plan ≡ None → length plan.places ≤ 64
-few_places plan h =
-    few (length plan.places) (chosen (nat_lt 64 (length plan.places)) fault.TooMany (outside_or (first_outside plan.size_in plan.size_out plan.places) (first_pair plan.places)) h).0
+few_places plan h = grind arith

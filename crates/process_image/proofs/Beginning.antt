@@ -1,11 +1,7 @@
 -- Images that were just made.
-use Rattle.process_image.proofs.Common.{AreNumbered, ImagesView, IsNew, IsNewSeat, IsSeatOf, IsSound, IsSoundSeat, Place, Seat, Setup, Slot, StandsFor, bytes_at, first_fault, frame_len, frame_of, is_length, places_from, plan_of, receives, sends, setup_of, with_bytes, with_frames}
-use Rattle.std.proofs.Common.{◌≡◌, ◌≤◌, ℕ, zero, suc, ◌+◌, ◌-◌, List, [], ◌∷◌, ◌++◌, map, length, take, drop, replicate, All, None, IsTrue, refl, sym, ap, ap₂, ◌∙◌, arith, inl, inr}
-use Rattle.std.specs.List.{AllZip}
+use Rattle.process_image.proofs.Common.{All-cons, All-head, All-nil, All-tail, AllZip, AreNumbered, ImagesView, IsNew, IsNewSeat, IsSeatOf, IsSound, IsSoundSeat, Place, Seat, Setup, Slot, StandsFor, bytes_at, first_fault, frame_len, frame_of, is_length, length-replicate, nat_tests, places_from, plan_of, receives, sends, setup_of, with_bytes, with_frames}
+use Rattle.std.proofs.Common.{◌≡◌, ◌≤◌, ℕ, zero, suc, ◌+◌, ◌-◌, List, [], ◌∷◌, ◌++◌, map, length, take, drop, replicate, All, None, IsTrue, refl, sym, ap, ap₂, ◌∙◌, arith, inl, inr, rules}
 use Rattle.std.proofs.lemmas.Bool.{cases_eq}
-use Rattle.std.proofs.lemmas.Bool.Decides.{nat_tests}
-use Rattle.std.proofs.lemmas.List.{length-replicate}
-use Rattle.std.proofs.lemmas.List.Elements.{All-head, All-tail, All-nil, All-cons}
 use Rattle.process_image.proofs.Apart.{AreInside, plan_inside, few_places}
 use Rattle.process_image.proofs.Faults.{places_count}
 use Rattle.process_image.proofs.Giving.{len_at}
@@ -30,19 +26,10 @@ append-zeros zero m = let e : m ≡ 0 + m = omega arith in ap (λ (k : ℕ). rep
 append-zeros (suc n) m = let e : suc (n + m) ≡ suc n + m = omega arith in ap (λ (zs : List ℕ). 0 ∷ zs) (append-zeros n m) ∙ ap (λ (k : ℕ). replicate k 0) e
 
 pub zeros_at : (at len size : ℕ) → at + len ≤ size → bytes_at at len (replicate size 0) ≡ replicate len 0
-zeros_at at len size h =
-    let n : at + len - at ≡ len = omega arith in
-    ap (take (at + len - at)) (drop-zeros at size (omega arith)) ∙ ap (λ (k : ℕ). take k (replicate (size - at) 0)) n ∙ take-zeros len (size - at) (omega arith)
+zeros_at at len size h = search (rules, drop-zeros, take-zeros)
 
 pub zeros_with : (at len size : ℕ) → at + len ≤ size → with_bytes at (replicate len 0) (replicate size 0) ≡ replicate size 0
-zeros_with at len size h =
-    let n : length (replicate {A = ℕ} len 0) ≡ len = length-replicate len 0 in
-    let e : at + len + (size - (at + len)) ≡ size = omega arith in
-    ap (λ (k : ℕ). take at (replicate size 0) ++ replicate len 0 ++ drop (at + k) (replicate size 0)) n
-    ∙ ap₂ (λ (front back : List ℕ). front ++ replicate len 0 ++ back) (take-zeros at size (omega arith)) (drop-zeros (at + len) size h)
-    ∙ ap (λ (front : List ℕ). front ++ replicate (size - (at + len)) 0) (append-zeros at len)
-    ∙ append-zeros (at + len) (size - (at + len))
-    ∙ ap (λ (k : ℕ). replicate k 0) e
+zeros_with at len size h = search (rules, length-replicate, take-zeros, drop-zeros, append-zeros)
 
 -- slots are numbered from n on
 pub numbered_so : (n : ℕ) (slots : List Slot) → AreNumbered n (places_from n slots)
@@ -71,13 +58,7 @@ new-sound size_in size_out n [] [] new z i = All-nil (IsSoundSeat size_in size_o
 new-sound size_in size_out n (slot ∷ slots) (seat ∷ seats) new z i =
     let len : length seat.seen ≡ frame_len (receives (setup_of slot.core)) = ap length z.0.seen_is ∙ length-replicate (frame_len (receives (setup_of slot.core))) 0 in
     All-cons (IsSoundSeat size_in size_out) seat seats
-    (record {
-      rest = rw z.0.core_is (All-head (λ slot. IsNew slot.core) slot slots new).rest;
-      seen_len = len ∙ ap (λ c. frame_len (receives (setup_of c))) (sym z.0.core_is);
-      len_out_is = z.0.len_out_is ∙ ap (λ c. frame_len (sends (setup_of c))) (sym z.0.core_is);
-      inside_in = rw (z.0.at_in_is, len) i.0;
-      inside_out = rw (z.0.at_out_is, z.0.len_out_is) i.1;
-    })
+    (search (rules, All-head, sends))
     (new-sound size_in size_out (suc n) slots seats (All-tail (λ slot. IsNew slot.core) slot slots new) z.1 i.2)
 new-sound size_in size_out n _ _ new z i = absurd z
 

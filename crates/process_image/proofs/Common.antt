@@ -3,19 +3,15 @@ pub use Rattle.end_core.proofs.Either.{set_answers, setup_is}
 pub use Rattle.end_core.specs.Core.{IsAtRest, setup_of}
 pub use Rattle.end_core.specs.Standing.{Answers, IsAfter, IsNew, Shows}
 pub use Rattle.end_core.specs.declared.one_end.Core.{Core}
-pub use Rattle.end_model.proofs.ReadBack.{count_crcs, count_groups, valid_length}
 pub use Rattle.end_model.specs.Deed.{Deed, is_empty}
-pub use Rattle.end_model.specs.Outputs.{out}
 pub use Rattle.end_model.specs.Readiness.{held, offer, state_of}
 pub use Rattle.end_model.specs.Runs.{IsProper, IsRun, IsSetting, profile_of}
 pub use Rattle.end_model.specs.Setup.{OfMaster, OfSlave, Setup, piece_len, receives, sends}
-pub use Rattle.end_model.specs.Step.{after_phase, answer, begun, code_sent, did_on, download_frame, goes_on, master_answer, run, sealed, sent_on, slave_answer, step, with_data, with_piece}
-pub use Rattle.file_run.specs.Report.{events_line, last_line}
+pub use Rattle.end_model.specs.Step.{after_phase, download_frame, goes_on, master_answer, run, sealed, sent_on, slave_answer, step, with_data, with_piece}
 pub use Rattle.file_run.specs.Reporting.{IsPrefix, ReportsSoFar, ended_at}
 pub use Rattle.file_run.specs.Waiting.{WaitingText, waits}
 pub use Rattle.fsoe_base.specs.Did.{nothing}
 pub use Rattle.fsoe_base.specs.Lengths.{frame_len, is_length}
-pub use Rattle.fsoe_base.specs.declared.command.End.{End}
 pub use Rattle.fsoe_base.specs.declared.did.Did.{Did}
 pub use Rattle.hex.proofs.HexLemmas.{length-encode_with}
 pub use Rattle.hex.specs.Hex.{encode_lower, lower_digits}
@@ -26,7 +22,7 @@ pub use Rattle.param_load.specs.declared.slave_settings.SlaveSettings.{SlaveSett
 pub use Rattle.process_image.specs.Calls.{and_move, contents, deeds, delivery, frame_of, if_named, last_frame, move_in, moves, next_deed, output, with_frames}
 pub use Rattle.process_image.specs.EventLine.{end_at, id_at, image_line, image_said, word_of, write_behind, write_line, written_at}
 pub use Rattle.process_image.specs.Fault.{IsMadeOf, first_fault, first_outside, first_pair, first_with, outside_or, pair_or, places_from, plan_of, slot_spans}
-pub use Rattle.process_image.specs.Header.{ImageHeading, end_of, end_of_kind, fits_images, heading_spans, image_heading_is_whole, is_done, is_open, line_taken, own_taken, size_line, size_taken, slot_begun, slot_line, slot_taken, slots_begun, slots_of, with_last}
+pub use Rattle.process_image.specs.Header.{ImageHeading, end_of, fits_images, heading_spans, image_heading_is_whole, is_open, line_taken, own_taken, size_line, size_taken, slot_begun, slot_line, slot_taken, slots_begun, slots_of, with_last}
 pub use Rattle.process_image.specs.Image.{bytes_at, input, sampled, with_bytes}
 pub use Rattle.process_image.specs.Own.{Unwritten, WritesFit, at_samples, distinct_after, frames_in}
 pub use Rattle.process_image.specs.Places.{AreNumbered, Place, Plan, lie_inside, numbered, overlap, share, spans_of}
@@ -34,7 +30,7 @@ pub use Rattle.process_image.specs.Ran.{image_format, image_reporting}
 pub use Rattle.process_image.specs.Report.{IsEndOf, IsImageReport, IsPlanOf, IsSlotOf, end_terms, entry_line, event_in, event_lines, last_lines, lines_of_events, move_line, report_of}
 pub use Rattle.process_image.specs.SlotLines.{AddsLine, AreLinesOf, IsLineOf, Tells, TellsEach, entry_told, told_line}
 pub use Rattle.process_image.specs.Sound.{IsNewSeat, IsSound, IsSoundSeat, MaySend}
-pub use Rattle.process_image.specs.Standing.{AnswersReset, AnswersSample, AnswersTick, Follows, HasSlot, HoldsFrames, ImagesView, IsBeside, IsSeatOf, ShowsAt, ShowsFrames, StandsFor, setups_of, slots_in, told}
+pub use Rattle.process_image.specs.Standing.{AnswersReset, AnswersSample, AnswersTick, Follows, HasSlot, HoldsFrames, ImagesView, IsBeside, IsSeatOf, ShowsAt, ShowsFrames, StandsFor, setups_of, told}
 pub use Rattle.process_image.specs.Steps.{Does, DoesEach, IsSampleStep, IsSeatStep, IsTickStep, Makes, SeatStep, after_steps, answer_in, did_in, seat_contents, told_by, with_sent}
 pub use Rattle.process_image.specs.Telling.{DoesEvent, FitsImages, RunStands, RunView, TellsEvent}
 pub use Rattle.process_image.specs.Tested.{Fit, IsApart, IsTested, and_placed, is_placed, tested_by}
@@ -45,10 +41,19 @@ pub use Rattle.process_image.specs.declared.seat.Seat.{Seat}
 pub use Rattle.process_image.specs.declared.slot.Slot.{Slot}
 pub use Rattle.schedule_file.proofs.Headed.{either, headed}
 pub use Rattle.schedule_file.proofs.Sound.{Sound, after_sound, each, known, master_settings, new_sound, slave_settings}
-pub use Rattle.schedule_file.specs.EventLine.{delivered_len, switch_of}
 pub use Rattle.schedule_file.specs.Field.{bytes_said, fields_of}
-pub use Rattle.schedule_file.specs.Fields.{by_word, map_ok, next_field, no_field, number_16, number_32, one_field, one_hex_field, value_or, ◌>>=◌}
+pub use Rattle.schedule_file.specs.Fields.{by_word, map_ok, next_field, no_field, number_16, number_32, one_field, one_hex_field, value_or}
 pub use Rattle.schedule_file.specs.Header.{Heading, IsMasterOf, IsSlaveOf, fields_taken, heading_after, heading_is_whole, heading_with, profile_given, profile_taken, title_taken}
-pub use Rattle.schedule_file.specs.Input.{Refused, Stop, heading_profile, input_read, own_length}
+pub use Rattle.schedule_file.specs.Input.{Refused, Stop, input_read}
 pub use Rattle.schedule_file.specs.NodeHeader.{is_end_line, kind_after, may_end, node_heading_after}
 pub use Rattle.schedule_file.specs.declared.line_cause.LineCause.{LineCause}
+pub use Rattle.std.proofs.lemmas.Bool.Decides.{nat_tests}
+pub use Rattle.std.proofs.lemmas.Grind.{common_steps}
+pub use Rattle.std.proofs.lemmas.List.{append-nil, length-append, length-replicate, length-set, length-take, length-take-le, reverse-append, take_more}
+pub use Rattle.std.proofs.lemmas.List.Elements.{All-cons, All-head, All-nil, All-push, All-tail}
+pub use Rattle.std.proofs.lemmas.Option.{slice_get-get_or, slice_get_read}
+pub use Rattle.std.proofs.lemmas.Slice.Zip.{AllZip-long, all_zipped_more}
+pub use Rattle.std.specs.Cmp.Lexicographic.{pointwise, same_text}
+pub use Rattle.std.specs.List.{AllZip, list_any}
+pub use Rattle.std.specs.Prelude.{All, Err, IfOk, IsTrue, None, Ok, Option, Result, Some, codes, nat_le, not, option_map, slice_index}
+pub use Rattle.std.specs.Str.{bytes_eq}

@@ -1,9 +1,6 @@
 -- The frames that are delivered to a slot, and samples that change nothing.
-use Rattle.process_image.proofs.Common.{ImageEvent, Move, Place, Plan, Unwritten, and_move, at_samples, contents, delivery, distinct_after, frame_of, frames_in, if_named, input, last_frame, move_in, moves, next_deed, output, run, sampled, told, with_bytes, with_frames}
-use Rattle.std.proofs.Common.{◌≡◌, ℕ, List, [], ◌∷◌, ◌++◌, replicate, Option, Some, None, Bool, true, false, nat_eq, if◌then◌else◌, refl, sym, ap, ap₂, ◌∙◌}
-use Rattle.std.specs.Prelude.{option_map}
-use Rattle.std.specs.Cmp.Lexicographic.{pointwise}
-use Rattle.std.proofs.lemmas.Cmp.{nat_list_eq_equiv}
+use Rattle.process_image.proofs.Common.{ImageEvent, Move, Place, Plan, Unwritten, and_move, at_samples, contents, distinct_after, frames_in, if_named, input, move_in, moves, next_deed, option_map, output, pointwise, sampled, told, with_bytes}
+use Rattle.std.proofs.Common.{◌≡◌, ℕ, List, [], ◌∷◌, ◌++◌, replicate, Option, Some, None, Bool, nat_eq, if◌then◌else◌, refl, sym, ap, ap₂, ◌∙◌, arith, rules}
 use Rattle.param_load.specs.declared.entry.Move.TheVariants as move
 use Rattle.process_image.specs.declared.event.ImageEvent.TheVariants as event
 
@@ -14,11 +11,8 @@ unwritten-is size (event.Sample ∷ calls) h = refl
 unwritten-is size (event.Write at bytes ∷ calls) h = absurd h
 unwritten-is size (_ ∷ calls) h = unwritten-is size calls h
 
-none-new : (now : List ℕ) → delivery now now ≡ None
-none-new now = ap (λ b. if b then None else Some (move.Deliver now)) (nat_list_eq_equiv.refl now)
-
 quiet-move : (size : ℕ) (p : Place) (calls : List ImageEvent) → Unwritten calls → move_in size p calls event.Sample ≡ None
-quiet-move size p calls h = ap (λ (before : List ℕ). delivery (contents p before) (contents p (input size calls))) (unwritten-is size calls h) ∙ none-new (contents p (input size calls))
+quiet-move size p calls h = search (rules, unwritten-is)
 
 pub quiet_told : (size : ℕ) (p : Place) (calls : List ImageEvent) → Unwritten calls → told size calls event.Sample p ≡ None
 quiet_told size p calls h = ap (option_map (λ what. (next_deed size p calls what).did)) (quiet-move size p calls h)
@@ -35,22 +29,14 @@ sampled-alike size (event.Sample ∷ later) calls h = input-alike size later cal
 sampled-alike size (_ ∷ later) calls h = sampled-alike size later calls h
 
 move-alike : (size : ℕ) (p : Place) (later calls : List ImageEvent) (call : ImageEvent) → Unwritten calls → move_in size p (later ++ event.Sample ∷ calls) call ≡ move_in size p (later ++ calls) call
-move-alike size p later calls event.Sample h = ap₂ (λ (before now : List ℕ). delivery (contents p before) (contents p now)) (sampled-alike size later calls h) (input-alike size later calls)
-move-alike size p later calls _ h = refl
+move-alike size p later calls call h = search (rules, sampled-alike, input-alike)
 
 pub quiet_moves : (size : ℕ) (p : Place) (calls later : List ImageEvent) → Unwritten calls → moves size p (later ++ event.Sample ∷ calls) ≡ moves size p (later ++ calls)
 quiet_moves size p calls [] h = ap (λ (o : Option Move). and_move o (moves size p calls)) (quiet-move size p calls h)
 quiet_moves size p calls (call ∷ later) h = ap₂ and_move (move-alike size p later calls call h) (quiet_moves size p calls later h)
 
-same-frames : (f g : Place → List ℕ) (places : List Place) (image : List ℕ) → ((p : Place) → f p ≡ g p) → with_frames f places image ≡ with_frames g places image
-same-frames f g [] image h = refl
-same-frames f g (p ∷ places) image h =
-    ap (λ (frame : List ℕ). with_bytes p.at_out frame (with_frames f places image)) (h p) ∙ ap (with_bytes p.at_out (g p)) (same-frames f g places image h)
-
 pub quiet_output : (plan : Plan) (calls later : List ImageEvent) → Unwritten calls → output plan (later ++ event.Sample ∷ calls) ≡ output plan (later ++ calls)
-quiet_output plan calls later h =
-    same-frames (frame_of plan.size_in (later ++ event.Sample ∷ calls)) (frame_of plan.size_in (later ++ calls)) plan.places (replicate plan.size_out 0)
-    (λ p. ap (λ (ms : List Move). last_frame p.setup (run p.setup ms)) (quiet_moves plan.size_in p calls later h))
+quiet_output plan calls later h = search (rules, quiet_moves)
 
 -- the last of a list, where this comes before the first
 abbrev last-of : List ℕ → List (List ℕ) → List ℕ
@@ -66,8 +52,7 @@ abbrev one-if : List ℕ → List ℕ → List (List ℕ)
 one-if before now = if pointwise nat_eq before now then [] else now ∷ []
 
 push-by : (b : Bool) (y : List ℕ) (rest : List (List ℕ)) (more : List (List ℕ)) → (if b then rest ++ more else y ∷ (rest ++ more)) ≡ (if b then rest else y ∷ rest) ++ more
-push-by true y rest more = refl
-push-by false y rest more = refl
+push-by b y rest more = grind arith
 
 distinct-push : (before : List ℕ) (xs : List (List ℕ)) (x : List ℕ) → distinct_after before (xs ++ x ∷ []) ≡ distinct_after before xs ++ one-if (last-of before xs) x
 distinct-push before [] x = refl
@@ -87,26 +72,19 @@ frames-push [] what = refl
 frames-push (move.Deliver bytes ∷ ms) what = ap (λ (rest : List (List ℕ)). bytes ∷ rest) (frames-push ms what)
 frames-push (_ ∷ ms) what = frames-push ms what
 
-none-more : (xs : List (List ℕ)) → xs ++ [] ≡ xs
-none-more [] = refl
-none-more (x ∷ xs) = ap (λ ys. x ∷ ys) (none-more xs)
-
 -- a move that delivers nothing
 abbrev IsQuiet : Option Move → Type 0
 IsQuiet None = Unit {0}
 IsQuiet (Some what) = frames_in (what ∷ []) ≡ []
 
 quiet-frames : (o : Option Move) (ms : List Move) → IsQuiet o → frames_in (and_move o ms) ≡ frames_in ms
-quiet-frames None ms h = refl
-quiet-frames (Some what) ms h = frames-push ms what ∙ ap (λ (more : List (List ℕ)). frames_in ms ++ more) h ∙ none-more (frames_in ms)
+quiet-frames o ms h = search (rules, frames-push)
 
 named-by : (b : Bool) (what : Move) → frames_in (what ∷ []) ≡ [] → IsQuiet (if b then Some what else None)
-named-by true what h = h
-named-by false what h = tt
+named-by b what h = grind arith
 
 sample-frames : (b : Bool) (now : List ℕ) (ms : List Move) → frames_in (and_move (if b then None else Some (move.Deliver now)) ms) ≡ frames_in ms ++ (if b then [] else now ∷ [])
-sample-frames true now ms = sym (none-more (frames_in ms))
-sample-frames false now ms = frames-push ms (move.Deliver now)
+sample-frames b now ms = search (rules, frames-push)
 
 -- the frames that are delivered are the contents at the samples, without those that equal the ones before
 pub distinct : (size : ℕ) (p : Place) (calls : List ImageEvent) → frames_in (moves size p calls) ≡ distinct_after (contents p (replicate size 0)) (at_samples size p calls)

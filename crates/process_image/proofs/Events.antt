@@ -1,9 +1,7 @@
 -- The text of each kind of event.
-use Rattle.process_image.proofs.Common.{AnswersReset, AreNumbered, Did, DoesEvent, Follows, HasSlot, ImageEvent, ImagesView, Move, Place, Plan, ShowsAt, StandsFor, TellsEvent, deeds, entry_line, event_lines, if_named, move_in, move_line, next_deed, nothing, told_line}
+use Rattle.process_image.proofs.Common.{AnswersReset, AreNumbered, Did, DoesEvent, Follows, HasSlot, ImageEvent, ImagesView, Move, Place, Plan, ShowsAt, StandsFor, TellsEvent, append-nil, deeds, entry_line, event_lines, if_named, move_in, move_line, next_deed, nothing, option_map, told_line}
 use Rattle.std.proofs.Common.{◌≡◌, ◌≤◌, ◌<◌, ◌+◌, ◌==◌, ℕ, zero, suc, List, [], ◌∷◌, ◌++◌, Bool, true, false, length, slice_get, Option, Some, None, refl, sym, ap, subst, ◌∙◌, arith}
-use Rattle.std.specs.Prelude.{option_map, if◌then◌else◌}
-use Rattle.std.proofs.lemmas.Bool.Decides.{nat_tests}
-use Rattle.std.proofs.lemmas.List.{append-nil}
+use Rattle.std.specs.Prelude.{if◌then◌else◌}
 use Rattle.param_load.specs.declared.entry.Move.TheVariants as move
 use Rattle.process_image.specs.declared.event.ImageEvent.TheVariants as event
 use Rattle.process_image.proofs.ToldLines.{number_at, shown_entry}
@@ -22,13 +20,13 @@ alone old new event n text behind d e = subst (λ (all : List ℕ). DoesEvent ol
 
 -- an event that names a slot
 other : (slot n : ℕ) → slot < n → (slot == n) ≡ false
-other slot n h = grind (arith, nat_tests)
+other slot n h = grind arith
 
 later : (slot n k : ℕ) → slot ≡ n + suc k → (slot == n) ≡ false
-later slot n k h = grind (arith, nat_tests)
+later slot n k h = grind arith
 
 same : (slot n : ℕ) → slot ≡ n → (slot == n) ≡ true
-same slot n h = grind (arith, nat_tests)
+same slot n h = grind arith
 
 unnamed : (size m slot : ℕ) (calls : List ImageEvent) (event : ImageEvent) (what : Move) (p : Place) → move_in size p calls event ≡ if_named slot p what → (slot == p.number) ≡ false → move_line m size p calls (move_in size p calls event) ≡ []
 unnamed size m slot calls event what p moves h = ap (move_line m size p calls) (moves ∙ ap (λ b. if b then Some what else None) h)
@@ -106,8 +104,7 @@ nonce_tells old new slot n id line did has f none shows =
 
 reset-did : (plan : Plan) (calls : List ImageEvent) (k : ℕ) (p : Place) (did : Did) → slice_get plan.places k ≡ Some p → option_map (λ p. (next_deed plan.size_in p calls move.Local).did) (slice_get plan.places k) ≡ Some did
     → did ≡ (next_deed plan.size_in p calls move.Local).did
-reset-did plan calls k p did at h =
-    let s : Some (next_deed plan.size_in p calls move.Local).did ≡ Some did = ap (option_map (λ (p : Place). (next_deed plan.size_in p calls move.Local).did)) (sym at) ∙ h in cc
+reset-did plan calls k p did h l = grind arith
 
 pub reset_tells : (old new : ImagesView) (slot n : ℕ) (did : Did) (line : List ℕ) → HasSlot old slot → Follows old (event.Reset slot) new → AnswersReset old slot did → ShowsAt new slot line (told_line n slot did)
     → TellsEvent old (event.Reset slot) n line

@@ -1,7 +1,6 @@
 -- The first fault of slots, test by test.
-use Rattle.process_image.proofs.Common.{Place, Slot, first_fault, first_outside, first_pair, outside_or, places_from, plan_of}
-use Rattle.std.proofs.Common.{◌≡◌, ◌≤◌, ◌<◌, ℕ, suc, List, [], ◌∷◌, length, Option, Some, true, false, nat_lt, if◌then◌else◌, refl, sym, ap, ◌∙◌, arith}
-use Rattle.std.proofs.lemmas.Bool.Decides.{nat_tests}
+use Rattle.process_image.proofs.Common.{Slot, first_fault, first_outside, first_pair, outside_or, places_from, plan_of}
+use Rattle.std.proofs.Common.{◌≡◌, ◌≤◌, ◌<◌, ℕ, suc, List, [], ◌∷◌, length, Option, Some, true, nat_lt, refl, ap, arith, rules}
 use Rattle.process_image.specs.declared.fault.SlotFault.TheVariants as fault
 
 pub places_count : (n : ℕ) (slots : List Slot) → length (places_from n slots) ≡ length slots
@@ -9,21 +8,13 @@ places_count n [] = refl
 places_count n (slot ∷ slots) = ap suc (places_count (suc n) slots)
 
 more : (n m : ℕ) → n ≡ m → 64 < m → nat_lt 64 n ≡ true
-more n m e h = grind (arith, nat_tests)
-
-no-more : (n m : ℕ) → n ≡ m → m ≤ 64 → nat_lt 64 n ≡ false
-no-more n m e h = grind (arith, nat_tests)
+more n m e h = grind arith
 
 -- there are more than 64
 pub too_many : (size_in size_out : ℕ) (slots : List Slot) → 64 < length slots → Some fault.TooMany ≡ first_fault (plan_of size_in size_out slots)
-too_many size_in size_out slots h =
-    let places : List Place = places_from 1 slots in
-    sym (ap (λ b. if b then Some fault.TooMany else outside_or (first_outside size_in size_out places) (first_pair places)) (more (length places) (length slots) (places_count 1 slots) h))
+too_many size_in size_out slots h = search (rules, places_count)
 
 -- there aren't: then it is what the other tests say
 pub tested : (size_in size_out : ℕ) (slots : List Slot) (o : Option ℕ) → length slots ≤ 64 → o ≡ first_outside size_in size_out (places_from 1 slots)
     → outside_or o (first_pair (places_from 1 slots)) ≡ first_fault (plan_of size_in size_out slots)
-tested size_in size_out slots o h is =
-    let places : List Place = places_from 1 slots in
-    ap (λ (o : Option ℕ). outside_or o (first_pair places)) is
-    ∙ sym (ap (λ b. if b then Some fault.TooMany else outside_or (first_outside size_in size_out places) (first_pair places)) (no-more (length places) (length slots) (places_count 1 slots) h))
+tested size_in size_out slots o h k = search (rules, places_count)

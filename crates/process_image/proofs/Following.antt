@@ -1,11 +1,7 @@
 -- What stood for some calls stands for one more.
-use Rattle.process_image.proofs.Common.{Core, Deed, ImageEvent, ImagesView, IsAfter, IsRun, IsSeatOf, IsSeatStep, Makes, Move, OfMaster, OfSlave, Place, Plan, Seat, SeatStep, Setup, StandsFor, after_steps, and_move, contents, deeds, frame_len, frame_of, input, is_empty, last_frame, move_in, moves, run, sampled, sends, setup_is, setup_of, step}
-use Rattle.std.proofs.Common.{◌≡◌, ℕ, ◌==◌, List, [], ◌∷◌, map, length, replicate, Option, Some, None, Bool, true, false, if◌then◌else◌, refl, sym, ap, subst, ◌∙◌, arith}
-use Rattle.std.specs.List.{AllZip}
-use Rattle.std.proofs.lemmas.Bool.Decides.{nat_tests}
-use Rattle.std.proofs.lemmas.List.{length-replicate}
+use Rattle.process_image.proofs.Common.{AllZip, Core, Deed, ImageEvent, ImagesView, IsAfter, IsRun, IsSeatOf, IsSeatStep, Makes, Move, Place, Plan, Seat, SeatStep, Setup, StandsFor, after_steps, and_move, contents, deeds, frame_len, frame_of, input, is_empty, last_frame, length-replicate, move_in, moves, run, sampled, sends, setup_is, setup_of, step}
+use Rattle.std.proofs.Common.{◌≡◌, ℕ, ◌==◌, List, [], ◌∷◌, map, length, replicate, Option, Some, None, Bool, false, if◌then◌else◌, refl, sym, ap, subst, ◌∙◌, arith, rules}
 use Rattle.end_model.proofs.Runs.{run_append}
-use Rattle.end_core.specs.declared.one_end.Core.TheVariants as core
 use Rattle.process_image.proofs.Apart.{plan_apart}
 use Rattle.process_image.proofs.Giving.{Gives, len_at, steps_give}
 use Rattle.process_image.proofs.SentLength.{next_long}
@@ -13,9 +9,7 @@ use Rattle.process_image.proofs.Seats.{some_frame}
 
 -- what an end is after was reached
 pub reached : (s : Setup) (end : Core) (e : List Deed) → IsAfter s end e → IsRun s e
-reached (OfMaster ms) (core.Slave v) e h = absurd h
-reached (OfSlave ss) (core.Master m) e h = absurd h
-reached _ _ e h = h.reached
+reached s end e h = grind arith
 
 -- the deeds of a slot with one call more
 pub deeds_more : (size : ℕ) (p : Place) (calls : List ImageEvent) (call : ImageEvent) (what : Move) → move_in size p calls call ≡ Some what
@@ -25,37 +19,20 @@ deeds_more size p calls call what h = ap (λ (o : Option Move). run p.setup (and
 pub deeds_same : (size : ℕ) (p : Place) (calls : List ImageEvent) (call : ImageEvent) → move_in size p calls call ≡ None → deeds size p (call ∷ calls) ≡ deeds size p calls
 deeds_same size p calls call h = ap (λ (o : Option Move). run p.setup (and_move o (moves size p calls))) h
 
--- the end of a slot goes on
-goes : (size : ℕ) (p : Place) (calls : List ImageEvent) (call : ImageEvent) (x : SeatStep) (o : Option Move) → move_in size p calls call ≡ o → Makes o x → IsAfter p.setup x.old.core (deeds size p calls)
-    → IsAfter p.setup x.new.core (deeds size p (call ∷ calls))
-goes size p calls call x None h m a =
-    subst (λ (end : Core). IsAfter p.setup end (deeds size p (call ∷ calls))) (sym m.0) (subst (λ (e : List Deed). IsAfter p.setup x.old.core e) (sym (deeds_same size p calls call h)) a)
-goes size p calls call x (Some what) h m a = subst (λ (e : List Deed). IsAfter p.setup x.new.core e) (sym (deeds_more size p calls call what h)) (m.0.is_after p.setup (deeds size p calls) a)
-
 -- the last frame of a slot has the length of its frames
 last-by : (p : Place) (y : Deed) (e : List Deed) (b : Bool) → is_empty y.sent ≡ b → IsRun p.setup (y ∷ e) → length (last_frame p.setup e) ≡ len_at p → length (if b then last_frame p.setup e else y.sent) ≡ len_at p
-last-by p y e true h r before = before
-last-by p y e false h r before = next_long p.setup y e r h
+last-by p y e b h k l = search (rules, next_long)
 
 pub last_long : (p : Place) (e : List Deed) → IsRun p.setup e → length (last_frame p.setup e) ≡ len_at p
 last_long p [] r = length-replicate (len_at p) 0
 last_long p (y ∷ e) r = last-by p y e (is_empty y.sent) refl r (last_long p e r.1)
-
--- and is the one that was sent, or the one before
-no-bytes : (bytes : List ℕ) → is_empty bytes ≡ true → bytes ≡ []
-no-bytes [] h = refl
-no-bytes (b ∷ bytes) h = absurd (cc h)
 
 unsent : (len : ℕ) (sent before : List ℕ) → (0 == len) ≡ false → sent ≡ [] → before ≡ (if length sent == len then sent else before)
 unsent len sent before n h = let q : (length sent == len) ≡ false = ap (λ (f : List ℕ). length f == len) h ∙ n in sym (ap (λ b. if b then sent else before) q)
 
 frame-by : (len : ℕ) (p : Place) (e : List Deed) (y : Deed) (sent : List ℕ) (b : Bool) → is_empty y.sent ≡ b → sent ≡ y.sent → (0 == len) ≡ false → (is_empty y.sent ≡ false → length y.sent ≡ len)
     → (if b then last_frame p.setup e else y.sent) ≡ (if length sent == len then sent else last_frame p.setup e)
-frame-by len p e y sent true h same n long = unsent len sent (last_frame p.setup e) n (same ∙ no-bytes y.sent h)
-frame-by len p e y sent false h same n long =
-    let l : length sent ≡ len = ap length same ∙ long h in
-    let q : (length sent == len) ≡ true = grind (arith, nat_tests) in
-    sym same ∙ sym (ap (λ b. if b then sent else last_frame p.setup e) q)
+frame-by len p e y sent b h k l m = grind arith
 
 frame-more : (size : ℕ) (p : Place) (calls : List ImageEvent) (call : ImageEvent) (x : SeatStep) (o : Option Move) → move_in size p calls call ≡ o → Makes o x → IsAfter p.setup x.old.core (deeds size p calls)
     → x.old.len_out ≡ len_at p → frame_of size (call ∷ calls) p ≡ (if length x.sent == x.old.len_out then x.sent else frame_of size calls p)
@@ -82,7 +59,7 @@ made-by : (size : ℕ) (calls : List ImageEvent) (call : ImageEvent) (p : Place)
 made-by size calls call p x part = subst (λ (o : Option Move). Makes o x) part.what_is part.is.makes
 
 part-after : (size : ℕ) (calls : List ImageEvent) (call : ImageEvent) (p : Place) (x : SeatStep) → IsPart size calls call p x → IsAfter p.setup x.new.core (deeds size p (call ∷ calls))
-part-after size calls call p x part = goes size p calls call x (move_in size p calls call) refl (made-by size calls call p x part) part.before.end_is
+part-after size calls call p x h = search (rules, deeds_same, deeds_more, made-by)
 
 part-seat : (size : ℕ) (calls : List ImageEvent) (call : ImageEvent) (p : Place) (x : SeatStep) → IsPart size calls call p x → IsSeatOf size (call ∷ calls) p x.new
 part-seat size calls call p x part = record {

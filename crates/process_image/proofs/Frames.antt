@@ -1,41 +1,23 @@
 -- What an output image has at each slot, and beside all slots.
-use Rattle.process_image.proofs.Common.{HoldsFrames, ImageEvent, ImagesView, IsBeside, IsSeatOf, Place, Plan, Seat, ShowsFrames, StandsFor, WritesFit, bytes_at, contents, deeds, frame_of, input, output, share, spans_of, with_bytes, with_frames}
-use Rattle.std.proofs.Common.{◌≡◌, ◌≤◌, ◌+◌, ◌-◌, ◌⊎◌, inl, inr, ℕ, zero, suc, List, [], ◌∷◌, ◌++◌, length, take, drop, replicate, All, false, refl, sym, ap, ◌∙◌, arith}
-use Rattle.std.specs.List.{AllZip}
-use Rattle.std.proofs.lemmas.Bool.Decides.{nat_tests}
-use Rattle.std.proofs.lemmas.List.{length-replicate}
-use Rattle.std.proofs.lemmas.List.Elements.{All-head, All-tail, All-nil, All-cons}
+use Rattle.process_image.proofs.Common.{All-cons, All-head, All-nil, All-tail, AllZip, HoldsFrames, ImageEvent, ImagesView, IsBeside, IsSeatOf, Place, Plan, Seat, ShowsFrames, StandsFor, WritesFit, bytes_at, common_steps, contents, deeds, frame_of, input, length-replicate, output, share, spans_of, with_bytes, with_frames}
+use Rattle.std.proofs.Common.{◌≡◌, ◌≤◌, ◌+◌, ◌-◌, ◌⊎◌, ℕ, zero, suc, List, [], ◌∷◌, ◌++◌, length, take, drop, All, false, refl, sym, ap, ◌∙◌, arith, rules}
 use Rattle.process_image.specs.declared.event.ImageEvent.TheVariants as event
 use Rattle.process_image.proofs.Apart.{plan_apart}
 use Rattle.process_image.proofs.Beginning.{zeros_at}
 use Rattle.process_image.proofs.Following.{reached, last_long}
 use Rattle.process_image.proofs.Giving.{len_at, IsAway, AwayFrom, AreApart}
-use Rattle.process_image.proofs.WithBytes.{later, front-is, drop_none, same_size}
+use Rattle.process_image.proofs.WithBytes.{later, drop_none, same_size}
 
 -- so many bytes from a place on, said by their number
 bytes-are : (at len : ℕ) (image : List ℕ) → bytes_at at len image ≡ take len (drop at image)
 bytes-are at len image = let n : at + len - at ≡ len = omega arith in ap (λ (k : ℕ). take k (drop at image)) n
 
-take-front : (f rest : List ℕ) → take (length f) (f ++ rest) ≡ f
-take-front [] rest = refl
-take-front (b ∷ f) rest = ap (λ (bytes : List ℕ). b ∷ bytes) (take-front f rest)
-
 -- bytes stand where they were written
 there : (at : ℕ) (f image : List ℕ) → at + length f ≤ length image → take (length f) (drop at (with_bytes at f image)) ≡ f
-there zero f image h = ap (take (length f)) (front-is f image) ∙ take-front f (drop (length f) image)
-there (suc at) f [] h = absurd (omega arith)
-there (suc at) f (x ∷ image) h = ap (λ (bytes : List ℕ). take (length f) (drop (suc at) bytes)) (later at f x image) ∙ there at f image (omega arith)
-
--- bytes in front of those that were written stay
-none-taken : (len : ℕ) (xs ys : List ℕ) → len ≡ 0 → take len xs ≡ take len ys
-none-taken zero xs ys h = refl
-none-taken (suc len) xs ys h = absurd (omega arith)
+there at f image h = grind (arith, common_steps)
 
 front-stays : (len b : ℕ) (f image : List ℕ) → len ≤ b → b + length f ≤ length image → take len (with_bytes b f image) ≡ take len image
-front-stays zero b f image h inside = refl
-front-stays (suc len) (suc b) f (x ∷ image) h inside =
-    ap (take (suc len)) (later b f x image) ∙ ap (λ (bytes : List ℕ). x ∷ bytes) (front-stays len b f image (omega arith) (omega arith))
-front-stays (suc len) _ f _ h inside = absurd (omega arith)
+front-stays len b f image h k = grind (arith, common_steps)
 
 pub stay_before : (at len b : ℕ) (f image : List ℕ) → at + len ≤ b → b + length f ≤ length image → take len (drop at (with_bytes b f image)) ≡ take len (drop at image)
 stay_before zero len b f image h inside = front-stays len b f image (omega arith) inside
@@ -50,14 +32,11 @@ drop-past (suc at) (b ∷ f) [] h = ap (λ (rest : List ℕ). drop at (f ++ rest
 drop-past (suc at) (b ∷ f) (x ∷ image) h = drop-past at f image (omega arith)
 
 pub stay_behind : (at b : ℕ) (f image : List ℕ) → b + length f ≤ at → b + length f ≤ length image → drop at (with_bytes b f image) ≡ drop at image
-stay_behind at zero f image h inside = ap (drop at) (front-is f image) ∙ drop-past at f image (omega arith)
-stay_behind (suc at) (suc b) f (x ∷ image) h inside = ap (drop (suc at)) (later b f x image) ∙ stay_behind at b f image (omega arith) (omega arith)
-stay_behind _ (suc b) f _ h inside = absurd (omega arith)
+stay_behind at b f image h k = grind (arith, common_steps, drop-past)
 
 -- bytes beside those that were written stay
 pub stays : (at len b : ℕ) (f image : List ℕ) → ((at + len ≤ b) ⊎ (b + length f ≤ at)) → b + length f ≤ length image → bytes_at at len (with_bytes b f image) ≡ bytes_at at len image
-stays at len b f image (inl before) inside = bytes-are at len (with_bytes b f image) ∙ stay_before at len b f image before inside ∙ sym (bytes-are at len image)
-stays at len b f image (inr behind) inside = bytes-are at len (with_bytes b f image) ∙ ap (take len) (stay_behind at b f image behind inside) ∙ sym (bytes-are at len image)
+stays at len b f image h k = search (rules, stay_before, stay_behind)
 
 -- frames as long as those that their ends send
 abbrev AreLong : (Place → List ℕ) → List Place → Type 0
@@ -75,8 +54,7 @@ abbrev Has : (Place → List ℕ) → List ℕ → Place → Type 0
 Has frame image p = bytes_at p.at_out (len_at p) image ≡ frame p
 
 swapped : (p q : Place) → IsAway p q → (q.at_out + len_at q ≤ p.at_out) ⊎ (p.at_out + len_at p ≤ q.at_out)
-swapped p q (inl front) = inr front
-swapped p q (inr back) = inl back
+swapped p q h = grind arith
 
 -- one frame more leaves those of slots that are away
 kept : (frame : Place → List ℕ) (p : Place) (f image : List ℕ) (places : List Place) → AwayFrom p places → length f ≡ len_at p → p.at_out + length f ≤ length image → All (Has frame image) places
@@ -101,7 +79,7 @@ frames_there frame size (p ∷ places) image apart long n =
 
 -- bytes beside all slots are those of the image without frames
 unshared : (at len b lb : ℕ) → share at len b lb ≡ false → (at + len ≤ b) ⊎ (b + lb ≤ at)
-unshared at len b lb h = grind (arith, nat_tests)
+unshared at len b lb h = grind arith
 
 pub beside_all : (frame : Place → List ℕ) (size : ℕ) (places : List Place) (image : List ℕ) (at len : ℕ) → AreApart size places → AreLong frame places → length image ≡ size → All (IsBeside at len) places
     → bytes_at at len (with_frames frame places image) ≡ bytes_at at len image
@@ -122,14 +100,7 @@ seats-long size calls (p ∷ places) (seat ∷ seats) z =
 seats-long size calls _ _ z = absurd z
 
 pub holds_frames : (plan : Plan) (v : ImagesView) (calls : List ImageEvent) → StandsFor plan v calls → HoldsFrames plan calls (output plan calls)
-holds_frames plan v calls h =
-    let apart : AreApart plan.size_out plan.places = plan_apart plan h.made.no_fault in
-    let long : AreLong (frame_of plan.size_in calls) plan.places = seats-long plan.size_in calls plan.places v.seats h.slots in
-    let n : length (replicate {A = ℕ} plan.size_out 0) ≡ plan.size_out = length-replicate plan.size_out 0 in
-    record {
-      frames = frames_there (frame_of plan.size_in calls) plan.size_out plan.places (replicate plan.size_out 0) apart long n;
-      beside = λ at len inside beside. beside_all (frame_of plan.size_in calls) plan.size_out plan.places (replicate plan.size_out 0) at len apart long n beside ∙ zeros_at at len plan.size_out inside;
-    }
+holds_frames plan v calls h = search (rules, plan_apart, seats-long, length-replicate, frames_there, beside_all, zeros_at)
 
 pub shows_frames : (v : ImagesView) (shown : List ℕ) → shown ≡ v.output → ShowsFrames v shown
 shows_frames v shown e = record { shows = λ plan calls h. rw (e, h.output_is) (holds_frames plan v calls h) }
@@ -144,6 +115,4 @@ input-size size (_ ∷ calls) fit = input-size size calls fit
 
 pub write_beside : (size at : ℕ) (bytes : List ℕ) (p : Place) (calls : List ImageEvent) → WritesFit size (event.Write at bytes ∷ calls) → share p.at_in (spans_of p).len_in at (length bytes) ≡ false
     → contents p (input size (event.Write at bytes ∷ calls)) ≡ contents p (input size calls)
-write_beside size at bytes p calls fit beside =
-    let n : length (input size calls) ≡ size = input-size size calls fit.1 in
-    stays p.at_in (spans_of p).len_in at bytes (input size calls) (unshared p.at_in (spans_of p).len_in at (length bytes) beside) (rw n fit.0)
+write_beside size at bytes p calls h k = search (rules, input-size, stays)

@@ -1,8 +1,7 @@
 -- The output image while slots send, one after another.
-use Rattle.process_image.proofs.Common.{Place, SeatStep, after_steps, spans_of, with_bytes, with_frames, with_sent}
-use Rattle.std.proofs.Common.{◌≡◌, ℕ, ◌+◌, ◌≤◌, ◌⊎◌, ◌==◌, List, [], ◌∷◌, length, Bool, true, false, if◌then◌else◌, refl, sym, ap, ◌∙◌, arith, inl, inr}
-use Rattle.std.specs.List.{AllZip}
-use Rattle.process_image.proofs.WithBytes.{again, in_front, behind, same_size}
+use Rattle.process_image.proofs.Common.{AllZip, Place, SeatStep, after_steps, spans_of, with_bytes, with_frames, with_sent}
+use Rattle.std.proofs.Common.{◌≡◌, ℕ, ◌+◌, ◌≤◌, ◌⊎◌, ◌==◌, List, [], ◌∷◌, length, Bool, if◌then◌else◌, refl, sym, ap, ◌∙◌, rules}
+use Rattle.process_image.proofs.WithBytes.{again, behind, same_size}
 
 -- the bytes of a frame that the end of a slot sends
 abbrev pub len_at : Place → ℕ
@@ -32,26 +31,21 @@ pub record Gives (frame frame' : Place → List ℕ) (p : Place) (x : SeatStep) 
 -- one slot
 put-by : (at len : ℕ) (sent f image : List ℕ) (b : Bool) → length sent == len ≡ b → length f ≡ len → at + len ≤ length image
     → (if b then with_bytes at sent (with_bytes at f image) else with_bytes at f image) ≡ with_bytes at (if b then sent else f) image
-put-by at len sent f image true h e inside = again at sent f image (grind arith) (grind arith)
-put-by at len sent f image false h e inside = refl
+put-by at len sent f image b h k l = search (rules, again)
 
 away-by : (at len : ℕ) (sent : List ℕ) (b : ℕ) (f image : List ℕ) (c : Bool) → length sent == len ≡ c → ((at + len ≤ b) ⊎ (b + length f ≤ at)) → at + len ≤ length image → b + length f ≤ length image
     → (if c then with_bytes at sent (with_bytes b f image) else with_bytes b f image) ≡ with_bytes b f (if c then with_bytes at sent image else image)
-away-by at len sent b f image true h away inside inside' = elim away [ inl front ↦ in_front at sent b f image (grind arith) inside' | inr back ↦ behind at sent b f image back (grind arith) ]
-away-by at len sent b f image false h away inside inside' = refl
+away-by at len sent b f image c h k l m = search (rules, behind)
 
 size-by : (at len : ℕ) (sent image : List ℕ) (c : Bool) → length sent == len ≡ c → at + len ≤ length image → length (if c then with_bytes at sent image else image) ≡ length image
-size-by at len sent image true h inside = same_size at sent image (grind arith)
-size-by at len sent image false h inside = refl
+size-by at len sent image c h k = search (rules, same_size)
 
 -- the steps of later slots leave this one
 steps-away : (frame frame' : Place → List ℕ) (p : Place) (f : List ℕ) (size : ℕ) (places : List Place) (xs : List SeatStep) (image : List ℕ) → AllZip (Gives frame frame') places xs → AwayFrom p places
     → AreApart size places → length f ≡ len_at p → p.at_out + len_at p ≤ size → length image ≡ size → after_steps xs (with_bytes p.at_out f image) ≡ with_bytes p.at_out f (after_steps xs image)
 steps-away frame frame' p f size [] [] image g away apart e inside n = refl
 steps-away frame frame' p f size (q ∷ places) (x ∷ xs) image g away apart e inside n =
-    let away' : (x.old.at_out + x.old.len_out ≤ p.at_out) ⊎ (p.at_out + length f ≤ x.old.at_out) =
-    rw (g.0.at_is, g.0.len_is, e) (elim away.0 [ inl front ↦ inr front | inr back ↦ inl back ])
-    in
+    let away' : (x.old.at_out + x.old.len_out ≤ p.at_out) ⊎ (p.at_out + length f ≤ x.old.at_out) = search rules in
     let inside' : x.old.at_out + x.old.len_out ≤ length image = rw (g.0.at_is, g.0.len_is, n) apart.0 in
     let one : with_sent x.old x.sent (with_bytes p.at_out f image) ≡ with_bytes p.at_out f (with_sent x.old x.sent image) =
     away-by x.old.at_out x.old.len_out x.sent p.at_out f image (length x.sent == x.old.len_out) refl away' inside' (rw (e, n) inside)
@@ -59,14 +53,6 @@ steps-away frame frame' p f size (q ∷ places) (x ∷ xs) image g away apart e 
     let n' : length (with_sent x.old x.sent image) ≡ size = size-by x.old.at_out x.old.len_out x.sent image (length x.sent == x.old.len_out) refl inside' ∙ n in
     ap (after_steps xs) one ∙ steps-away frame frame' p f size places xs (with_sent x.old x.sent image) g.1 away.1 apart.2 e inside n'
 steps-away frame frame' p f size _ _ image g away apart e inside n = absurd g
-
--- the number of bytes of an output image stays
-pub frames_size : (frame : Place → List ℕ) (size : ℕ) (places : List Place) (image : List ℕ) → AreApart size places → ((p : Place) → length (frame p) ≡ len_at p) → length image ≡ size
-    → length (with_frames frame places image) ≡ size
-frames_size frame size [] image apart e n = n
-frames_size frame size (p ∷ places) image apart e n =
-    let m = frames_size frame size places image apart.2 e n in
-    same_size p.at_out (frame p) (with_frames frame places image) (rw (e p, m) apart.0) ∙ m
 
 zip-size : (frame frame' : Place → List ℕ) (size : ℕ) (places : List Place) (xs : List SeatStep) (image : List ℕ) → AllZip (Gives frame frame') places xs → AreApart size places → length image ≡ size
     → length (with_frames frame places image) ≡ size
@@ -87,12 +73,7 @@ steps_give frame frame' size (p ∷ places) (x ∷ xs) image g apart n =
     let one : with_sent x.old x.sent (with_bytes x.old.at_out (frame p) rest) ≡ with_bytes x.old.at_out (if length x.sent == x.old.len_out then x.sent else frame p) rest =
     put-by x.old.at_out x.old.len_out x.sent (frame p) rest (length x.sent == x.old.len_out) refl (g.0.old_long ∙ sym g.0.len_is) inside
     in
-    let here : with_sent x.old x.sent (with_bytes p.at_out (frame p) rest) ≡ with_bytes p.at_out (frame' p) rest =
-    ap (λ (at : ℕ). with_sent x.old x.sent (with_bytes at (frame p) rest)) (sym g.0.at_is)
-    ∙ one
-    ∙ ap (λ (f : List ℕ). with_bytes x.old.at_out f rest) (sym g.0.frame_is)
-    ∙ ap (λ (at : ℕ). with_bytes at (frame' p) rest) g.0.at_is
-    in
+    let here : with_sent x.old x.sent (with_bytes p.at_out (frame p) rest) ≡ with_bytes p.at_out (frame' p) rest = search (rules, with_bytes) in
     ap (after_steps xs) here
     ∙ steps-away frame frame' p (frame' p) size places xs rest g.1 apart.1 apart.2 g.0.new_long apart.0 m
     ∙ ap (with_bytes p.at_out (frame' p)) (steps_give frame frame' size places xs image g.1 apart.2 n)

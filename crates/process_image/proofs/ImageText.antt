@@ -1,9 +1,7 @@
 -- An image as digits, piece by piece.
-use Rattle.process_image.proofs.Common.{encode_lower, length-encode_with, lower_digits}
+use Rattle.process_image.proofs.Common.{append-nil, encode_lower, length-encode_with, length-take-le, lower_digits, slice_index}
 use Rattle.hex.specs.Hex.{encode_with}
 use Rattle.std.proofs.Common.{◌≡◌, ◌≤◌, ◌+◌, ◌-◌, ◌*◌, ◌/◌, ◌%◌, ℕ, zero, suc, List, [], ◌∷◌, ◌++◌, length, take, drop, length-append, append_assoc, refl, sym, ap, ◌∙◌, arith}
-use Rattle.std.specs.Prelude.{slice_index}
-use Rattle.std.proofs.lemmas.List.{append-nil, length-take-le, take_all}
 
 -- the digits of one part after another
 encode-append : (t xs ys : List ℕ) → encode_with t (xs ++ ys) ≡ encode_with t xs ++ encode_with t ys
@@ -33,9 +31,6 @@ piece_more before text line text' image at end h e is more =
 pub piece_first : (before image : List ℕ) → before ≡ before ++ encode_lower (take 0 image)
 unfolding encode_with
 piece_first before image = sym (append-nil before)
-
-pub piece_last : (before text image : List ℕ) (at : ℕ) → length image ≤ at → text ≡ before ++ encode_lower (take at image) → text ≡ before ++ encode_lower image
-piece_last before text image at h e = e ∙ ap (λ (xs : List ℕ). before ++ encode_lower xs) (take_all at image h)
 
 -- there is room for the next piece
 pub piece_room : (before text image : List ℕ) (at : ℕ) → at ≤ length image → text ≡ before ++ encode_lower (take at image) → length text ≡ length before + 2 * at

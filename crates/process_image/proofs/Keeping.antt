@@ -1,8 +1,6 @@
 -- What stays when all slots do their part.
-use Rattle.process_image.proofs.Common.{Did, DoesEach, ImagesView, IsSampleStep, IsSeatStep, IsSound, IsSoundSeat, IsTickStep, MaySend, Seat, SeatStep, Setup, did_in, frame_len, receives, sends, setup_of, told_by}
-use Rattle.std.proofs.Common.{◌≡◌, ◌≤◌, ℕ, suc, List, [], ◌∷◌, map, length, take, drop, ◌++◌, Option, All, refl, sym, ap, ap₂, subst, ◌∙◌, arith}
-use Rattle.std.proofs.lemmas.Grind.{common_steps}
-use Rattle.std.proofs.lemmas.List.Elements.{All-head, All-tail, All-nil, All-cons}
+use Rattle.process_image.proofs.Common.{All-cons, All-head, All-nil, All-tail, Did, DoesEach, ImagesView, IsSampleStep, IsSeatStep, IsSound, IsSoundSeat, IsTickStep, Seat, SeatStep, Setup, common_steps, did_in, frame_len, receives, sends, setup_of, told_by}
+use Rattle.std.proofs.Common.{◌≡◌, ◌≤◌, ℕ, List, [], ◌∷◌, map, length, take, drop, ◌++◌, Option, All, refl, sym, ap, ap₂, subst, ◌∙◌, arith}
 
 -- a step leaves a slot sound
 step-sound : (si so : ℕ) (x : SeatStep) → IsSoundSeat si so x.old → IsSeatStep x → IsSoundSeat si so x.new
@@ -26,8 +24,7 @@ steps-setups Q [] is q = refl
 steps-setups Q (x ∷ xs) is q = ap₂ (λ (t : Setup) (ts : List Setup). t ∷ ts) (is x (All-head Q x xs q)).setup (steps-setups Q xs is (All-tail Q x xs q))
 
 steps-count : (xs : List SeatStep) → length (map (λ x. x.new) xs) ≡ length (map (λ x. x.old) xs)
-steps-count [] = refl
-steps-count (x ∷ xs) = ap suc (steps-count xs)
+steps-count xs = grind (arith, common_steps)
 
 pub does_sound : {T : Type 0} (Q : SeatStep → Type 0) (tell : SeatStep → T) (si so : ℕ) (old : List Seat) (before : List ℕ) (new : List Seat) (after : List ℕ) (told : List T) → ((x : SeatStep) → Q x → IsSeatStep x)
     → All (IsSoundSeat si so) old → DoesEach Q tell old before new after told → All (IsSoundSeat si so) new
@@ -43,13 +40,6 @@ pub does_count : {T : Type 0} (Q : SeatStep → Type 0) (tell : SeatStep → T) 
     → length new ≡ length old
 does_count Q tell old before new after told d = ap length (sym d.new_are) ∙ steps-count d.steps ∙ ap length d.old_are
 
--- the ends of sound slots may send
-pub all_may : (si so : ℕ) (seats : List Seat) → All (IsSoundSeat si so) seats → All (MaySend so) seats
-all_may si so [] s = All-nil (MaySend so)
-all_may si so (seat ∷ seats) s =
-    let one : IsSoundSeat si so seat = All-head (IsSoundSeat si so) seat seats s in
-    All-cons (MaySend so) seat seats (record { rest = one.rest; inside = one.inside_out }) (all_may si so seats (All-tail (IsSoundSeat si so) seat seats s))
-
 -- a list that was written through a slice of all of it
 pub written_back : {A : Type 0} (xs ys : List A) (n : ℕ) → n ≡ length ys → length xs ≡ length ys → take n (xs ++ drop (length xs) ys) ≡ xs
 written_back xs ys n h e = grind (arith, common_steps)
@@ -57,14 +47,11 @@ written_back xs ys n h e = grind (arith, common_steps)
 -- the same, of the lists that are at hand
 pub sampled_alike : (input input' : List ℕ) (old old' : List Seat) (before before' : List ℕ) (new : List Seat) (after : List ℕ) (told : List (Option Did)) → DoesEach (IsSampleStep input) told_by old before new after told
     → input ≡ input' → old ≡ old' → before ≡ before' → DoesEach (IsSampleStep input') told_by old' before' new after told
-sampled_alike input input' old old' before before' new after told d e f g =
-    subst (λ (xs : List ℕ). DoesEach (IsSampleStep xs) told_by old' before' new after told) e
-    (subst (λ (xs : List Seat). DoesEach (IsSampleStep input) told_by xs before' new after told) f (subst (λ (xs : List ℕ). DoesEach (IsSampleStep input) told_by old xs new after told) g d))
+sampled_alike input input' old old' before before' new after told h k l m = grind arith
 
 pub ticked_alike : (old old' : List Seat) (before before' : List ℕ) (new : List Seat) (after : List ℕ) (dids : List Did) → DoesEach IsTickStep did_in old before new after dids → old ≡ old' → before ≡ before'
     → DoesEach IsTickStep did_in old' before' new after dids
-ticked_alike old old' before before' new after dids d f g =
-    subst (λ (xs : List Seat). DoesEach IsTickStep did_in xs before' new after dids) f (subst (λ (xs : List ℕ). DoesEach IsTickStep did_in old xs new after dids) g d)
+ticked_alike old old' before before' new after dids h k l = grind arith
 
 -- images stay sound
 pub images_sound : {T : Type 0} (Q : SeatStep → Type 0) (tell : SeatStep → T) (v : ImagesView) (new : List Seat) (after : List ℕ) (told : List T) → ((x : SeatStep) → Q x → IsSeatStep x) → IsSound v
@@ -73,6 +60,3 @@ images_sound Q tell v new after told is s d n = record {
   seats = subst (λ (so : ℕ). All (IsSoundSeat (length v.input) so) new) (sym n) (does_sound Q tell (length v.input) (length v.output) v.seats v.output new after told is s.seats d);
   most = subst (λ (k : ℕ). k ≤ 64) (sym (does_count Q tell v.seats v.output new after told d)) s.most;
 }
-
-pub input_sound : (v : ImagesView) (now : List ℕ) → IsSound v → length now ≡ length v.input → IsSound (record { seats = v.seats; input = now; output = v.output })
-input_sound v now s n = record { seats = subst (λ (si : ℕ). All (IsSoundSeat si (length v.output)) v.seats) (sym n) s.seats; most = s.most }

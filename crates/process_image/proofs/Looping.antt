@@ -1,9 +1,6 @@
 -- Loops over all slots, step by step.
-use Rattle.process_image.proofs.Common.{AreLinesOf, Does, DoesEach, IsLineOf, Seat, SeatStep, Tells, TellsEach, after_steps, with_bytes, with_sent}
-use Rattle.std.proofs.Common.{◌≡◌, ◌≤◌, ℕ, zero, suc, ◌+◌, ◌<◌, List, [], ◌∷◌, ◌++◌, map, length, slice_get, slice_set, Some, All, ◌==◌, Bool, true, false, if◌then◌else◌, append_assoc, refl, sym, ap, subst, ◌∙◌, arith}
-use Rattle.std.proofs.lemmas.Bool.Decides.{nat_tests}
-use Rattle.std.proofs.lemmas.Grind.{common_steps}
-use Rattle.std.proofs.lemmas.List.Elements.{All-push, All-nil}
+use Rattle.process_image.proofs.Common.{All-nil, All-push, AreLinesOf, Does, IsLineOf, Seat, SeatStep, Tells, after_steps, common_steps, with_bytes, with_sent}
+use Rattle.std.proofs.Common.{◌≡◌, ◌≤◌, ℕ, zero, suc, ◌+◌, ◌<◌, List, [], ◌∷◌, ◌++◌, map, length, slice_get, slice_set, Some, All, ◌==◌, Bool, if◌then◌else◌, append_assoc, refl, sym, ap, subst, ◌∙◌, arith, rules}
 use Rattle.process_image.proofs.WithBytes.{same_size}
 
 -- some steps are done, and what is left follows
@@ -16,8 +13,7 @@ set-after f [] x m rest = refl
 set-after f (y ∷ steps) x m rest = ap (λ zs. f y ∷ zs) (set-after f steps x m rest)
 
 split-after : {S A : Type 0} (f : S → A) (steps : List S) (x : S) (rest : List A) → map f steps ++ f x ∷ rest ≡ map f (steps ++ x ∷ []) ++ rest
-split-after f [] x rest = refl
-split-after f (y ∷ steps) x rest = ap (λ zs. f y ∷ zs) (split-after f steps x rest)
+split-after f steps x rest = grind (arith, common_steps)
 
 record Left {A : Type 0} (rest : List A) (x : A) : Type 0 where
   pub more : List A
@@ -30,19 +26,8 @@ left-with (a ∷ rest) x h = let i : a ≡ x = cc in record { more = rest; is = 
 left : {S A : Type 0} (f : S → A) (xs : List A) (steps : List S) (rest : List A) (i : ℕ) (x : A) → xs ≡ map f steps ++ rest → length steps ≡ i → slice_get xs i ≡ Some x → Left rest x
 left f xs steps rest i x e n h = left-with rest x (sym (get-after f steps rest) ∙ subst (λ (ys : List _). slice_get ys (length steps) ≡ Some x) e (rw n h))
 
-none-left : {S A : Type 0} (f : S → A) (steps : List S) (rest : List A) → length steps ≡ length (map f steps ++ rest) → rest ≡ []
-none-left f [] [] h = refl
-none-left f [] (a ∷ rest) h = absurd (omega arith)
-none-left f (x ∷ steps) rest h = none-left f steps rest (omega arith)
-
 append-none : {A : Type 0} (xs : List A) → xs ++ [] ≡ xs
-append-none [] = refl
-append-none (x ∷ xs) = ap (λ ys. x ∷ ys) (append-none xs)
-
-all-done : {S A : Type 0} (f : S → A) (xs : List A) (steps : List S) (rest : List A) → xs ≡ map f steps ++ rest → length steps ≡ length xs → map f steps ≡ xs
-all-done f xs steps rest e n =
-    let none : rest ≡ [] = none-left f steps rest (n ∙ ap length e) in
-    sym (e ∙ ap (λ r. map f steps ++ r) none ∙ append-none (map f steps))
+append-none xs = grind (arith, common_steps)
 
 length-push : {S : Type 0} (steps : List S) (x : S) (i : ℕ) → length steps ≡ i → length (steps ++ x ∷ []) ≡ i + 1
 length-push steps x i h = grind (arith, common_steps)
@@ -50,8 +35,7 @@ length-push steps x i h = grind (arith, common_steps)
 -- one list goes on where its place is written
 written : {S A : Type 0} (f : S → A) (xs xs' : List A) (steps : List S) (x : S) (m : A) (rest more : List A) (i : ℕ) (y : A) → xs ≡ map f steps ++ rest → rest ≡ m ∷ more → length steps ≡ i
     → y ≡ f x → xs' ≡ slice_set xs i y → xs' ≡ map f (steps ++ x ∷ []) ++ more
-written f xs xs' steps x m rest more i y e r n is w =
-    w ∙ ap (slice_set xs i) is ∙ ap (λ ys. slice_set ys i (f x)) (e ∙ ap (λ ys. map f steps ++ ys) r) ∙ ap (λ k. slice_set (map f steps ++ m ∷ more) k (f x)) (sym n) ∙ set-after f steps x m more
+written f xs xs' steps x m rest more i y h k l n o = search (rules, set-after)
 
 -- one step more
 steps-push : (steps : List SeatStep) (x : SeatStep) (image : List ℕ) → after_steps (steps ++ x ∷ []) image ≡ with_sent x.old x.sent (after_steps steps image)
@@ -105,17 +89,6 @@ does_more Q tell old before new new' after after' told told' i seat seat' t t' p
       told_are = written tell told told' p.so_far.steps d.step t p.untold u.more i t' p.told_are u.is p.so_far.count d.told_is set-t;
     }
 
-pub does_done : {T : Type 0} (Q : SeatStep → Type 0) (tell : SeatStep → T) (old : List Seat) (before : List ℕ) (new : List Seat) (after : List ℕ) (told : List T) (i : ℕ)
-    → DoneSoFar Q tell old before new after told i → i ≡ length old → i ≡ length new → i ≡ length told → DoesEach Q tell old before new after told
-does_done Q tell old before new after told i p o n t = record {
-  steps = p.so_far.steps;
-  each = p.so_far.each;
-  old_are = all-done (λ (y : SeatStep). y.old) old p.so_far.steps p.so_far.rest p.so_far.old_are (p.so_far.count ∙ o);
-  new_are = all-done (λ (y : SeatStep). y.new) new p.so_far.steps p.so_far.rest p.so_far.new_are (p.so_far.count ∙ n);
-  told_are = sym (all-done tell told p.so_far.steps p.untold p.told_are (p.so_far.count ∙ t));
-  output_is = p.so_far.output_is;
-}
-
 -- one line more
 lines-push : (number n m : ℕ) (steps : List SeatStep) (x : SeatStep) (text line : List ℕ) → m ≡ n + length steps → AreLinesOf number n steps text → IsLineOf x.what number m x line
     → AreLinesOf number n (steps ++ x ∷ []) (text ++ line)
@@ -141,24 +114,9 @@ tells_more Q number slot old before new new' after after' text text' i seat seat
   lines = subst (AreLinesOf number 1 (p.so_far.steps ++ d.step ∷ [])) (sym d.text_is) (lines-push number 1 slot p.so_far.steps d.step text d.line (omega (arith, named, p.so_far.count)) p.lines d.line_is);
 }
 
-pub tells_done : (Q : SeatStep → Type 0) (number : ℕ) (old : List Seat) (before : List ℕ) (new : List Seat) (after text : List ℕ) (i : ℕ) → ToldSoFar Q number old before new after text i → i ≡ length old → i ≡ length new
-    → TellsEach Q number old before new after text
-tells_done Q number old before new after text i p o n = record {
-  steps = p.so_far.steps;
-  each = p.so_far.each;
-  old_are = all-done (λ (y : SeatStep). y.old) old p.so_far.steps p.so_far.rest p.so_far.old_are (p.so_far.count ∙ o);
-  new_are = all-done (λ (y : SeatStep). y.new) new p.so_far.steps p.so_far.rest p.so_far.new_are (p.so_far.count ∙ n);
-  output_is = p.so_far.output_is;
-  lines = p.lines;
-}
-
 -- the number of bytes of the output image stays
 kept-by : (at len : ℕ) (sent image : List ℕ) (b : Bool) → (length sent == len) ≡ b → at + len ≤ length image → length (if b then with_bytes at sent image else image) ≡ length image
-kept-by at len sent image true h inside = same_size at sent image (grind (arith, nat_tests))
-kept-by at len sent image false h inside = refl
-
-pub sent_size : (seat : Seat) (sent image : List ℕ) → seat.at_out + seat.len_out ≤ length image → length (with_sent seat sent image) ≡ length image
-sent_size seat sent image inside = kept-by seat.at_out seat.len_out sent image (length sent == seat.len_out) refl inside
+kept-by at len sent image b h k = search (rules, same_size)
 
 pub does_size : {T : Type 0} (Q : SeatStep → Type 0) (tell : SeatStep → T) (old new : Seat) (before after : List ℕ) (told : T) → Does Q tell old before new after told → old.at_out + old.len_out ≤ length before
     → length after ≡ length before

@@ -1,9 +1,6 @@
 -- A call that is a move of one slot, or of none.
-use Rattle.process_image.proofs.Common.{AreNumbered, Core, Did, Follows, ImageEvent, ImagesView, IsAtRest, IsSeatOf, IsSeatStep, IsSoundSeat, Move, Place, Seat, SeatStep, after_steps, contents, if_named, input, move_in, nothing, sampled, setup_of, with_bytes, with_sent}
+use Rattle.process_image.proofs.Common.{All-head, All-tail, AllZip, AreNumbered, Core, Did, Follows, ImageEvent, ImagesView, IsAtRest, IsSeatOf, IsSeatStep, IsSoundSeat, Move, Place, Seat, SeatStep, after_steps, contents, if_named, input, move_in, nat_tests, nothing, sampled, setup_of, with_bytes, with_sent}
 use Rattle.std.proofs.Common.{◌≡◌, ◌<◌, ℕ, zero, suc, ◌+◌, ◌==◌, List, [], ◌∷◌, map, slice_get, slice_set, All, Some, None, Bool, true, false, if◌then◌else◌, refl, sym, ap, subst, ◌∙◌, arith}
-use Rattle.std.specs.List.{AllZip}
-use Rattle.std.proofs.lemmas.Bool.Decides.{nat_tests}
-use Rattle.std.proofs.lemmas.List.Elements.{All-head, All-tail}
 use Rattle.param_load.specs.declared.entry.Move.TheVariants as move
 use Rattle.end_core.specs.Standing as end_core
 use Rattle.process_image.specs.declared.event.ImageEvent.TheVariants as event

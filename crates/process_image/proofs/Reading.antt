@@ -1,11 +1,9 @@
 -- What is shown of one slot.
-use Rattle.process_image.proofs.Common.{AnswersReset, Deed, Did, ImagesView, IsSeatOf, IsSoundSeat, Place, Seat, Setup, ShowsAt, bytes_at, deeds, entry_told, frame_len, frame_of, last_frame, numbered, output, sends, setup_is, setup_of, setups_of, told_line, valid_length}
-use Rattle.std.proofs.Common.{◌≡◌, ◌≤◌, ◌+◌, ◌-◌, ℕ, zero, suc, take, drop, length-take, arith, Bool, true, false, List, [], ◌∷◌, map, length, slice_get, Option, Some, IfSome, option_map, refl, sym, ap, ◌∙◌}
+use Rattle.process_image.proofs.Common.{AnswersReset, Deed, Did, ImagesView, IsSeatOf, IsSoundSeat, Place, Seat, Setup, ShowsAt, bytes_at, deeds, entry_told, frame_len, frame_of, last_frame, numbered, output, sends, setup_is, setup_of, setups_of, told_line}
+use Rattle.std.proofs.Common.{◌≡◌, ◌-◌, ℕ, zero, suc, arith, Bool, true, false, List, [], ◌∷◌, map, slice_get, Option, Some, IfSome, option_map, sym, ap, ◌∙◌}
 use Rattle.std.specs.Prelude.{if◌then◌else◌}
-use Rattle.std.proofs.lemmas.Bool.Decides.{nat_tests}
 use Rattle.param_load.specs.declared.entry.Move.TheVariants as move
 use Rattle.end_core.specs.Standing as end_core
-use Rattle.process_image.proofs.Beginning.{frame_most}
 use Rattle.process_image.proofs.Frames.{holds_frames}
 use Rattle.process_image.proofs.Giving.{len_at}
 use Rattle.process_image.proofs.Zips.{all_at, at_place}
@@ -54,18 +52,9 @@ frame_shown v si so slot place seat shown s n at e = record {
       rw (n, p.is) (ap (λ (f : List ℕ). Some f) (sym is));
 }
 
--- and has at most 255 bytes
-pub frame_short : (si so : ℕ) (seat : Seat) (image : List ℕ) → IsSoundSeat si so seat → length (take (seat.at_out + seat.len_out - seat.at_out) (drop seat.at_out image)) ≤ 255
-frame_short si so seat image s =
-    let most : frame_len (sends (setup_of seat.core)) ≤ 255 = frame_most (sends (setup_of seat.core)) (valid_length (setup_of seat.core)) in
-    let few = length-take (seat.at_out + seat.len_out - seat.at_out) (drop seat.at_out image) in
-    let len = s.len_out_is in
-    grind (arith, nat_tests)
-
 -- the frame that an end sent is its last one, if it sent one
 sent-is : (b : Bool) (sent last : List ℕ) → (b ≡ true → last ≡ sent) → (b ≡ false → sent ≡ []) → sent ≡ (if b then last else [])
-sent-is true sent last some none = sym (some refl)
-sent-is false sent last some none = none refl
+sent-is b sent last h k = grind arith
 
 last-at : (o : Option Place) (p : Place) (word : Place → List ℕ) (sent : List ℕ) → o ≡ Some p → option_map word o ≡ Some sent → word p ≡ sent
 last-at o p word sent e h = let s : Some (word p) ≡ Some sent = ap (option_map word) (sym e) ∙ h in cc

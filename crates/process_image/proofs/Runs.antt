@@ -1,14 +1,10 @@
 -- A run of images over the events of an input.
-use Rattle.process_image.proofs.Common.{DoesEvent, FitsImages, HasSlot, ImageEvent, ImageHeading, ImagesView, IsEndOf, IsMadeOf, IsNew, IsPlanOf, IsPrefix, IsSeatOf, IsSlotOf, LineCause, OfMaster, OfSlave, Place, Plan, Refused, ReportsSoFar, RunStands, RunView, Seat, Setup, Slot, SlotHeader, StandsFor, allows_id, by_word, bytes_said, deeds, each, encode_lower, end_at, end_terms, ended_at, event_in, event_lines, events_line, fields_of, heading_profile, id_at, image_format, image_line, image_reporting, image_said, known, last_lines, lines_of_events, map_ok, next_field, no_field, number_16, number_32, numbered, one_field, own_length, places_from, plan_of, profile_of, report_of, sends, setup_is, setup_of, setups_of, slots_of, switch_of, value_or, word_of}
-use Rattle.std.proofs.Common.{◌≡◌, ◌≤◌, ◌+◌, ◌==◌, ℕ, zero, suc, List, [], ◌∷◌, ◌++◌, Bool, true, false, length, map, reverse, slice_get, Option, Some, None, IfSome, append_assoc, refl, sym, ap, ap₂, subst, ◌∙◌, arith}
-use Rattle.std.specs.Prelude.{◌<◌, nat_le, All, IfOk, IsTrue, Result, Ok, Err, codes, if◌then◌else◌}
-use Rattle.std.specs.List.{AllZip}
-use Rattle.std.proofs.lemmas.Bool.Decides.{nat_tests}
-use Rattle.std.proofs.lemmas.List.{append-nil, reverse-append, length-reverse}
-use Rattle.std.proofs.lemmas.List.Elements.{All-nil, All-cons}
-use Rattle.fsoe_io.specs.declared.status.Status.TheVariants as status
+use Rattle.process_image.proofs.Common.{All, All-cons, All-nil, AllZip, DoesEvent, Err, FitsImages, HasSlot, IfOk, ImageEvent, ImageHeading, ImagesView, IsEndOf, IsMadeOf, IsNew, IsPlanOf, IsPrefix, IsSeatOf, IsSlotOf, IsTrue, LineCause, Ok, Place, Plan, Refused, ReportsSoFar, Result, RunStands, RunView, Seat, Setup, Slot, SlotHeader, StandsFor, allows_id, append-nil, by_word, bytes_said, common_steps, deeds, each, end_at, end_terms, ended_at, event_in, event_lines, fields_of, id_at, image_format, image_line, image_reporting, image_said, known, last_lines, lines_of_events, map_ok, nat_le, next_field, no_field, number_16, number_32, numbered, one_field, places_from, plan_of, profile_of, report_of, reverse-append, sends, setup_is, setup_of, setups_of, slots_of, value_or, word_of}
+use Rattle.schedule_file.specs.EventLine.{switch_of}
+use Rattle.std.proofs.Common.{◌≡◌, ◌≤◌, ◌+◌, ◌==◌, ℕ, zero, suc, List, [], ◌∷◌, ◌++◌, Bool, true, false, length, map, reverse, slice_get, Option, Some, None, IfSome, append_assoc, refl, sym, ap, subst, ◌∙◌, arith}
+use Rattle.std.specs.Prelude.{◌<◌, if◌then◌else◌}
 use Rattle.schedule_file.specs.declared.line_cause.LineCause.TheVariants as cause
-use Rattle.file_run.specs.Machine.{IsSaid, EndsReport}
+use Rattle.file_run.specs.Machine.{IsSaid}
 use Rattle.process_image.specs.declared.event.ImageEvent.TheVariants as event
 use Rattle.process_image.specs.declared.event.ImageLine.{ImageLine}
 use Rattle.process_image.specs.declared.event.ImageLine.TheVariants as line
@@ -47,16 +43,7 @@ so_far v h log text r = record {
 -- one event more
 pub takes_more : (v w : RunView) (h : ImageHeading) (log : List ImageEvent) (text piece : List ℕ) (e : ImageEvent) (n : ℕ) → DoesEvent v.images e n w.images piece → n ≡ length log + 1 → RunStands v h log text
     → RunStands w h (log ++ e ∷ []) (text ++ piece)
-takes_more v w h log text piece e n d number r =
-    let more : reverse (log ++ e ∷ []) ≡ e ∷ reverse log = reverse-append log (e ∷ []) in
-    let count : n ≡ length (reverse log) + 1 = number ∙ ap (λ (m : ℕ). m + 1) (sym (length-reverse log)) in
-    record {
-      plan = r.plan;
-      made = r.made;
-      images = rw more (d.follows.stands r.plan (reverse log) r.images);
-      lines = rw more (ap₂ (λ (a b : List ℕ). a ++ b) r.lines (d.tells.lines r.plan (reverse log) r.images count));
-      size_in = d.size_in ∙ r.size_in;
-    }
+takes_more v w h log text piece e n k l m = grind (arith, common_steps)
 
 -- the same images, and the same text said another way
 pub same_images : (v w : RunView) (h : ImageHeading) (log : List ImageEvent) (text text' : List ℕ) → v.images ≡ w.images → text' ≡ text → RunStands v h log text → RunStands w h log text'
@@ -87,18 +74,16 @@ bare l (Ok x) P h = h
 bare l (Err e) P h = tt
 
 found : (o : Option SlotEnd) → IfOk (value_or cause.NoLink o) (λ end. o ≡ Some end)
-found None = tt
-found (Some end) = refl
+found o = grind arith
 
 inside : (n size : ℕ) → nat_le n size ≡ true → n ≤ size
-inside n size h = grind (arith, nat_tests)
+inside n size h = grind arith
 
 equal : (n m : ℕ) → (n == m) ≡ true → n ≡ m
-equal n m h = grind (arith, nat_tests)
+equal n m h = grind arith
 
 put-len : (o : Option Setup) (n : ℕ) (end : SlotEnd) → n ≡ end.sends → IfSome o (λ s. (sends s ≡ end.sends) × (profile_of s ≡ end.profile)) → IfSome o (λ s. n ≡ sends s)
-put-len None n end e h = h
-put-len (Some s) n end e h = e ∙ sym h.0
+put-len o n end h k = grind arith
 
 id-allowed : (o : Option Setup) (id : ℕ) (end : SlotEnd) → allows_id end.profile id ≡ true → IfSome o (λ s. (sends s ≡ end.sends) × (profile_of s ≡ end.profile)) → IfSome o (λ s. IsTrue (allows_id (profile_of s) id))
 id-allowed None id end e h = h
@@ -138,13 +123,11 @@ fields-fit size ends v [] h = tt
 fields-fit size ends v (first ∷ fields) h = said-fits size ends v (word_of first) fields h
 
 step-fits : (P : ImageEvent → Type 0) (l : ImageLine) (e : ImageEvent) → event_in l ≡ Some e → OnStep P l → P e
-step-fits P (line.Step x) e is h = let i : x ≡ e = cc in subst P i h
-step-fits P line.End e is h = absurd (cc is)
+step-fits P l e h k = grind arith
 
 -- the ends of the slots that a header says are those of the images
 terms-are : (s : SlotHeader) (t : Setup) → IsEndOf s t → (sends t ≡ (end_terms s).sends) × (profile_of t ≡ (end_terms s).profile)
-terms-are s (OfMaster ms) is = (is.1.0 ∙ ap (own_length s.own) (sym is.0), is.1.2.profile_is ∙ ap (heading_profile s.own) (sym is.0))
-terms-are s (OfSlave ss) is = (is.1.1 ∙ ap (own_length s.own) (sym is.0), is.1.2.profile_is ∙ ap (heading_profile s.own) (sym is.0))
+terms-are s t h = grind arith
 
 ends-at : (size : ℕ) (calls : List ImageEvent) (ss : List SlotHeader) (places : List Place) (seats : List Seat) (k : ℕ) (end : SlotEnd) → AllZip IsSlotOf ss places → AllZip (IsSeatOf size calls) places seats
     → slice_get (map end_terms ss) k ≡ Some end → (k < length (map (λ seat. setup_of seat.core) seats)) × IfSome (slice_get (map (λ seat. setup_of seat.core) seats) k) (λ s. (sends s ≡ end.sends) × (profile_of s ≡ end.profile))
@@ -175,17 +158,6 @@ run_fits v h log text e r said =
     let fits : IfOk (image_line h.size_in (map end_terms (slots_of h)) said.0) (OnStep (FitsImages v.images)) = fields-fit h.size_in (map end_terms (slots_of h)) v.images (fields_of said.0) have in
     let one : OnStep (FitsImages v.images) said.1 = subst (λ (x : Result ImageLine LineCause). IfOk x (OnStep (FitsImages v.images))) said.2 fits in
     step-fits (FitsImages v.images) said.1 e said.3 one
-
--- at the end
-pub closes_so : (v : RunView) (h : ImageHeading) (log : List ImageEvent) (text last : List ℕ) (n : ℕ) → n ≡ length log → RunStands v h log text → last ≡ events_line n ++ codes "out " ++ encode_lower v.images.output ++ codes "\n"
-    → EndsReport image_reporting h log (text ++ last) (record { status = status.Ok; place = 0 })
-closes_so v h log text last n count r is =
-    λ lines.
-    ((r.plan, r.made, ap₂ (λ (a b : List ℕ). a ++ b) r.lines (is ∙ ap₂ (λ (m : ℕ) (out : List ℕ). events_line m ++ codes "out " ++ encode_lower out ++ codes "\n") (count ∙ sym (length-reverse log)) r.images.output_is)), refl)
-
-pub last_lines_are : (first image end : List ℕ) → first ++ ((codes "out " ++ image) ++ end) ≡ ((first ++ codes "out ") ++ image) ++ end
-last_lines_are first image end =
-    ap (λ (rest : List ℕ). first ++ rest) (append_assoc (codes "out ") image end) ∙ sym (append_assoc (first ++ codes "out ") image end ∙ append_assoc first (codes "out ") (image ++ end))
 
 -- at the beginning
 pub all_new : (ss : List SlotHeader) (slots : List Slot) → AllZip IsMadeOf ss slots → All (λ slot. IsNew slot.core) slots

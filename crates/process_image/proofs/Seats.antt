@@ -1,26 +1,14 @@
 -- One slot at a sample and at a tick.
-use Rattle.process_image.proofs.Common.{AddsLine, Answers, Core, Did, Does, IsAtRest, IsLineOf, IsSampleStep, IsSoundSeat, IsTickStep, Move, Seat, SeatStep, Shows, Tells, answer_in, bytes_at, delivery, did_in, entry_told, frame_len, nothing, seat_contents, sends, setup_of, told_by, with_bytes, with_sent}
+use Rattle.process_image.proofs.Common.{AddsLine, Answers, Core, Did, Does, IsAtRest, IsLineOf, IsSampleStep, IsSoundSeat, IsTickStep, Move, Seat, SeatStep, Shows, Tells, answer_in, append-nil, bytes_at, common_steps, delivery, did_in, entry_told, frame_len, nothing, pointwise, same_text, seat_contents, sends, setup_of, told_by, with_bytes, with_sent}
 use Rattle.end_core.specs.Standing.{Follows}
-use Rattle.std.proofs.Common.{◌≡◌, ℕ, ◌+◌, ◌-◌, ◌*◌, ◌==◌, ◌≤◌, List, [], length, take, drop, min, Option, Some, None, option_map, Bool, true, false, if◌then◌else◌, nat_eq, refl, sym, ap, subst, ◌∙◌, arith}
-use Rattle.std.proofs.lemmas.Grind.{common_steps}
-use Rattle.std.proofs.lemmas.List.{append-nil, length-take, length-drop}
-use Rattle.std.specs.Cmp.Lexicographic.{pointwise, same_text}
+use Rattle.std.proofs.Common.{◌≡◌, ℕ, ◌+◌, ◌-◌, ◌==◌, ◌≤◌, List, [], length, Option, Some, None, option_map, true, false, if◌then◌else◌, nat_eq, refl, sym, ap, subst, ◌∙◌, arith, rules}
 use Rattle.param_load.specs.declared.entry.Move.TheVariants as move
 
--- a frame has some bytes
-some-bytes : (b : Bool) (l : ℕ) → (0 == (if b then 6 else 3 + 2 * l)) ≡ false
-some-bytes true l = refl
-some-bytes false l = grind arith
-
 pub some_frame : (l : ℕ) → (0 == frame_len l) ≡ false
-some_frame l = some-bytes (l == 1) l
-
--- where nothing was sent the image stays
-none-sent : (seat : Seat) (image : List ℕ) → (0 == seat.len_out) ≡ false → image ≡ with_sent seat [] image
-none-sent seat image h = sym (ap (λ b. if b then with_bytes seat.at_out [] image else image) h)
+some_frame l = grind arith
 
 pub stays : (size_in size_out : ℕ) (seat : Seat) (image : List ℕ) → IsSoundSeat size_in size_out seat → image ≡ with_sent seat [] image
-stays size_in size_out seat image s = none-sent seat image (subst (λ (n : ℕ). (0 == n) ≡ false) (sym s.len_out_is) (some_frame (sends (setup_of seat.core))))
+stays size_in size_out seat image h = search (rules, with_bytes, some_frame, sends)
 
 -- a slot of which a call is no move
 abbrev pub still : Seat → SeatStep
@@ -47,11 +35,7 @@ samples_none size_in size_out input seat image s h = record {
 
 -- the contents of a slot have the length of the frames that come
 contents-long : (at len : ℕ) (input : List ℕ) → at + len ≤ length input → length (bytes_at at len input) ≡ len
-contents-long at len input h =
-    let n : at + len - at ≡ len = omega arith in
-    let t : length (take (at + len - at) (drop at input)) ≡ min (at + len - at) (length (drop at input)) = length-take (at + len - at) (drop at input) in
-    let d : length (drop at input) ≡ length input - at = length-drop at input in
-    grind (arith, common_steps)
+contents-long at len input h = grind (arith, common_steps)
 
 -- other contents are
 pub delivers : (size_out : ℕ) (input : List ℕ) (old : Seat) (before after : List ℕ) (core : Core) (did : Did) (sent seen now : List ℕ) → IsSoundSeat (length input) size_out old
@@ -140,8 +124,7 @@ did_alone old new before after did sent d = record {
 -- a line that shows the end of a slot after a step
 shown-line : (number slot : ℕ) (new : Seat) (did : Did) (sent : List ℕ) (x : SeatStep) (line : List ℕ) → x.new ≡ new → (did, sent) ≡ answer_in x → Shows new.core line (entry_told number slot did sent)
     → Shows x.new.core line (entry_told number slot x.did x.sent)
-shown-line number slot new did sent x line n a s =
-    subst (λ (a : Did × List ℕ). Shows x.new.core line (entry_told number slot a.0 a.1)) a (subst (λ (seat : Seat). Shows seat.core line (entry_told number slot did sent)) (sym n) s)
+shown-line number slot new did sent x line h k l = grind arith
 
 -- a line that shows what was done tells of the slot
 pub tells_sample : (input : List ℕ) (number slot : ℕ) (old new : Seat) (before after text text' : List ℕ) (did : Did) (sent : List ℕ) → Does (IsSampleStep input) answer_in old before new after (did, sent)

@@ -1,7 +1,6 @@
 -- Images at which the end of one slot was called.
-use Rattle.process_image.proofs.Common.{Core, ImagesView, IsAtRest, IsSetting, IsSound, IsSoundSeat, Move, Seat, Setup, frame_len, nothing, numbered, receives, sends, set_answers, setup_of, setups_of}
-use Rattle.std.proofs.Common.{◌≡◌, ◌≤◌, ℕ, zero, suc, List, [], ◌∷◌, map, length, slice_get, slice_set, All, Option, Some, IfSome, sym, ap, subst, ◌∙◌}
-use Rattle.std.proofs.lemmas.List.{length-set}
+use Rattle.process_image.proofs.Common.{Core, ImagesView, IsAtRest, IsSetting, IsSound, IsSoundSeat, Move, Seat, Setup, frame_len, length-set, nothing, numbered, receives, sends, set_answers, setup_of, setups_of}
+use Rattle.std.proofs.Common.{◌≡◌, ◌≤◌, ℕ, zero, suc, List, [], ◌∷◌, map, length, slice_get, slice_set, Some, IfSome, sym, ap, subst, ◌∙◌, rules}
 use Rattle.end_core.specs.Standing as end_core
 use Rattle.process_image.proofs.One.{Moved}
 use Rattle.process_image.proofs.Zips.{all_at, all_set, map_set}
@@ -21,13 +20,7 @@ at-setup (x ∷ seats) zero seat h = let i : x ≡ seat = cc in ap (λ (s : Seat
 at-setup (x ∷ seats) (suc k) seat h = at-setup seats k seat h
 
 pub named_setup : (v : ImagesView) (slot k : ℕ) (seat : Seat) (P : Setup → Type 0) → slot ≡ suc k → slice_get v.seats k ≡ Some seat → IfSome (numbered slot (setups_of v)) P → P (setup_of seat.core)
-named_setup v slot k seat P n at h =
-    let named : IfSome (slice_get (setups_of v) k) P = subst (λ (slot : ℕ). IfSome (numbered slot (setups_of v)) P) n h in
-    subst (λ (o : Option Setup). IfSome o P) (at-setup v.seats k seat at) named
-
--- it is at rest
-pub at_rest : (v : ImagesView) (k : ℕ) (seat : Seat) → IsSound v → slice_get v.seats k ≡ Some seat → IsAtRest seat.core
-at_rest v k seat s at = (all_at (IsSoundSeat (length v.input) (length v.output)) v.seats k seat s.seats at).rest
+named_setup v slot k seat P h l m = search (rules, at-setup)
 
 -- a seat stays sound with an end that is set alike
 sound-end : (si so : ℕ) (seat : Seat) (end : Core) → IsSoundSeat si so seat → setup_of end ≡ setup_of seat.core → IsAtRest end → IsSoundSeat si so (with_end end seat)
@@ -56,6 +49,4 @@ set_setups v k seat end at setup = map_set (λ (s : Seat). setup_of s.core) v.se
 -- so are images whose output image changed too, with as many bytes
 pub reset_sound : (v : ImagesView) (k : ℕ) (seat : Seat) (end : Core) (after : List ℕ) → IsSound v → slice_get v.seats k ≡ Some seat → setup_of end ≡ setup_of seat.core → IsAtRest end → length after ≡ length v.output
     → IsSound (record { seats = slice_set v.seats k (with_end end seat); input = v.input; output = after })
-reset_sound v k seat end after s at setup rest n =
-    let t = set_sound v k seat end s at setup rest in
-    record { seats = subst (λ (so : ℕ). All (IsSoundSeat (length v.input) so) (slice_set v.seats k (with_end end seat))) (sym n) t.seats; most = t.most }
+reset_sound v k seat end after h l m n o = search (rules, set_sound)

@@ -1,13 +1,12 @@
 -- Each input of images has a report: a header that is whole says settings of each end.
-use Rattle.process_image.proofs.Common.{AreNumbered, End, ImageEvent, ImageHeading, IsEndOf, IsImageReport, IsPlanOf, IsSlotOf, OfMaster, OfSlave, Place, Plan, Setup, SlotHeader, Sound, Stage, Stop, after_sound, by_word, each, either, end_of, fields_of, fits_images, headed, heading_is_whole, image_format, input_read, is_end_line, is_open, kind_after, known, last_line, line_taken, master_settings, may_end, new_sound, next_field, node_heading_after, number_16, one_field, own_taken, report_of, size_line, size_taken, slave_settings, slot_begun, slot_line, slot_taken, slots_begun, slots_of, with_last}
+use Rattle.process_image.proofs.Common.{All-head, All-nil, All-push, All-tail, AllZip, AreNumbered, Err, IfOk, ImageEvent, ImageHeading, IsEndOf, IsImageReport, IsPlanOf, IsSlotOf, OfMaster, OfSlave, Ok, Place, Plan, Setup, SlotHeader, Sound, Stage, Stop, after_sound, by_word, bytes_eq, codes, each, either, end_of, fields_of, fits_images, headed, heading_is_whole, image_format, input_read, is_end_line, is_open, kind_after, known, line_taken, master_settings, may_end, nat_le, new_sound, next_field, node_heading_after, not, number_16, one_field, own_taken, report_of, size_line, size_taken, slave_settings, slot_begun, slot_line, slot_taken, slots_begun, slots_of, with_last}
+use Rattle.fsoe_base.specs.declared.command.End.{End}
+use Rattle.file_run.specs.Report.{last_line}
 use Rattle.std.proofs.Common.{◌≡◌, ◌+◌, ℕ, suc, List, [], ◌∷◌, All, length, reverse, Option, Some, None, IfSome, refl}
-use Rattle.std.specs.Prelude.{IfOk, Ok, Err, if◌then◌else◌, codes, ◌&&◌, ◌==◌, nat_le, not}
-use Rattle.std.specs.List.{AllZip}
-use Rattle.std.proofs.lemmas.List.Elements.{All-head, All-tail, All-nil, All-push}
+use Rattle.std.specs.Prelude.{if◌then◌else◌, ◌&&◌, ◌==◌}
 use Rattle.fsoe_base.specs.declared.command.End.TheVariants as side
 use Rattle.schedule_file.specs.declared.header_kind.HeaderKind.TheVariants as kind
 use Rattle.schedule_file.specs.declared.line_cause.LineCause.TheVariants as cause
-use Rattle.std.specs.Str.{bytes_eq}
 use Rattle.process_image.specs.declared.header.Stage.TheVariants as stage
 use Rattle.process_image.proofs.Runs.{tested}
 

@@ -1,8 +1,6 @@
 -- A sample and a tick of all slots, and what they tell.
-use Rattle.process_image.proofs.Common.{AnswersSample, AnswersTick, Did, DoesEach, DoesEvent, Follows, ImageEvent, ImagesView, IsSampleStep, IsSeatOf, IsSound, IsSoundSeat, IsTickStep, Makes, Move, Place, Plan, Seat, SeatStep, Setup, StandsFor, TellsEach, bytes_at, contents, deeds, delivery, did_in, frame_len, input, move_in, next_deed, receives, sampled, seat_contents, setup_is, spans_of, told, told_by}
-use Rattle.std.proofs.Common.{◌≡◌, ℕ, List, [], ◌∷◌, map, length, All, Option, Some, None, option_map, refl, sym, ap, ap₂, subst, ◌∙◌}
-use Rattle.std.specs.List.{AllZip}
-use Rattle.std.proofs.lemmas.List.Elements.{All-head, All-tail}
+use Rattle.process_image.proofs.Common.{All-head, All-tail, AllZip, AnswersSample, AnswersTick, Did, DoesEach, DoesEvent, Follows, ImageEvent, ImagesView, IsSampleStep, IsSeatOf, IsSound, IsSoundSeat, IsTickStep, Makes, Move, Place, Plan, Seat, SeatStep, StandsFor, TellsEach, deeds, did_in, input, next_deed, told, told_by}
+use Rattle.std.proofs.Common.{◌≡◌, ℕ, List, [], ◌∷◌, map, length, All, Option, Some, refl, sym, ap, ap₂, subst, ◌∙◌, arith}
 use Rattle.param_load.specs.declared.entry.Move.TheVariants as move
 use Rattle.end_core.specs.Standing as end_core
 use Rattle.process_image.specs.declared.event.ImageEvent.TheVariants as event
@@ -13,18 +11,7 @@ use Rattle.process_image.proofs.ToldLines.{lines_are}
 -- one slot at a sample
 sample-part : (size so : ℕ) (calls : List ImageEvent) (now : List ℕ) (p : Place) (x : SeatStep) → now ≡ input size calls → IsSeatOf size calls p x.old → IsSoundSeat (length now) so x.old → IsSampleStep now x
     → IsPart size calls event.Sample p x
-sample-part size so calls now p x e h s q =
-    let n : length x.old.seen ≡ (spans_of p).len_in = s.seen_len ∙ ap (λ (t : Setup). frame_len (receives t)) (setup_is p.setup x.old.core (deeds size p calls) h.end_is) in
-    let c : seat_contents x.old now ≡ contents p (input size calls) =
-    ap (λ (at : ℕ). bytes_at at (length x.old.seen) now) h.at_in_is ∙ ap (λ (len : ℕ). bytes_at p.at_in len now) n ∙ ap (contents p) e
-    in
-    record {
-      before = h;
-      is = q.is;
-      what_is = q.what_is ∙ ap (λ (seen : List ℕ). delivery seen (seat_contents x.old now)) h.seen_is ∙ ap (delivery (contents p (sampled size calls))) c;
-      seen_is = q.seen_is ∙ c;
-      len_is = s.len_out_is;
-    }
+sample-part size so calls now p x h k l m = grind arith
 
 -- and at a tick
 tick-part : (size si so : ℕ) (calls : List ImageEvent) (p : Place) (x : SeatStep) → IsSeatOf size calls p x.old → IsSoundSeat si so x.old → IsTickStep x → IsPart size calls event.Tick p x
@@ -49,15 +36,8 @@ tick-parts size si so calls (p ∷ places) (x ∷ xs) h s q = (
 )
 tick-parts size si so calls _ _ h s q = absurd h
 
--- what a step tells is what is told of its slot
-told-by : (size : ℕ) (calls : List ImageEvent) (p : Place) (x : SeatStep) (o : Option Move) → x.what ≡ o → Makes o x → end_core.IsAfter p.setup x.old.core (deeds size p calls)
-    → told_by x ≡ option_map (λ what. (next_deed size p calls what).did) o
-told-by size calls p x None w m a = ap (λ (o : Option Move). option_map (λ what. x.did) o) w
-told-by size calls p x (Some what) w m a = ap (λ (o : Option Move). option_map (λ what. x.did) o) w ∙ ap (λ (d : Did). Some d) (m.1.did p.setup (deeds size p calls) a)
-
 told-one : (size : ℕ) (calls : List ImageEvent) (call : ImageEvent) (p : Place) (x : SeatStep) → IsPart size calls call p x → told_by x ≡ told size calls call p
-told-one size calls call p x part =
-    told-by size calls p x (move_in size p calls call) part.what_is (subst (λ (o : Option Move). Makes o x) part.what_is part.is.makes) part.before.end_is
+told-one size calls call p x h = grind arith
 
 told-all : (size : ℕ) (calls : List ImageEvent) (call : ImageEvent) (places : List Place) (xs : List SeatStep) → AllZip (IsPart size calls call) places xs → map told_by xs ≡ map (told size calls call) places
 told-all size calls call [] [] h = refl
@@ -165,11 +145,8 @@ tick_sound number v new after text s t n = images_sound IsTickStep did_in v new 
 -- the same, of the lists that are at hand
 pub sample_alike : (number : ℕ) (input input' : List ℕ) (old old' : List Seat) (before before' : List ℕ) (new : List Seat) (after text : List ℕ) → TellsEach (IsSampleStep input) number old before new after text
     → input ≡ input' → old ≡ old' → before ≡ before' → TellsEach (IsSampleStep input') number old' before' new after text
-sample_alike number input input' old old' before before' new after text t e f g =
-    subst (λ (xs : List ℕ). TellsEach (IsSampleStep xs) number old' before' new after text) e
-    (subst (λ (xs : List Seat). TellsEach (IsSampleStep input) number xs before' new after text) f (subst (λ (xs : List ℕ). TellsEach (IsSampleStep input) number old xs new after text) g t))
+sample_alike number input input' old old' before before' new after text h k l m = grind arith
 
 pub tick_alike : (number : ℕ) (old old' : List Seat) (before before' : List ℕ) (new : List Seat) (after text : List ℕ) → TellsEach IsTickStep number old before new after text → old ≡ old' → before ≡ before'
     → TellsEach IsTickStep number old' before' new after text
-tick_alike number old old' before before' new after text t f g =
-    subst (λ (xs : List Seat). TellsEach IsTickStep number xs before' new after text) f (subst (λ (xs : List ℕ). TellsEach IsTickStep number old xs new after text) g t)
+tick_alike number old old' before before' new after text h k l = grind arith

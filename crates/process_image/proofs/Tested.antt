@@ -1,12 +1,9 @@
 -- The slots of a header fit its images, line by line.
-use Rattle.process_image.proofs.Common.{End, Fit, Heading, ImageHeading, IsApart, IsEndOf, IsMadeOf, IsTested, LineCause, OfMaster, OfSlave, Setup, Slot, SlotHeader, Stage, and_placed, delivered_len, either, end_of, end_of_kind, fields_of, fields_taken, first_fault, first_outside, first_pair, first_with, fits_images, frame_len, heading_after, heading_is_whole, heading_spans, heading_with, image_heading_is_whole, is_done, is_end_line, is_placed, kind_after, lie_inside, map_ok, no_field, node_heading_after, one_hex_field, overlap, own_length, pair_or, places_from, plan_of, profile_given, profile_taken, receives, sends, setup_of, slot_spans, slots_begun, slots_of, tested_by, title_taken, ◌>>=◌}
-use Rattle.std.proofs.Common.{◌≡◌, ◌≤◌, ◌⊎◌, inl, inr, ℕ, suc, List, [], ◌∷◌, ◌++◌, Bool, true, false, length, map, refl, sym, ap, ap₂, subst, ◌∙◌}
-use Rattle.std.specs.Prelude.{◌&&◌, ◌||◌, not, IsTrue, IfOk, Option, Some, None, Result, Ok, Err, if◌then◌else◌}
-use Rattle.std.specs.List.{AllZip, list_any}
-use Rattle.std.proofs.lemmas.Bool.{false≢true}
+use Rattle.process_image.proofs.Common.{AllZip, Err, Fit, Heading, IfOk, ImageHeading, IsApart, IsMadeOf, IsTested, IsTrue, LineCause, None, Ok, Option, Result, Slot, SlotHeader, Some, and_placed, bytes_eq, common_steps, either, fields_of, fields_taken, first_fault, first_outside, first_pair, first_with, fits_images, heading_after, heading_is_whole, heading_spans, heading_with, image_heading_is_whole, is_end_line, is_placed, kind_after, lie_inside, list_any, map_ok, no_field, node_heading_after, not, one_hex_field, overlap, pair_or, places_from, plan_of, profile_given, profile_taken, slot_spans, slots_of, tested_by, title_taken}
+use Rattle.schedule_file.specs.Fields.{◌>>=◌}
+use Rattle.std.proofs.Common.{◌≡◌, ◌≤◌, ◌⊎◌, inl, inr, ℕ, suc, List, [], ◌∷◌, ◌++◌, Bool, true, false, length, map, refl, sym, ap, subst, ◌∙◌, arith, rules}
+use Rattle.std.specs.Prelude.{◌&&◌, ◌||◌, if◌then◌else◌}
 use Rattle.std.proofs.lemmas.Result.{IfOk-weaker}
-use Rattle.std.specs.Str.{bytes_eq}
-use Rattle.fsoe_base.specs.declared.command.End.TheVariants as side
 use Rattle.schedule_file.specs.HeaderKind.{title_of}
 use Rattle.schedule_file.specs.HeaderLine.{header_line, lengths_line, master_line, profile_line, slave_line, rule_line, range_line}
 use Rattle.schedule_file.specs.HeaderPart.{master_with_app, slave_with_bytes, slave_with_pairs}
@@ -14,7 +11,6 @@ use Rattle.schedule_file.specs.Place.{admitted, header_word_of, is_last, is_star
 use Rattle.schedule_file.specs.declared.header_kind.HeaderKind.{HeaderKind}
 use Rattle.schedule_file.specs.declared.header_line.HeaderLine.{HeaderLine}
 use Rattle.schedule_file.specs.declared.header_line.HeaderLine.TheVariants as says
-use Rattle.schedule_file.specs.declared.header_line.LengthsLine.{LengthsLine}
 use Rattle.schedule_file.specs.declared.line_cause.LineCause.TheVariants as cause
 use Rattle.schedule_file.specs.declared.place.Place.{Place}
 use Rattle.schedule_file.specs.declared.place.Place.TheVariants as place
@@ -26,12 +22,10 @@ use Rattle.process_image.proofs.Faults.{tested}
 
 -- the tests of a slot
 or-parts : (a b : Bool) → (a || b) ≡ false → (a ≡ false) × (b ≡ false)
-or-parts true b h = absurd (cc h)
-or-parts false b h = (refl, h)
+or-parts a b h = grind arith
 
 and-parts : (a b : Bool) → (a && not b) ≡ true → (a ≡ true) × (b ≡ false)
-and-parts true false h = (refl, refl)
-and-parts _ _ h = absurd (cc h)
+and-parts a b h = grind arith
 
 -- one slot more that was tested
 apart-push : (s : Spans) (ss : List SlotHeader) (t : SlotHeader) → IsApart s (map heading_spans ss) → overlap s (heading_spans t) ≡ false → IsApart s (map heading_spans (ss ++ t ∷ []))
@@ -55,21 +49,17 @@ fit-front si so [] t f = tt
 fit-front si so (s ∷ ss) t f = (f.0, apart-front (heading_spans s) ss t f.1, fit-front si so ss t f.2)
 
 same-spans : (ss : List SlotHeader) (t u : SlotHeader) → heading_spans t ≡ heading_spans u → map heading_spans (ss ++ t ∷ []) ≡ map heading_spans (ss ++ u ∷ [])
-same-spans [] t u h = ap (λ (s : Spans). s ∷ []) h
-same-spans (s ∷ ss) t u h = ap (λ (later : List Spans). heading_spans s ∷ later) (same-spans ss t u h)
+same-spans ss t u h = grind (arith, common_steps)
 
 -- the last slot counts, or doesn't
 fit-before : (si so : ℕ) (b : Bool) (ss : List SlotHeader) (t : SlotHeader) → Fit si so (map heading_spans (and_placed b ss t)) → Fit si so (map heading_spans ss)
-fit-before si so true ss t f = fit-front si so ss t f
-fit-before si so false ss t f = f
+fit-before si so b ss t h = search (rules, fit-front)
 
 fit-either : (si so : ℕ) (b : Bool) (ss : List SlotHeader) (t : SlotHeader) → Fit si so (map heading_spans (ss ++ t ∷ [])) → Fit si so (map heading_spans (and_placed b ss t))
-fit-either si so true ss t f = f
-fit-either si so false ss t f = fit-front si so ss t f
+fit-either si so b ss t h = search (rules, fit-front)
 
 fit-placed : (si so : ℕ) (b : Bool) (ss : List SlotHeader) (t : SlotHeader) → b ≡ true → Fit si so (map heading_spans (and_placed b ss t)) → Fit si so (map heading_spans (ss ++ t ∷ []))
-fit-placed si so true ss t h f = f
-fit-placed si so false ss t h f = absurd (false≢true h)
+fit-placed si so b ss t h k = grind arith
 
 -- what a line makes of an end: it places it; or it isn't placed yet; or it was, and stays there
 abbrev Goes : Heading → Heading → Type 0
@@ -83,13 +73,7 @@ is-later word.Slave = false
 is-later other = true
 
 placed-by : (kind : HeaderKind) (p : Place) (w : Word) → is-later w ≡ true → IsTrue (may_stand kind p w) → is_placed p ≡ true
-placed-by kind place.Title word.Lengths l h = absurd (false≢true l)
-placed-by kind place.Lengths word.Master l h = absurd (false≢true l)
-placed-by kind place.Lengths word.Slave l h = absurd (false≢true l)
-placed-by kind place.Start w l h = absurd (false≢true h)
-placed-by kind place.Title w l h = absurd (false≢true h)
-placed-by kind place.Lengths w l h = absurd (false≢true h)
-placed-by kind p w l h = refl
+placed-by kind p w h k = grind arith
 
 each-taken : {A : Type 0} (r : Result A LineCause) (f : A → HeaderLine) (given : Result (Unit {0}) LineCause) (h : Heading) (P : Heading → Type 0) → ((x : A) → IfOk (heading_with h (f x)) P)
     → IfOk (map_ok f r >>= (λ line. given >>= (λ it. heading_with h line))) P
@@ -101,8 +85,7 @@ mapped (Ok x) f P all = all x
 mapped (Err e) f P all = tt
 
 profile-goes : (p : Place) (h : Heading) (n : ℕ) → is_placed h.place ≡ true → Goes h (profile_taken p h n)
-profile-goes place.Slave h n is = inr (inr (is, refl, refl))
-profile-goes other h n is = inr (inr (is, refl, refl))
+profile-goes p h n k = grind arith
 
 word-goes : (h : Heading) (w : Word) (fields : List (List ℕ)) → IsTrue (may_stand h.kind h.place w) → IfOk (header_line w fields >>= (λ line. profile_given h w >>= (λ it. heading_with h line))) (Goes h)
 word-goes h word.Lengths fields stands = each-taken (lengths_line fields) says.Lengths (profile_given h word.Lengths) h (Goes h) (λ line. inr (inl refl))
@@ -145,46 +128,21 @@ after-goes : (h : Heading) (text : List ℕ) → IfOk (heading_after h text) (Go
 after-goes h text = either (is_start h.place) (title_taken h text) (fields_taken h (fields_of text)) (Goes h) (titled h (bytes_eq text (title_of h.kind))) (fields-goes h (fields_of text))
 
 kind-stays : (p : Place) (fields : List (List ℕ)) (kind : HeaderKind) → is_placed p ≡ true → kind_after p fields kind ≡ kind
-kind-stays place.Lengths fields kind h = absurd (false≢true h)
-kind-stays p fields kind h = refl
+kind-stays p fields kind h = grind arith
 
 goes-on : (h : Heading) (kind : HeaderKind) (h' : Heading) → (is_placed h.place ≡ true → kind ≡ h.kind) → Goes (record h { kind = kind }) h' → Goes h h'
-goes-on h kind h' same (inl end) = inl end
-goes-on h kind h' same (inr (inl not_yet)) = inr (inl not_yet)
-goes-on h kind h' same (inr (inr stays)) = inr (inr (stays.0, stays.1, stays.2 ∙ same stays.0))
+goes-on h kind h' k l = grind arith
 
 node-goes : (h : Heading) (text : List ℕ) → IfOk (node_heading_after h text) (Goes h)
 node-goes h text =
     let kind : HeaderKind = kind_after h.place (fields_of text) h.kind in
     IfOk-weaker (node_heading_after h text) (Goes (record h { kind = kind })) (Goes h) (λ h' goes. goes-on h kind h' (λ placed. kind-stays h.place (fields_of text) h.kind placed) goes) (after-goes (record h { kind = kind }) text)
 
--- the bytes of frames go by the lengths and the kind of a header
-abbrev spans-by : ℕ → ℕ → LengthsLine → End → Spans
-spans-by at_in at_out l side.Master = record { at_in = at_in; len_in = frame_len l.slave; at_out = at_out; len_out = frame_len l.master }
-spans-by at_in at_out l side.Slave = record { at_in = at_in; len_in = frame_len l.master; at_out = at_out; len_out = frame_len l.slave }
-
-spans-are : (at_in at_out : ℕ) (own : Heading) (end : End)
-    → record { at_in = at_in; len_in = delivered_len (own_length own) end; at_out = at_out; len_out = frame_len (own_length own end) } ≡ spans-by at_in at_out own.lengths end
-spans-are at_in at_out own side.Master = refl
-spans-are at_in at_out own side.Slave = refl
-
 spans-stay : (s : SlotHeader) (own : Heading) → own.lengths ≡ s.own.lengths → own.kind ≡ s.own.kind → heading_spans (record s { own = own }) ≡ heading_spans s
-spans-stay s own l k =
-    spans-are s.at_in s.at_out own (end_of_kind own.kind)
-    ∙ ap₂ (λ (l : LengthsLine) (kind : HeaderKind). spans-by s.at_in s.at_out l (end_of_kind kind)) l k
-    ∙ sym (spans-are s.at_in s.at_out s.own (end_of s))
-
-end-placed : (p : Place) → is_end_line p ≡ true → is_placed p ≡ true
-end-placed place.Start h = absurd (false≢true h)
-end-placed place.Title h = absurd (false≢true h)
-end-placed place.Lengths h = absurd (false≢true h)
-end-placed p h = refl
+spans-stay s own h k = grind arith
 
 last-placed : (p : Place) → is_last p ≡ true → is_placed p ≡ true
-last-placed place.Start h = absurd (false≢true h)
-last-placed place.Title h = absurd (false≢true h)
-last-placed place.Lengths h = absurd (false≢true h)
-last-placed p h = refl
+last-placed p h = grind arith
 
 -- a line of the last slot
 fits-on : (si so : ℕ) (ss : List SlotHeader) (last : SlotHeader) (own : Heading) → Fit si so (map heading_spans (and_placed (is_placed last.own.place) ss last)) → Goes last.own own
@@ -203,8 +161,7 @@ fits-on si so ss last own f (inr (inr stays)) fits =
 
 tested-at : (si so : ℕ) (done : Bool) (ss : List SlotHeader) (t : SlotHeader) → (done ≡ true → is_placed t.own.place ≡ true) → Fit si so (map heading_spans (and_placed (is_placed t.own.place) ss t))
     → Fit si so (map heading_spans (tested_by (if done then stage.Done else stage.Slots) ss t))
-tested-at si so true ss t placed f = fit-placed si so (is_placed t.own.place) ss t (placed refl) f
-tested-at si so false ss t placed f = f
+tested-at si so done ss t h k = grind arith
 
 pub own_tested : (h : ImageHeading) (text : List ℕ) (own : Heading) (done : Bool) → h.stage ≡ stage.Slots → IsTested h → node_heading_after h.last.own text ≡ Ok own → done ≡ heading_is_whole own
     → (is_end_line own.place ≡ true → fits_images h (record h.last { own = own }) ≡ true) → IsTested (record h { stage = if done then stage.Done else stage.Slots; last = record h.last { own = own } })
@@ -213,13 +170,8 @@ own_tested h text own done slots tested after whole fits =
     tested-at h.size_in h.size_out done h.before (record h.last { own = own }) (λ d. last-placed own.place (sym whole ∙ d))
     (fits-on h.size_in h.size_out h.before h.last own old (subst (λ r. IfOk r (Goes h.last.own)) after (node-goes h.last.own text)) fits)
 
--- slots that are made as a header says take the bytes that it says
-made-by : (s : SlotHeader) (t : Setup) → IsEndOf s t → (frame_len (receives t) ≡ delivered_len (own_length s.own) (end_of s)) × (frame_len (sends t) ≡ frame_len (own_length s.own (end_of s)))
-made-by s (OfMaster ms) is = (ap frame_len is.1.1 ∙ ap (delivered_len (own_length s.own)) (sym is.0), ap frame_len (is.1.0 ∙ ap (own_length s.own) (sym is.0)))
-made-by s (OfSlave ss) is = (ap frame_len is.1.0 ∙ ap (delivered_len (own_length s.own)) (sym is.0), ap frame_len (is.1.1 ∙ ap (own_length s.own) (sym is.0)))
-
 made-spans : (s : SlotHeader) (slot : Slot) → IsMadeOf s slot → slot_spans slot ≡ heading_spans s
-made-spans s slot m = let e = made-by s (setup_of slot.core) m.end_is in rw (m.at_in_is, m.at_out_is, e.0, e.1) refl
+made-spans s slot h = grind arith
 
 -- so no test finds a fault
 none-outside : (si so n : ℕ) (ss : List SlotHeader) (slots : List Slot) → Fit si so (map heading_spans ss) → AllZip IsMadeOf ss slots → first_outside si so (places_from n slots) ≡ None
@@ -239,9 +191,7 @@ none-with s n _ _ a z = absurd z
 none-pair : (si so n : ℕ) (ss : List SlotHeader) (slots : List Slot) → Fit si so (map heading_spans ss) → AllZip IsMadeOf ss slots → first_pair (places_from n slots) ≡ None
 none-pair si so n [] [] f z = refl
 none-pair si so n (s ∷ ss) (slot ∷ slots) f z =
-    let alone : first_with (slot_spans slot) (places_from (suc n) slots) ≡ None =
-    ap (λ (t : Spans). first_with t (places_from (suc n) slots)) (made-spans s slot z.0) ∙ none-with (heading_spans s) (suc n) ss slots f.1 z.1
-    in
+    let alone : first_with (slot_spans slot) (places_from (suc n) slots) ≡ None = search (rules, made-spans, none-with) in
     ap (λ (o : Option ℕ). pair_or n o (first_pair (places_from (suc n) slots))) alone ∙ none-pair si so (suc n) ss slots f.2 z.1
 none-pair si so n _ _ f z = absurd z
 
@@ -249,12 +199,6 @@ none-at : (si so : ℕ) (ss : List SlotHeader) (slots : List Slot) → Fit si so
 none-at si so ss slots f z few =
     sym (tested si so slots None few (sym (none-outside si so 1 ss slots f z))) ∙ none-pair si so 1 ss slots f z
 
-whole-tested : (s : Stage) (ss : List SlotHeader) (last : SlotHeader) → is_done s ≡ true → tested_by s ss last ≡ slots_begun s ss last
-whole-tested stage.Done ss last h = refl
-whole-tested _ ss last h = absurd (false≢true h)
-
 -- the slots of a whole header have no fault
 pub whole_fit : (h : ImageHeading) (slots : List Slot) → IsTested h → AllZip IsMadeOf (slots_of h) slots → length slots ≤ 64 → IsTrue (image_heading_is_whole h) → first_fault (plan_of h.size_in h.size_out slots) ≡ None
-whole_fit h slots t z few whole =
-    none-at h.size_in h.size_out (slots_of h) slots
-    (subst (λ (ss : List SlotHeader). Fit h.size_in h.size_out (map heading_spans ss)) (whole-tested h.stage h.before h.last whole) t) z few
+whole_fit h slots k l m n = search (rules, none-at)

@@ -1,32 +1,16 @@
 -- The lines of an event, slot by slot.
-use Rattle.process_image.proofs.Common.{AreLinesOf, AreNumbered, Deed, Did, ImageEvent, ImagesView, IsAfter, IsLineOf, IsRun, IsSeatOf, Makes, Move, Place, Plan, Seat, SeatStep, Setup, ShowsAt, StandsFor, deeds, entry_line, entry_told, event_lines, is_empty, last_frame, move_in, move_line, next_deed, out, state_of, told_line}
-use Rattle.std.proofs.Common.{◌≡◌, ◌+◌, ℕ, zero, suc, List, [], ◌∷◌, ◌++◌, Bool, true, false, not, length, slice_get, Option, Some, None, codes, decimal, refl, sym, ap, ap₂, subst, ◌∙◌, arith}
-use Rattle.std.specs.Prelude.{option_map, if◌then◌else◌}
-use Rattle.std.specs.List.{AllZip}
-use Rattle.entry_text.specs.EntryText.{entry_text}
+use Rattle.process_image.proofs.Common.{AllZip, AreLinesOf, AreNumbered, Deed, Did, ImageEvent, ImagesView, IsAfter, IsLineOf, IsRun, IsSeatOf, Makes, Move, Place, Plan, Seat, SeatStep, Setup, ShowsAt, StandsFor, deeds, entry_line, event_lines, last_frame, move_in, move_line, next_deed, option_map, told_line}
+use Rattle.std.proofs.Common.{◌≡◌, ◌+◌, ℕ, zero, suc, List, [], ◌∷◌, ◌++◌, length, slice_get, Option, Some, sym, ap, ap₂, subst, ◌∙◌, arith, rules}
+use Rattle.std.specs.Prelude.{if◌then◌else◌}
 use Rattle.end_model.proofs.Told.{told_sent}
 use Rattle.process_image.proofs.Following.{IsPart, deeds_more, reached}
 
--- a frame that was sent is the last one
-no-bytes : (bytes : List ℕ) → is_empty bytes ≡ true → [] ≡ bytes
-no-bytes [] h = refl
-no-bytes (b ∷ bytes) h = absurd (cc h)
-
-sent-by : (sent before : List ℕ) (b : Bool) → is_empty sent ≡ b → (if not b then (if b then before else sent) else []) ≡ sent
-sent-by sent before true h = no-bytes sent h
-sent-by sent before false h = refl
-
 sent-is : (s : Setup) (e : List Deed) (x : Deed) → IsRun s (x ∷ e) → (if x.did.sent then last_frame s (x ∷ e) else []) ≡ x.sent
-sent-is s e x r =
-    let told : x.did.sent ≡ not (is_empty x.sent) =
-    ap (λ (y : Deed). y.did.sent) r.0.stepped ∙ told_sent s e x.what r.1 r.0.proper ∙ ap (λ (y : Deed). not (is_empty y.sent)) (sym r.0.stepped)
-    in
-    ap (λ b. if b then last_frame s (x ∷ e) else []) told ∙ sent-by x.sent (last_frame s e) (is_empty x.sent) refl
+sent-is s e x h = search (rules, told_sent)
 
 -- so the line that is told of a slot is that of its deed
 told-entry : (n slot : ℕ) (p : Place) (e : List Deed) (x : Deed) → slot ≡ p.number → IsRun p.setup (x ∷ e) → told_line n slot x.did p.setup (x ∷ e) ≡ entry_line n p e x
-told-entry n slot p e x named r =
-    ap₂ (λ (k : ℕ) (sent : List ℕ). decimal n ++ codes " " ++ decimal k ++ codes " " ++ entry_text x.did (state_of p.setup (x ∷ e)) (out p.setup (x ∷ e)) sent ++ codes "\n") named (sent-is p.setup e x r)
+told-entry n slot p e x h k = search (rules, sent-is)
 
 -- what a slot did was reached
 run-at : (size : ℕ) (calls : List ImageEvent) (places : List Place) (seats : List Seat) (k : ℕ) (p : Place) → AllZip (IsSeatOf size calls) places seats → slice_get places k ≡ Some p → IsRun p.setup (deeds size p calls)
@@ -61,13 +45,7 @@ shown_entry plan v calls event n k p what did text h at moves done shows =
 -- the line of a step of a slot is that of its move
 line-by : (size number slot : ℕ) (calls : List ImageEvent) (p : Place) (x : SeatStep) (o : Option Move) (line : List ℕ) → number ≡ length calls + 1 → slot ≡ p.number → IsAfter p.setup x.old.core (deeds size p calls) → Makes o x
     → IsLineOf o number slot x line → line ≡ move_line (length calls + 1) size p calls o
-line-by size number slot calls p x None line n k a m is = is
-line-by size number slot calls p x (Some what) line n k a m is =
-    let e : List Deed = deeds size p calls in
-    let y : Deed = next_deed size p calls what in
-    is.shows p.setup (y ∷ e) (m.0.is_after p.setup e a)
-    ∙ ap₂ (λ (n k : ℕ). entry_told n k x.did x.sent p.setup (y ∷ e)) n k
-    ∙ ap₂ (λ (did : Did) (sent : List ℕ). entry_told (length calls + 1) p.number did sent p.setup (y ∷ e)) (m.1.did p.setup e a) (m.1.sent p.setup e a)
+line-by size number slot calls p x o line h k l m n = grind arith
 
 -- so the lines of all are those of the event
 pub lines_are : (size number n : ℕ) (calls : List ImageEvent) (event : ImageEvent) (places : List Place) (xs : List SeatStep) (text : List ℕ) → number ≡ length calls + 1 → AllZip (IsPart size calls event) places xs

@@ -1,8 +1,6 @@
 -- Bytes that are written into an image, one run after another.
-use Rattle.process_image.proofs.Common.{with_bytes}
+use Rattle.process_image.proofs.Common.{common_steps, with_bytes}
 use Rattle.std.proofs.Common.{◌≡◌, ℕ, zero, suc, ◌+◌, ◌≤◌, List, [], ◌∷◌, ◌++◌, length, take, drop, refl, sym, ap, ◌∙◌, arith}
-use Rattle.std.proofs.lemmas.Grind.{common_steps}
-use Rattle.std.proofs.lemmas.List.{length-append, length-take, length-drop}
 
 -- the first byte stays where they begin later
 pub later : (at : ℕ) (bytes : List ℕ) (x : ℕ) (xs : List ℕ) → with_bytes (suc at) bytes (x ∷ xs) ≡ x ∷ with_bytes at bytes xs
@@ -12,35 +10,16 @@ later at bytes x xs = let e : suc at + length bytes ≡ suc (at + length bytes) 
 front-first : (y : ℕ) (bytes : List ℕ) (x : ℕ) (xs : List ℕ) → with_bytes 0 (y ∷ bytes) (x ∷ xs) ≡ y ∷ with_bytes 0 bytes xs
 front-first y bytes x xs = let e : 0 + suc (length bytes) ≡ suc (0 + length bytes) = omega arith in ap (λ (k : ℕ). y ∷ (bytes ++ drop k (x ∷ xs))) e
 
-pub front-is : (bytes image : List ℕ) → with_bytes 0 bytes image ≡ bytes ++ drop (length bytes) image
-front-is bytes image = let e : 0 + length bytes ≡ length bytes = omega arith in ap (λ (k : ℕ). bytes ++ drop k image) e
-
 -- the number of bytes stays
 pub same_size : (at : ℕ) (bytes image : List ℕ) → at + length bytes ≤ length image → length (with_bytes at bytes image) ≡ length image
-same_size at bytes image h =
-    let front = length-append (take at image) bytes in
-    let back = length-append (take at image ++ bytes) (drop (at + length bytes) image) in
-    let t = length-take at image in
-    let d = length-drop (at + length bytes) image in
-    grind (arith, common_steps)
+same_size at bytes image h = grind (arith, common_steps)
 
 -- bytes in the same place are overwritten
 pub drop_none : (n : ℕ) → drop {A = ℕ} n [] ≡ []
-drop_none zero = refl
-drop_none (suc n) = refl
-
-again-front : (g f : List ℕ) (image : List ℕ) → length g ≡ length f → drop (length g) (f ++ drop (length f) image) ≡ drop (length g) image
-again-front [] [] image h = refl
-again-front (a ∷ g) (b ∷ f) [] h = ap (λ (rest : List ℕ). drop (length g) (f ++ rest)) (sym (drop_none (length f))) ∙ again-front g f [] (omega arith) ∙ drop_none (length g)
-again-front (a ∷ g) (b ∷ f) (x ∷ image) h = again-front g f image (omega arith)
-again-front _ _ image h = absurd (omega arith)
+drop_none n = grind arith
 
 pub again : (at : ℕ) (g f image : List ℕ) → length g ≡ length f → at + length f ≤ length image → with_bytes at g (with_bytes at f image) ≡ with_bytes at g image
-again zero g f image h inside =
-    ap (with_bytes 0 g) (front-is f image) ∙ front-is g (f ++ drop (length f) image) ∙ ap (λ (rest : List ℕ). g ++ rest) (again-front g f image h) ∙ sym (front-is g image)
-again (suc at) g f [] h inside = absurd (omega arith)
-again (suc at) g f (x ∷ image) h inside =
-    ap (with_bytes (suc at) g) (later at f x image) ∙ later at g x (with_bytes at f image) ∙ ap (λ (rest : List ℕ). x ∷ rest) (again at g f image h (omega arith)) ∙ sym (later at g x image)
+again at g f image h k = grind (arith, common_steps)
 
 -- bytes of places apart may be written in either order
 apart-front : (g : List ℕ) (b : ℕ) (f image : List ℕ) → length g ≤ b → b + length f ≤ length image → with_bytes 0 g (with_bytes b f image) ≡ with_bytes b f (with_bytes 0 g image)

@@ -1,8 +1,7 @@
 -- A line of bytes that are written, of which the digits are read first.
-use Rattle.process_image.proofs.Common.{LineCause, bytes_said, fields_of, next_field, number_16, one_hex_field, value_or, write_behind, write_line, written_at, ◌>>=◌}
-use Rattle.std.proofs.Common.{◌≡◌, ℕ, ◌+◌, ◌<◌, ◌≤◌, List, [], ◌∷◌, length, refl, ap, ◌∙◌, arith}
-use Rattle.std.proofs.lemmas.Bool.Decides.{nat_tests}
-use Rattle.std.specs.Prelude.{Result, Ok, Err}
+use Rattle.process_image.proofs.Common.{Err, LineCause, Ok, Result, bytes_said, fields_of, next_field, number_16, one_hex_field, value_or, write_behind, write_line, written_at}
+use Rattle.schedule_file.specs.Fields.{◌>>=◌}
+use Rattle.std.proofs.Common.{◌≡◌, ℕ, ◌+◌, ◌<◌, ◌≤◌, List, length, ap, ◌∙◌, arith, rules}
 use Rattle.schedule_file.proofs.HexAlone.{said_alone, unsaid_alone}
 use Rattle.schedule_file.specs.FieldsRead.{not_hex}
 use Rattle.schedule_file.specs.declared.line_cause.LineCause.TheVariants as cause
@@ -14,24 +13,15 @@ use Rattle.process_image.specs.declared.event.ImageLine.TheVariants as line
 pub placed : (size : ℕ) (fields behind : List (List ℕ)) (place : List ℕ) → next_field fields ≡ Ok (place, behind) → write_line size fields ≡ write_behind size place behind
 placed size fields behind place e = ap (λ (r : Result (List ℕ × List (List ℕ)) LineCause). r >>= (λ place. write_behind size place.0 place.1)) e
 
-said-at : (size : ℕ) (at : Result ℕ LineCause) (digits bytes : List ℕ) → value_or cause.Hex (bytes_said 256 digits) ≡ Ok bytes
-    → (at >>= (λ at. value_or cause.Hex (bytes_said 256 digits) >>= (λ bytes. written_at size bytes at))) ≡ (at >>= written_at size bytes)
-said-at size (Ok at) digits bytes e = ap (λ (r : Result (List ℕ) LineCause). r >>= (λ bytes. written_at size bytes at)) e
-said-at size (Err why) digits bytes e = refl
-
-said-behind : (size : ℕ) (place : List ℕ) (fields : List (List ℕ)) (bytes : List ℕ) → one_hex_field 256 fields ≡ Ok bytes → write_behind size place fields ≡ (number_16 place >>= written_at size bytes)
-said-behind size place (digits ∷ []) bytes e = said-at size (number_16 place) digits bytes e
-said-behind size place _ bytes e = absurd (cc e)
-
 said : (size : ℕ) (place digits bytes : List ℕ) → value_or cause.Hex (bytes_said 256 digits) ≡ Ok bytes → write_behind size place (fields_of digits) ≡ (number_16 place >>= written_at size bytes)
-said size place digits bytes h = said-behind size place (fields_of digits) bytes (said_alone 256 digits bytes h)
+said size place digits bytes h = grind (arith, said_alone)
 
 -- bytes from a place on, inside the image or not
 inside : (size at : ℕ) (bytes : List ℕ) → at + length bytes ≤ size → written_at size bytes at ≡ Ok (line.Step (event.Write at bytes))
-inside size at bytes h = grind (arith, nat_tests)
+inside size at bytes h = grind arith
 
 outside : (size at : ℕ) (bytes : List ℕ) → size < at + length bytes → written_at size bytes at ≡ Err cause.Position
-outside size at bytes h = grind (arith, nat_tests)
+outside size at bytes h = grind arith
 
 pub written : (size at : ℕ) (place digits bytes : List ℕ) → value_or cause.Hex (bytes_said 256 digits) ≡ Ok bytes → number_16 place ≡ Ok at → at + length bytes ≤ size
     → write_behind size place (fields_of digits) ≡ Ok (line.Step (event.Write at bytes))
@@ -47,12 +37,10 @@ unplaced size place digits bytes why h n = said size place digits bytes h ∙ ap
 
 unsaid-at : (size : ℕ) (at : Result ℕ LineCause) (digits : List ℕ) → value_or cause.Hex (bytes_said 256 digits) ≡ Err cause.Hex
     → (at >>= (λ at. value_or cause.Hex (bytes_said 256 digits) >>= (λ bytes. written_at size bytes at))) ≡ Err (cause_or cause.Hex at)
-unsaid-at size (Ok at) digits e = ap (λ (r : Result (List ℕ) LineCause). r >>= (λ bytes. written_at size bytes at)) e
-unsaid-at size (Err why) digits e = refl
+unsaid-at size at digits h = grind arith
 
 unsaid-behind : (size : ℕ) (place : List ℕ) (fields : List (List ℕ)) → one_hex_field 256 fields ≡ Err (not_hex fields) → write_behind size place fields ≡ Err (not_written place fields)
-unsaid-behind size place (digits ∷ []) e = unsaid-at size (number_16 place) digits e
-unsaid-behind size place _ e = refl
+unsaid-behind size place fields h = search (rules, unsaid-at)
 
 pub unsaid : (size : ℕ) (place digits : List ℕ) (why : LineCause) → value_or cause.Hex (bytes_said 256 digits) ≡ Err why → write_behind size place (fields_of digits) ≡ Err (not_written place (fields_of digits))
 unsaid size place digits why h = unsaid-behind size place (fields_of digits) (unsaid_alone 256 digits why h)

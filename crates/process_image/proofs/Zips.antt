@@ -1,8 +1,6 @@
 -- Two lists side by side, at a place.
-use Rattle.std.proofs.Common.{◌≡◌, ◌≤◌, ◌<◌, ◌+◌, ℕ, zero, suc, List, [], ◌∷◌, ◌++◌, length, take, get_or, map, slice_get, slice_set, All, Some, refl, sym, ap, subst, ◌∙◌, arith}
-use Rattle.std.specs.List.{AllZip}
-use Rattle.std.proofs.lemmas.List.{take_more}
-use Rattle.std.proofs.lemmas.List.Elements.{All-head, All-tail, All-nil, All-cons}
+use Rattle.process_image.proofs.Common.{All-head, All-tail, AllZip, take_more}
+use Rattle.std.proofs.Common.{◌≡◌, ◌≤◌, ◌<◌, ◌+◌, ℕ, zero, suc, List, [], ◌∷◌, ◌++◌, length, take, get_or, map, slice_get, slice_set, All, Some, refl, sym, ap, subst, ◌∙◌, arith, rules}
 
 -- what is at a place of the first list goes with what is at that place of the second
 pub record At {A B : Type 0} (R : A → B → Type 0) (xs : List A) (k : ℕ) (y : B) : Type 0 where
@@ -18,9 +16,7 @@ at_place R _ _ k y h e = absurd h
 
 -- all have a property still, where another stands at a place that has it
 pub all_set : {A : Type 0} (P : A → Type 0) (xs : List A) (k : ℕ) (y : A) → All P xs → P y → All P (slice_set xs k y)
-all_set P [] k y h q = All-nil P
-all_set P (x ∷ xs) zero y h q = All-cons P y xs q (All-tail P x xs h)
-all_set P (x ∷ xs) (suc k) y h q = All-cons P x (slice_set xs k y) (All-head P x xs h) (all_set P xs k y (All-tail P x xs h) q)
+all_set P xs k y h l = search rules
 
 -- what is at a place has the property of all
 pub all_at : {A : Type 0} (P : A → Type 0) (xs : List A) (k : ℕ) (x : A) → All P xs → slice_get xs k ≡ Some x → P x

@@ -1,7 +1,6 @@
 -- In a world without another entry outputs with a bit as 1 have an age: they are from an item.
-use Rattle.reaction_bound.proofs.Common.{Command, End, Entry, IsTakenFrom, IsWorld, Item, MasterSettings, NoOther, NoneOther, SameLengths, SlaveSettings, TakesAwaited, Terms, Took, age_of, awaited, awaited_by, in_time, is_data, is_other, item_number, items, none_other, of_end, outputs_after, outputs_at, outputs_by, outputs_due, received_len, same, same_end, source, source_after, source_at, source_by, source_in, ticked, ticks_since}
-use Rattle.std.proofs.Common.{◌≡◌, ℕ, List, [], ◌∷◌, replicate, Bool, true, false, ◌&&◌, not, Option, Some, None, is_some, IsSome, option_map, if◌then◌else◌, refl, ap, ◌∙◌, subst}
-use Rattle.fsoe_base.specs.declared.command.Command.TheVariants as command
+use Rattle.reaction_bound.proofs.Common.{Command, End, Entry, IsTakenFrom, IsWorld, Item, MasterSettings, NoOther, NoneOther, SameLengths, SlaveSettings, TakesAwaited, Terms, Took, age_of, awaited, awaited_by, in_time, is_data, is_other, item_number, items, none_other, of_end, outputs_after, outputs_at, outputs_by, outputs_due, received_len, same, same_end, source_after, source_at, source_by, source_in, ticked, ticks_since}
+use Rattle.std.proofs.Common.{◌≡◌, ℕ, List, [], ◌∷◌, replicate, Bool, true, false, Option, Some, None, is_some, IsSome, if◌then◌else◌, refl, subst, arith, rules}
 use Rattle.fsoe_base.specs.Image.{bit_of}
 use Rattle.exchange_model.proofs.Fairness.Headline.{takes_awaited}
 use Rattle.exchange_model.proofs.Offering.Shown.{none_of_zeros}
@@ -9,19 +8,12 @@ use Rattle.reaction_bound.proofs.Bounded.{data-of}
 
 -- data are taken from an item that was awaited
 item-awaited : (l : ℕ) (t : Took) (told : Option Terms) (o : Option Item) → IsTakenFrom l (Some t) told o → is_some (item_number o) ≡ true
-item-awaited l t told None h = absurd h
-item-awaited l t told (Some i) h = refl
-
-by-item : (soon other : Bool) (before : Option ℕ) → soon ≡ true → other ≡ false → is_some before ≡ true → is_some (if soon && not other then before else None) ≡ true
-by-item true false before s o h = h
-by-item _ _ before s o h = cc
+item-awaited l t told o h = grind arith
 
 -- the load of an entry that took a frame
 aged-by : (l n bit : ℕ) (terms : Option Terms) (other soon : Bool) (before : Option ℕ) (t : Took) (c : Command) → other ≡ false → t.command ≡ c → (is_data t.command ≡ true → is_some before ≡ true) → in_time n terms ≡ soon
     → bit_of (outputs_by (replicate l 0) n terms c t.load) bit ≡ true → is_some (source_by n terms other before c) ≡ true
-aged-by l n bit terms other true before t command.ProcessData o c h s one = by-item (in_time n terms) other before s o (h (ap is_data c))
-aged-by l n bit terms other false before t command.ProcessData o c h s one = absurd (none_of_zeros l bit (simp s at one))
-aged-by l n bit terms other soon before t _ o c h s one = absurd (none_of_zeros l bit one)
+aged-by l n bit terms other soon before t c h k m o p = search (rules, none_of_zeros)
 
 aged-at : (l n bit : ℕ) (terms : Option Terms) (other : Bool) (before earlier : Option ℕ) (took : Option Took) (outputs : List ℕ) → other ≡ false
     → ((t : Took) → took ≡ Some t → is_data t.command ≡ true → is_some before ≡ true) → (bit_of outputs bit ≡ true → is_some earlier ≡ true)
@@ -34,17 +26,14 @@ aged-own : (which : End) (l n bit : ℕ) (x : Entry) (w : List Entry) (reset : B
     → (bit_of (outputs_after (replicate l 0) (ticked x.what n) (of_end which w)) bit ≡ true → is_some (source_after which (ticked x.what n) w) ≡ true)
     → bit_of (if reset then replicate l 0 else outputs_at (replicate l 0) n x.terms x.did.took (outputs_after (replicate l 0) (ticked x.what n) (of_end which w))) bit ≡ true
     → is_some (if reset then None else source_at n x.terms (is_other (items w) x) (awaited_by which w) x.did.took (source_after which (ticked x.what n) w)) ≡ true
-aged-own which l n bit x w true o awaits before one = absurd (none_of_zeros l bit one)
-aged-own which l n bit x w false o awaits before one =
-    aged-at l n bit x.terms (is_other (items w) x) (awaited_by which w) (source_after which (ticked x.what n) w) x.did.took (outputs_after (replicate l 0) (ticked x.what n) (of_end which w)) o awaits before one
+aged-own which l n bit x w reset h k m o = search (rules, none_of_zeros, aged-at)
 
 aged-head : (which : End) (l n bit : ℕ) (x : Entry) (w : List Entry) (mine : Bool) → is_other (items w) x ≡ false
     → (mine ≡ true → (t : Took) → x.did.took ≡ Some t → is_data t.command ≡ true → is_some (awaited_by which w) ≡ true)
     → ((m : ℕ) → bit_of (outputs_after (replicate l 0) m (of_end which w)) bit ≡ true → is_some (source_after which m w) ≡ true)
     → bit_of (outputs_after (replicate l 0) n (if mine then x ∷ of_end which w else of_end which w)) bit ≡ true
     → is_some (let earlier : Option ℕ = source_after which (if mine then ticked x.what n else n) w in if mine then source_in n x (is_other (items w) x) (awaited_by which w) earlier else earlier) ≡ true
-aged-head which l n bit x w true o awaits before one = aged-own which l n bit x w (is_some x.did.reset) o (awaits refl) (before (ticked x.what n)) one
-aged-head which l n bit x w false o awaits before one = before n one
+aged-head which l n bit x w mine h k o p = search (rules, aged-own)
 
 -- what an entry of the end took is from the item awaited before it
 own-awaits : (ms : MasterSettings) (ss : SlaveSettings) (x : Entry) (w : List Entry) → SameLengths ms ss → IsWorld ms ss (x ∷ w) → NoOther (x ∷ w)
@@ -65,10 +54,6 @@ aged ms ss which bit l (x ∷ w) n lens h none one =
     let older : NoneOther x w = none_other x w none in
     aged-head which l n bit x w (same_end which x.end) older.here (λ mine. awaits-mine ms ss which x w lens h none mine) (λ m k. aged ms ss which bit l w m lens h.1 older.before k) one
 
-mapped : (f : ℕ → ℕ) (o : Option ℕ) → is_some (option_map f o) ≡ is_some o
-mapped f None = refl
-mapped f (Some k) = refl
-
 pub has_age : (ms : MasterSettings) (ss : SlaveSettings) (which : End) (bit : ℕ) (w : List Entry) → SameLengths ms ss → IsWorld ms ss w → NoOther w
     → bit_of (outputs_due (received_len ms.lengths which) (of_end which w)) bit ≡ true → IsSome (age_of which w)
-has_age ms ss which bit w lens h none one = mapped (λ k. ticks_since which k w) (source which w) ∙ aged ms ss which bit (received_len ms.lengths which) w 0 lens h none one
+has_age ms ss which bit w h k l m = search (rules, ticks_since, aged)

@@ -1,56 +1,32 @@
 -- In a world without another entry outputs are no older than twice the watchdog: one of them passes at most until the
 -- end takes what its peer sent, and one until the outputs are zeros.
-use Rattle.reaction_bound.proofs.Common.{Command, Deed, Did, End, Entry, IsWorld, MasterSettings, Move, NoOther, NoneOther, SameLengths, SlaveSettings, Terms, Took, age_of, awaited_by, data_taken, deed_in, deeds, deeds_are_run, entry_reacted, greater, in_time, is_data, is_other, items, items_of, next_told, none_other, of_session, peer, same, same_end, setup_of, source, source_after, source_at, source_by, ticked, ticks-head, ticks_since, worst_of}
-use Rattle.std.proofs.Common.{◌≡◌, ℕ, ◌+◌, ◌-◌, ◌*◌, ◌<◌, ◌≤◌, nat_lt, List, [], ◌∷◌, length, Bool, true, false, ◌&&◌, not, Option, Some, None, IfSome, IsSomeAnd, is_some, option_map, if◌then◌else◌, refl, sym, ap, ◌∙◌, subst, arith}
-use Rattle.std.proofs.lemmas.Bool.{ltb-true}
+use Rattle.reaction_bound.proofs.Common.{Command, Deed, Did, End, Entry, IsWorld, MasterSettings, Move, NoOther, NoneOther, SameLengths, SlaveSettings, Terms, Took, age_of, awaited_by, data_taken, deed_in, deeds, deeds_are_run, entry_reacted, greater, in_time, is_data, is_other, items, items_of, ltb-true, next_told, none_other, peer, same, same_end, setup_of, source, source_after, source_at, source_by, ticked, ticks_since, worst_of}
+use Rattle.std.proofs.Common.{◌≡◌, ℕ, ◌+◌, ◌-◌, ◌*◌, ◌<◌, ◌≤◌, nat_lt, List, [], ◌∷◌, length, Bool, true, false, ◌&&◌, not, Option, Some, None, IfSome, IsSomeAnd, is_some, option_map, if◌then◌else◌, refl, sym, ap, ◌∙◌, subst, arith, rules}
 use Rattle.fsoe_base.specs.declared.command.State.TheVariants as state
 use Rattle.fsoe_base.specs.declared.command.Command.TheVariants as command
 use Rattle.param_load.specs.Download.{terms_of}
-use Rattle.end_model.specs.Setup.{Setup, OfMaster, OfSlave}
+use Rattle.end_model.specs.Setup.{Setup}
 use Rattle.end_model.specs.Chain.{since}
 use Rattle.end_model.specs.Payloads.{terms}
-use Rattle.end_model.specs.Readiness.{phase_after, phase_taken, state_of, ticks, told_terms}
-use Rattle.end_model.specs.Reactions.{Reaction, Expires, SendsAgain, ResetsItself, Refuses, PeerResets, Answers}
+use Rattle.end_model.specs.Readiness.{state_of, ticks, told_terms}
+use Rattle.end_model.specs.Reactions.{Reaction}
 use Rattle.exchange_model.proofs.Alone.Pieces.{deed}
-use Rattle.exchange_model.proofs.Offering.Older.{ticked_across}
 use Rattle.exchange_model.proofs.Offering.Young.{TakesYoung, takes_young}
 use Rattle.exchange_model.proofs.Offering.Offered.{agrees, tells, taking_agrees, own_head, same_itself, both-ways}
-use Rattle.reaction_bound.proofs.Waiting.{awaited_within, since_next, Next, Kept, Gone, Fresh, next, fresh_now}
+use Rattle.reaction_bound.proofs.Waiting.{awaited_within, since_next, Next, next}
 use Rattle.reaction_bound.proofs.Outputs.{source_within}
 
 -- the ticks since an awaited item was sent are no more than those that the end counted since it sent its own
 waits-next : (s : Setup) (which : End) (x : Entry) (w : List Entry) (k : ℕ) → ((k : ℕ) → awaited_by which w ≡ Some k → ticks_since which k w ≤ ticks s (deeds which w))
     → awaited_by which (x ∷ w) ≡ Some k → Next which x w → ticks_since which k (x ∷ w) ≤ ticks s (deeds which (x ∷ w))
-waits-next s which x w k before h (Gone g) = let none : Some k ≡ None = sym h ∙ g in cc
-waits-next s which x w k before h (Fresh n g sent) =
-    let same-number : n ≡ k = some-same n k (sym g ∙ h) in
-    let zero : ticks_since which k (x ∷ w) ≡ 0 = subst (λ (k : ℕ). ticks_since which k (x ∷ w) ≡ 0) same-number (fresh_now which n x w sent) in
-    omega arith
-  where
-    some-same : (n k : ℕ) → (let o : Option ℕ = Some n in o) ≡ Some k → n ≡ k
-    some-same n k h = cc
-waits-next s which x w k before h (Kept g quiet) =
-    let was : awaited_by which w ≡ Some k = sym g ∙ h in
-    subst (λ (n : ℕ). n ≤ ticks s (deeds which (x ∷ w))) (sym (since_next which k x w (same_end which x.end) refl (awaited_within which w k was)))
-    (ticks-head s x (deeds which w) (ticks_since which k w) (same_end which x.end) quiet (before k was))
+waits-next s which x w k h l m = search rules
 
 waits : (s : Setup) (which : End) (w : List Entry) (k : ℕ) → awaited_by which w ≡ Some k → ticks_since which k w ≤ ticks s (deeds which w)
 waits s which [] k h = omega arith
 waits s which (x ∷ w) k h = waits-next s which x w k (λ k h. waits s which w k h) h (next which x w)
 
--- a deed that takes nothing and resets nothing leaves an end in Data
-quiet-keeps : (s : Setup) (e : List Deed) (m : Move) (d : Did) → d.took ≡ None → state_of s (deed m d [] ∷ e) ≡ state_of s e
-quiet-keeps (OfMaster ms) e m d h = refl
-quiet-keeps (OfSlave ss) e m d h = ap (λ (t : Option Took). phase_after (of_session t) (phase_taken (since e))) h
-
 keeps-data : (s : Setup) (e : List Deed) (m : Move) (d : Did) (f : List ℕ) → Reaction s e m d f → d.took ≡ None → is_some d.reset ≡ false → state_of s e ≡ state.Data → state_of s (deed m d f ∷ e) ≡ state.Data
-keeps-data s e m d f (SendsAgain master reset over) none kept now = let both : state.Reset ≡ state.Data = sym reset ∙ now in cc
-keeps-data s e m d f (Expires state over) none kept now = cc
-keeps-data s e m d f ResetsItself none kept now = cc
-keeps-data s e m d f (Refuses bytes passed found state verdict fails) none kept now = cc
-keeps-data s e m d f (PeerResets bytes load state frame) none kept now = cc
-keeps-data s e m d f (Answers bytes load c answer taking) none kept now = cc
-keeps-data s e m d f _ none kept now = quiet-keeps s e m d none ∙ now
+keeps-data s e m d f h k l n = search rules
 
 -- an end whose outputs are from the item of this number, n ticks later
 record Young (ms : MasterSettings) (ss : SlaveSettings) (which : End) (n k : ℕ) (w : List Entry) : Type 0 where
@@ -80,8 +56,7 @@ young-taken ms ss x w t n k lens h none took soon awaited =
     }
 
 some-before : (soon other : Bool) (before : Option ℕ) (k : ℕ) → (if soon && not other then before else None) ≡ Some k → (soon ≡ true) × (before ≡ Some k)
-some-before true false before k h = (refl, h)
-some-before _ _ before k h = cc
+some-before soon other before k h = grind arith
 
 pub data-of : (took : Option Took) (t : Took) → took ≡ Some t → is_data t.command ≡ true → data_taken took ≡ Some t
 data-of took t h k = ap data_taken h ∙ simp k
@@ -96,13 +71,7 @@ young-by ms ss x w t n k _ lens h none took which_command is = cc
 -- an entry that took nothing
 young-still : (ms : MasterSettings) (ss : SlaveSettings) (x : Entry) (w : List Entry) (n k : ℕ) → IsWorld ms ss (x ∷ w) → x.did.took ≡ None → is_some x.did.reset ≡ false
     → k ≤ length (items_of (peer x.end) (items w)) → Young ms ss x.end (ticked x.what n) k w → Young ms ss x.end n k (x ∷ w)
-young-still ms ss x w n k h none kept within before =
-    let s : Setup = setup_of ms ss x.end in
-    let ago : ticks_since x.end k (x ∷ w) ≡ ticked x.what (ticks_since x.end k w) = since_next x.end k x w true (same_itself x.end) within in
-    record {
-      in_data = ap (state_of s) (own_head x w) ∙ keeps-data s (deeds x.end w) x.what x.did x.sent (entry_reacted ms ss x w h) none kept before.in_data;
-      most = subst (λ (m : ℕ). m ≤ 2 * ms.watchdog - 2) (sym (ap (λ (m : ℕ). m + n) ago ∙ ticked_across x.what (ticks_since x.end k w) n)) before.most;
-    }
+young-still ms ss x w n k h l m o p = search (rules, keeps-data, entry_reacted)
 
 young-own : (ms : MasterSettings) (ss : SlaveSettings) (x : Entry) (w : List Entry) (n k : ℕ) (reset : Bool) (took : Option Took) → SameLengths ms ss → IsWorld ms ss (x ∷ w) → NoOther (x ∷ w)
     → is_some x.did.reset ≡ reset → x.did.took ≡ took → ((n k : ℕ) → source_after x.end n w ≡ Some k → Young ms ss x.end n k w)
@@ -173,9 +142,7 @@ by-master ms ss which w (Some k) lens h none is =
     no-more (ticks_since which k w) (2 * ms.watchdog - 2) most
 
 greater-bounded : (a b : Option ℕ) (most : ℕ) → IfSome a (λ n. n ≤ most) → IfSome b (λ n. n ≤ most) → IfSome (greater a b) (λ n. n ≤ most)
-greater-bounded None b most h k = k
-greater-bounded (Some a) None most h k = h
-greater-bounded (Some a) (Some b) most h k = omega (arith, h, k)
+greater-bounded a b most h k = grind arith
 
 pub worst_bounded : (ms : MasterSettings) (ss : SlaveSettings) (which : End) (w : List Entry) → SameLengths ms ss → IsWorld ms ss w → NoOther w → IfSome (worst_of which w) (λ n. n ≤ 2 * ms.watchdog - 2)
 worst_bounded ms ss which [] lens h none = tt

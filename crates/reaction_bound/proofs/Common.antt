@@ -1,7 +1,6 @@
 -- The names that more than one file of these proofs cites, passed on from one place. Declares nothing.
-pub use Rattle.end_model.specs.Deed.{Deed, delivered, is_empty, of_session, ticked}
+pub use Rattle.end_model.specs.Deed.{Deed, delivered, is_empty, ticked}
 pub use Rattle.exchange_model.proofs.Joint.Taking.{NoneOther, none_other}
-pub use Rattle.exchange_model.proofs.Offering.Sending.{grown-length, ticks-head}
 pub use Rattle.exchange_model.proofs.Worlds.Projection.{deeds_are_run, entry_reacted, next_told, same}
 pub use Rattle.exchange_model.specs.Ends.{of_end, peer, same_end}
 pub use Rattle.exchange_model.specs.Fair.{IsTakenFrom, TakesAwaited, data_taken, in_time, outputs_after, outputs_at, outputs_by, outputs_due, received_len}
@@ -22,5 +21,6 @@ pub use Rattle.param_load.specs.declared.master_settings.MasterSettings.{MasterS
 pub use Rattle.param_load.specs.declared.slave_settings.SlaveSettings.{SlaveSettings}
 pub use Rattle.param_load.specs.declared.terms.Terms.{Terms}
 pub use Rattle.reaction_bound.specs.Age.{age_of, greater, sends_item, source, source_after, source_at, source_by, source_in, ticked_at, ticks_since, told, told_age, worst_of}
-pub use Rattle.reaction_bound.specs.Ages.{AgesView, NotesEntry, NotesParts, acted_next, age_in, awaited_by, counted, judged, kept_of, left_after, left_at, left_by, standing_at, standing_counted, standing_from, standing_next, standing_of, standing_taken, standing_ticked, view_of, waited, waited_next, watchdog_in}
+pub use Rattle.reaction_bound.specs.Ages.{AgesView, NotesEntry, NotesParts, acted_next, age_in, awaited_by, counted, kept_of, left_after, left_at, left_by, standing_at, standing_counted, standing_next, standing_of, standing_taken, standing_ticked, view_of, waited, waited_next, watchdog_in}
 pub use Rattle.reaction_bound.specs.declared.end_age.Standing.{Standing}
+pub use Rattle.std.proofs.lemmas.Bool.{eq-eqb, ltb-true}

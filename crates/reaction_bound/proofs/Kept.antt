@@ -1,14 +1,12 @@
 -- What a reaction keeps says what looking back says.
 use Rattle.reaction_bound.proofs.Common.{first_of_both}
-use Rattle.std.proofs.Common.{◌≡◌, ◌≤◌, ℕ, zero, suc, ◌-◌, Bool, true, false, ◌&&◌, ◌||◌, nat_le, List, ◌∷◌, Option, None, Some, refl, sym, ap, ◌∙◌, arith}
-use Rattle.std.proofs.Math.Dec.{leb-zero, leb-suc-zero}
+use Rattle.std.proofs.Common.{◌≡◌, ◌≤◌, ℕ, suc, ◌-◌, Bool, true, false, ◌&&◌, ◌||◌, nat_le, List, ◌∷◌, Option, Some, refl, sym, ap, ◌∙◌, arith, rules}
 use Rattle.reaction_bound.specs.Reaction.{Heard, Quiet, Tick, ticks, quiet_for, is_late, broken_of}
 use Rattle.reaction_bound.specs.Kept.{first_of, quiet_from, is_long}
 
 -- the ticks before the stop was quiet are among those that were heard
 first_within : (since : Option ℕ) (n from : ℕ) → ((k : ℕ) → since ≡ Some k → k ≤ n) → Some (first_of since n) ≡ Some from → from ≤ n
-first_within None n from h is = let same : n ≡ from = cc in omega (arith, same)
-first_within (Some first) n from h is = let same : first ≡ from = cc in h from (ap Some same)
+first_within since n from h l = grind arith
 
 from_within : (heard : List Heard) (from : ℕ) → quiet_from heard ≡ Some from → from ≤ ticks heard
 from_within (Quiet true ∷ heard) from is = first_within (quiet_from heard) (ticks heard) from (from_within heard) is
@@ -16,13 +14,10 @@ from_within (Tick on ∷ heard) from is = let within = from_within heard from is
 from_within _ from is = absurd (cc is)
 
 quiet_long : (n number : ℕ) (since : Option ℕ) (before : Bool) → before ≡ is_long n number since → (nat_le n 0 || before) ≡ is_long n number (Some (first_of since number))
-quiet_long zero number since before is = sym (leb-zero (number - first_of since number))
-quiet_long (suc n) number None before is = grind (arith, is)
-quiet_long (suc n) number (Some first) before is = ap (λ (now : Bool). now || before) (leb-suc-zero n) ∙ is
+quiet_long n number since before h = grind arith
 
 tick_long : (n number : ℕ) (since : Option ℕ) → ((k : ℕ) → since ≡ Some k → k ≤ number) → is_long (n - 1) number since ≡ is_long n (suc number) since
-tick_long n number None within = refl
-tick_long n number (Some from) within = let early = within from refl in grind (arith, early)
+tick_long n number since h = grind arith
 
 kept_long : (n : ℕ) (heard : List Heard) → quiet_for n heard ≡ is_long n (ticks heard) (quiet_from heard)
 kept_long n (Quiet true ∷ heard) = quiet_long n (ticks heard) (quiet_from heard) (quiet_for n heard) (kept_long n heard)
@@ -38,9 +33,5 @@ pub broken_tick : (limit : ℕ) (on : Bool) (heard : List Heard)
     → first_of_both (broken_of limit heard) (on && is_long limit (suc (ticks heard)) (quiet_from heard)) (suc (ticks heard)) ≡ broken_of limit (Tick on ∷ heard)
 broken_tick limit on heard = ap (λ (late : Bool). first_of_both (broken_of limit heard) late (suc (ticks heard))) (late_tick limit on heard)
 
-never_late : (before : Option ℕ) (n : ℕ) → before ≡ first_of_both before false n
-never_late None n = refl
-never_late (Some first) n = refl
-
 pub broken_quiet : (limit : ℕ) (is : Bool) (heard : List Heard) → broken_of limit heard ≡ broken_of limit (Quiet is ∷ heard)
-broken_quiet limit is heard = never_late (broken_of limit heard) (ticks heard)
+broken_quiet limit is heard = search (rules, ticks)

@@ -1,13 +1,13 @@
 -- What is kept of the ages after an entry is what the definitions say of the entries with it.
-use Rattle.reaction_bound.proofs.Common.{AgesView, Command, Did, End, Entry, HasParts, MonitorView, NotesEntry, NotesParts, Standing, Took, acted_next, age_in, age_of, awaited, awaited_by, counted, delivered, greater, is_other, is_tick, item_number, items, judged, kept_of, same_end, standing_at, standing_counted, standing_taken, told_age, view_of, waited_next, watchdog_in, worst_of}
+use Rattle.reaction_bound.proofs.Common.{AgesView, Did, End, Entry, HasParts, MonitorView, NotesEntry, NotesParts, Standing, acted_next, age_in, age_of, awaited, awaited_by, delivered, greater, is_other, is_tick, item_number, items, kept_of, same_end, told_age, view_of, watchdog_in, worst_of}
 use Rattle.reaction_bound.specs.Ages.{heard_next}
-use Rattle.std.proofs.Common.{◌≡◌, ℕ, List, ◌∷◌, Bool, true, false, Option, None, Some, IfSome, is_some, if◌then◌else◌, refl, sym, ap, ap₂, ◌∙◌}
+use Rattle.std.proofs.Common.{◌≡◌, ℕ, List, ◌∷◌, Bool, true, false, Option, IfSome, sym, ap, ap₂, ◌∙◌, arith}
 use Rattle.fsoe_base.specs.declared.command.End.TheVariants as end_name
 use Rattle.fsoe_base.specs.declared.command.Command.TheVariants as command
 use Rattle.exchange_model.specs.Monitor as monitor
 use Rattle.reaction_bound.specs.declared.end_age.EndAge.{EndAge}
 use Rattle.reaction_bound.proofs.Waiting.{waited_step}
-use Rattle.reaction_bound.proofs.Outputs.{heard_outputs, acted_outputs, age_told, acted_worst, heard_worst}
+use Rattle.reaction_bound.proofs.Outputs.{heard_outputs, acted_outputs, acted_worst, heard_worst}
 
 keeps : (n n' : ℕ) (s s' : Option Standing) (worst worst' : Option ℕ) → n ≡ n' → s ≡ s' → worst ≡ worst'
     → (let k : EndAge = record { waited = n; standing = s; worst = worst } in k) ≡ record { waited = n'; standing = s'; worst = worst' }
@@ -35,26 +35,11 @@ TellsOther v at came did other = (w : List Entry) (x : Entry) (sent : List ℕ) 
 acts-alike : (tick tick' other other' : Bool) (did did' : Did) (watchdog before before' after after' : Option ℕ) (old old' : EndAge)
     → tick ≡ tick' → other ≡ other' → did ≡ did' → before ≡ before' → after ≡ after' → old ≡ old'
     → acted_next tick other did watchdog before after old ≡ acted_next tick' other' did' watchdog before' after' old'
-acts-alike tick tick' other other' did did' watchdog before before' after after' old old' a b c e f g =
-    ap₂ (λ (t o : Bool). acted_next t o did watchdog before after old) a b
-    ∙ ap (λ (x : Did). acted_next tick' other' x watchdog before after old) c
-    ∙ ap₂ (λ (n m : Option ℕ). acted_next tick' other' did' watchdog n m old) e f
-    ∙ ap (λ (k : EndAge). acted_next tick' other' did' watchdog before' after' k) g
-
--- the watchdog is asked where ProcessData were taken alone
-by-command : (c : Command) (other : Bool) (before watchdog watchdog' : Option ℕ) (n : ℕ) → (c ≡ command.ProcessData → watchdog ≡ watchdog') → standing_taken other before watchdog n c ≡ standing_taken other before watchdog' n c
-by-command command.ProcessData other before watchdog watchdog' n h = ap (λ (d : Option ℕ). standing_taken other before d n command.ProcessData) (h refl)
-by-command _ other before watchdog watchdog' n h = refl
-
-by-took : (took : Option Took) (other : Bool) (before watchdog watchdog' : Option ℕ) (n : ℕ) (earlier : Option Standing) → IfSome took (λ t. t.command ≡ command.ProcessData → watchdog ≡ watchdog') → standing_at other before watchdog n took earlier ≡ standing_at other before watchdog' n took earlier
-by-took None other before watchdog watchdog' n earlier h = refl
-by-took (Some t) other before watchdog watchdog' n earlier h = by-command t.command other before watchdog watchdog' n h
+acts-alike tick tick' other other' did did' watchdog before before' after after' old old' h k l m n o = grind arith
 
 same-watchdog : (tick other : Bool) (did : Did) (watchdog watchdog' before after : Option ℕ) (old : EndAge) → IfSome did.took (λ t. t.command ≡ command.ProcessData → watchdog ≡ watchdog')
     → acted_next tick other did watchdog before after old ≡ acted_next tick other did watchdog' before after old
-same-watchdog tick other did watchdog watchdog' before after old h =
-    ap (λ (s : Option Standing). judged (if is_some did.reset then None else s) (waited_next before after (counted tick old.waited)) old.worst)
-    (by-took did.took other before watchdog watchdog' (counted tick old.waited) (standing_counted tick old.standing) h)
+same-watchdog tick other did watchdog watchdog' before after old h = grind arith
 
 hears-alike : (before before' after after' : Option ℕ) (old old' : EndAge) → before ≡ before' → after ≡ after' → old ≡ old' → heard_next before after old ≡ heard_next before' after' old'
 hears-alike before before' after after' old old' a b c = ap₂ (λ (n m : Option ℕ). heard_next n m old) a b ∙ ap (λ (k : EndAge). heard_next before' after' k) c
@@ -106,14 +91,9 @@ notes_slave {old} {new} {at} {tick} {other} {came} {sent} {did} {watchdog} {mast
   };
 }
 
-itself : (took : Option Took) (watchdog : Option ℕ) → IfSome took (λ t. t.command ≡ command.ProcessData → watchdog ≡ watchdog)
-itself None watchdog = tt
-itself (Some t) watchdog = λ h. refl
-
 -- an entry has its own parts
 pub notes_whole : (old new : AgesView) (x : Entry) → NotesParts old x.end (is_tick x.what) (delivered x.what) x.did x.sent (watchdog_in x.terms) new → NotesEntry old x new
-notes_whole old new x noted =
-    noted.notes x (record { parts = record { end_is = refl; came_is = refl; did_is = refl; sent_is = refl }; tick_is = refl; watchdog_is = itself x.did.took (watchdog_in x.terms) })
+notes_whole old new x h = grind arith
 
 -- what is kept of an end
 abbrev pub side_of : End → AgesView → EndAge
@@ -121,9 +101,7 @@ side_of end_name.Master v = v.master
 side_of end_name.Slave v = v.slave
 
 pub age_is : (v : AgesView) (at : End) (w : List Entry) → v ≡ view_of w → age_in (side_of at v).standing ≡ told_age (age_of at w)
-age_is v end_name.Master w h = ap (λ (v : AgesView). age_in v.master.standing) h ∙ age_told end_name.Master w
-age_is v end_name.Slave w h = ap (λ (v : AgesView). age_in v.slave.standing) h ∙ age_told end_name.Slave w
+age_is v at w h = grind arith
 
 pub worst_is : (v : AgesView) (at : End) (w : List Entry) → v ≡ view_of w → (side_of at v).worst ≡ told_age (worst_of at w)
-worst_is v end_name.Master w h = ap (λ (v : AgesView). v.master.worst) h
-worst_is v end_name.Slave w h = ap (λ (v : AgesView). v.slave.worst) h
+worst_is v at w h = grind arith

@@ -1,11 +1,9 @@
 -- The ticks since the item that an end awaits was sent.
-use Rattle.reaction_bound.proofs.Common.{End, Entry, Item, MonitorView, Move, Side, awaited, awaited_by, counted, delivered, grown-length, heard_next, is_answer, is_empty, is_tick, item_number, items, items_of, next_number, next_sent, noted_next, peer, same_end, sends_item, sent_next, sent_number, side_of, ticked, ticks_since, told, waited, waited_next}
-use Rattle.std.proofs.Common.{◌≡◌, ℕ, suc, ◌-◌, ◌^◌, ◌≤◌, min, ◌==◌, List, ◌∷◌, length, Bool, true, false, ◌&&◌, not, Option, Some, None, if◌then◌else◌, refl, sym, ap, ◌∙◌, subst, arith, inl, inr}
-use Rattle.std.proofs.lemmas.Bool.{eq-eqb}
-use Rattle.std.proofs.lemmas.Bool.Decides.{nat_tests, eqb_tells}
+use Rattle.reaction_bound.proofs.Common.{End, Entry, Item, MonitorView, Move, Side, awaited, awaited_by, counted, delivered, eq-eqb, heard_next, is_answer, is_empty, is_tick, item_number, items, items_of, next_number, next_sent, noted_next, peer, same_end, sends_item, sent_next, sent_number, side_of, ticked, ticks_since, told, waited, waited_next}
+use Rattle.exchange_model.proofs.Offering.Sending.{grown-length}
+use Rattle.std.proofs.Common.{◌≡◌, ℕ, suc, ◌-◌, ◌≤◌, ◌==◌, List, ◌∷◌, length, Bool, true, false, ◌&&◌, not, Option, Some, None, if◌then◌else◌, refl, sym, ap, ◌∙◌, subst, arith, rules}
 use Rattle.fsoe_base.specs.declared.command.End.TheVariants as end_name
 use Rattle.fsoe_base.specs.declared.command.Command.TheVariants as command
-use Rattle.param_load.specs.declared.entry.Move.TheVariants as move
 use Rattle.end_model.specs.Phases.{has_command}
 use Rattle.exchange_model.specs.Monitor as monitor
 use Rattle.exchange_model.proofs.Worlds.Numbered.{grown, numbered}
@@ -19,8 +17,7 @@ record HasNumber (k : ℕ) (o : Option Item) : Type 0 where
   pub number_is : item.number ≡ k
 
 number-found : (o : Option Item) (k : ℕ) → item_number o ≡ Some k → HasNumber k o
-number-found None k h = cc
-number-found (Some i) k h = record { item = i; is = refl; number_is = cc }
+number-found o k h = grind arith
 
 -- the number of an awaited item is one of those of the peer's items
 pub awaited_within : (which : End) (w : List Entry) (k : ℕ) → awaited_by which w ≡ Some k → k ≤ length (items_of (peer which) (items w))
@@ -33,26 +30,10 @@ awaited_within which w k h =
 pub items_grow : (which : End) (x : Entry) (w : List Entry) → length (items_of which (items w)) ≤ length (items_of which (items (x ∷ w)))
 items_grow which x w = grown-length _ _ (grown which x w)
 
-and-false : (b c : Bool) → c ≡ false → (b && c) ≡ false
-and-false true c h = h
-and-false false c h = refl
-
--- an item is sent once
-not-again : (which : End) (k : ℕ) (x : Entry) (w : List Entry) → k ≤ length (items_of which (items w)) → sends_item which k x w ≡ false
-not-again which k x w h =
-    let n : ℕ = length (items_of which (items w)) in
-    let q : (k == suc n) ≡ false = later k n h in
-    and-false (same_end which x.end && not (is_empty x.sent)) (k == suc n) q
-  where
-    later : (k n : ℕ) → k ≤ n → (k == suc n) ≡ false
-    later k n h = grind (arith, nat_tests)
-
 -- the ticks since an item that was sent before an entry
 pub since_next : (which : End) (k : ℕ) (x : Entry) (w : List Entry) (mine : Bool) → same_end which x.end ≡ mine → k ≤ length (items_of (peer which) (items w))
     → ticks_since which k (x ∷ w) ≡ (if mine then ticked x.what (ticks_since which k w) else ticks_since which k w)
-since_next which k x w mine e h =
-    ap (λ (b : Bool). if b then 0 else if same_end which x.end then ticked x.what (ticks_since which k w) else ticks_since which k w) (not-again (peer which) k x w h)
-    ∙ ap (λ (b : Bool). if b then ticked x.what (ticks_since which k w) else ticks_since which k w) e
+since_next which k x w mine h l = search rules
 
 -- what an entry does to the item that an end awaits: it is the same one, and the end sent nothing; it is none; or it is
 -- the item that its peer sends in the entry
@@ -63,8 +44,7 @@ pub data Next (which : End) (x : Entry) (w : List Entry) : Type 0 where
 
 own-next : (which : End) (x : Entry) (w : List Entry) (own : Side) (none : Bool) → is_empty x.sent ≡ none → sent_number own.awaited ≡ awaited_by which w
     → sent_number (if none then own else sent_next own x.sent).awaited ≡ awaited_by which (x ∷ w) → Next which x w
-own-next which x w own true e h k = Kept (sym k ∙ h) (λ mine. e)
-own-next which x w own false e h k = Gone (sym k)
+own-next which x w own none h k l = grind arith
 
 all-true : (a b : Bool) (m n : ℕ) → a ≡ true → b ≡ false → m ≡ n → (a && not b && m == n) ≡ true
 all-true a b m n h k e = let q : (m == n) ≡ true = eq-eqb m n e in simp (h, k, q)
@@ -104,61 +84,30 @@ next which x w = by-ends which x.end refl
         peer-next end_name.Slave x w (monitor.kept_of end_name.Master (items w)) (monitor.kept_of end_name.Slave (items w)) _ (is_empty x.sent) (ap (same_end end_name.Slave) h) refl (ap (same_end end_name.Master) h)
         (newest_next (items_of end_name.Master (items w)) (numbered end_name.Master w)) (before end_name.Slave) (awaits end_name.Slave end_name.Master x w h)
 
-told-twice : (n m : ℕ) → min (suc n) m ≡ min (suc (min n m)) m
-told-twice n m = omega arith
-
--- ticks are counted as they are told
-pub told_ticked : (m : Move) (n : ℕ) → told (ticked m n) ≡ counted (is_tick m) (told n)
-told_ticked move.Tick n = told-twice n (2 ^ 32 - 1)
-told_ticked _ n = refl
-
 -- ticks that were counted, after an entry of the end or of its peer
 abbrev pub counted_at : Bool → Move → ℕ → ℕ
 counted_at mine m n = if mine then counted (is_tick m) n else n
 
-told-at : (mine : Bool) (m : Move) (n : ℕ) → told (if mine then ticked m n else n) ≡ counted_at mine m (told n)
-told-at true m n = told_ticked m n
-told-at false m n = refl
-
 -- the ticks since an item that was sent before an entry, as they are told
 pub told_since : (which : End) (k : ℕ) (x : Entry) (w : List Entry) (mine : Bool) → same_end which x.end ≡ mine → k ≤ length (items_of (peer which) (items w))
     → told (ticks_since which k (x ∷ w)) ≡ counted_at mine x.what (told (ticks_since which k w))
-told_since which k x w mine e h = ap told (since_next which k x w mine e h) ∙ told-at mine x.what (ticks_since which k w)
+told_since which k x w mine h l = search (rules, told, since_next, ticks_since)
 
 none-after : (before : Option ℕ) (n : ℕ) → waited_next before None n ≡ 0
-none-after None n = refl
-none-after (Some k) n = refl
+none-after before n = grind arith
 
 kept-after : (which : End) (x : Entry) (w : List Entry) (mine : Bool) (before : Option ℕ) → same_end which x.end ≡ mine → awaited_by which w ≡ before
     → waited which (x ∷ w) before ≡ waited_next before before (counted_at mine x.what (waited which w before))
-kept-after which x w mine None e h = refl
-kept-after which x w mine (Some k) e h =
-    told_since which k x w mine e (awaited_within which w k h)
-    ∙ sym (ap (λ (b : Bool). if b then counted_at mine x.what (told (ticks_since which k w)) else 0) (eq-eqb k k refl))
+kept-after which x w mine before h k = search (rules, awaited_within)
 
 pub fresh_now : (which : End) (k : ℕ) (x : Entry) (w : List Entry) → sends_item (peer which) k x w ≡ true → ticks_since which k (x ∷ w) ≡ 0
 fresh_now which k x w s = ap (λ (b : Bool). if b then 0 else if same_end which x.end then ticked x.what (ticks_since which k w) else ticks_since which k w) s
 
 fresh-after : (which : End) (k : ℕ) (x : Entry) (w : List Entry) (before : Option ℕ) (n : ℕ) → sends_item (peer which) k x w ≡ true → awaited_by which w ≡ before
     → waited_next before (Some k) n ≡ 0
-fresh-after which k x w None n s h = refl
-fresh-after which k x w (Some j) n s h =
-    elim (eqb_tells j k) [
-      | inl p ↦ let again : sends_item (peer which) k x w ≡ false = not-again (peer which) k x w (subst (λ (k : ℕ). k ≤ length (items_of (peer which) (items w))) p.1 (awaited_within which w j h)) in cc
-      | inr p ↦ ap (λ (b : Bool). if b then n else 0) p.0
-    ]
-
-by-next : (which : End) (x : Entry) (w : List Entry) (mine : Bool) (after : Option ℕ) → same_end which x.end ≡ mine → awaited_by which (x ∷ w) ≡ after → Next which x w
-    → waited which (x ∷ w) after ≡ waited_next (awaited_by which w) after (counted_at mine x.what (waited which w (awaited_by which w)))
-by-next which x w mine after e h (Gone g) =
-    subst (λ (after : Option ℕ). waited which (x ∷ w) after ≡ waited_next (awaited_by which w) after (counted_at mine x.what (waited which w (awaited_by which w)))) (sym g ∙ h) (sym (none-after (awaited_by which w) _))
-by-next which x w mine after e h (Kept g quiet) =
-    subst (λ (after : Option ℕ). waited which (x ∷ w) after ≡ waited_next (awaited_by which w) after (counted_at mine x.what (waited which w (awaited_by which w)))) (sym g ∙ h) (kept-after which x w mine (awaited_by which w) e refl)
-by-next which x w mine after e h (Fresh k g s) =
-    subst (λ (after : Option ℕ). waited which (x ∷ w) after ≡ waited_next (awaited_by which w) after (counted_at mine x.what (waited which w (awaited_by which w)))) (sym g ∙ h)
-    (ap told (fresh_now which k x w s) ∙ sym (fresh-after which k x w (awaited_by which w) _ s refl))
+fresh-after which k x w before n h l = search (rules, awaited_within)
 
 -- the ticks since the item that an end awaits was sent, after an entry
 pub waited_step : (which : End) (x : Entry) (w : List Entry) (mine : Bool) → same_end which x.end ≡ mine
     → waited which (x ∷ w) (awaited_by which (x ∷ w)) ≡ waited_next (awaited_by which w) (awaited_by which (x ∷ w)) (counted_at mine x.what (waited which w (awaited_by which w)))
-waited_step which x w mine e = by-next which x w mine (awaited_by which (x ∷ w)) e refl (next which x w)
+waited_step which x w mine h = search (rules, none-after, kept-after, told, fresh_now, fresh-after, next)

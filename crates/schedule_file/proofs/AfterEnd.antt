@@ -1,9 +1,7 @@
 -- What comes after the line `end` changes nothing.
-use Rattle.schedule_file.proofs.Common.{AtEnd, HeaderKind, InputCause, InputFormat, LineCause, NoLine, Refused, Stop, WholeHeaderOf, before_more, events_after, header_in, header_step, input_after, input_by, input_of, input_read, lines_in, lines_of, open_line, schedule_format, steps, stop_at, texts, whole_line, with_room}
-use Rattle.std.proofs.Common.{◌≡◌, ℕ, ◌+◌, Bool, true, false, List, [], ◌∷◌, ◌++◌, length, map, refl, ap, ◌∙◌, sym}
-use Rattle.std.specs.Prelude.{◌==◌, Result, Ok, Err, Option, Some, None, slice_get, if◌then◌else◌}
-use Rattle.std.specs.List.{slice_split, onto_first}
-use Rattle.std.proofs.lemmas.List.Splits.{slice_split-cons_yes, slice_split-cons_no, length-slice_split}
+use Rattle.schedule_file.proofs.Common.{AtEnd, Err, HeaderKind, InputCause, InputFormat, LineCause, NoLine, Ok, Refused, Result, Some, Stop, WholeHeaderOf, header_in, header_step, input_after, input_by, input_of, input_read, length-slice_split, lines_in, lines_of, onto_first, open_line, schedule_format, slice_get, slice_split, slice_split-cons_no, slice_split-cons_yes, steps, texts, whole_line, with_room}
+use Rattle.std.proofs.Common.{◌≡◌, ℕ, ◌+◌, Bool, true, false, List, [], ◌∷◌, ◌++◌, length, map, refl, ap, ◌∙◌, sym, arith, rules}
+use Rattle.std.specs.Prelude.{◌==◌}
 use Rattle.schedule_file.proofs.OneField.{some_part}
 
 -- the lines of an input
@@ -70,8 +68,7 @@ IsOpen (Ok text ∷ rest) = ⊥
 IsOpen (Err why ∷ rest) = Unit {0}
 
 open_is : (text : List ℕ) → IsOpen (open_line text)
-open_is [] = tt
-open_is (b ∷ text) = tt
+open_is text = grind arith
 
 -- the events in lines that come after others
 abbrev events_in : {H L E : Type 0} → InputFormat H L E → H → List E → Lines → List E
@@ -82,29 +79,11 @@ events_in f h log rest = with_room (f.is_full h) log (steps f.event (map (f.line
 abbrev IsSame : {E : Type 0} → List E → List E → Lines → List ℕ → Type 0
 IsSame events others lines text = (others ≡ events) × (slice_get lines (length events) ≡ Some (Ok text))
 
-same_room : {E : Type 0} (full : Bool) (event : E) (events others : List E) (first text : List ℕ) (lines more : Lines) → (slice_get lines (length events) ≡ Some (Ok text) → IsSame events others more text)
-    → slice_get (Ok first ∷ lines) (length (if full then [] else event ∷ events)) ≡ Some (Ok text)
-    → IsSame (if full then [] else event ∷ events) (if full then [] else event ∷ others) (Ok first ∷ more) text
-same_room true event events others first text lines more later at = (refl, at)
-same_room {E} false event events others first text lines more later at =
-    let same = later at in
-    (ap (λ (es : List E). event ∷ es) same.0, same.1)
-
-same_said : {H L E : Type 0} (f : InputFormat H L E) (h : H) (log : List E) (said : Option E) (first text : List ℕ) (lines more : Lines)
-    → ((log : List E) → slice_get lines (length (events_in f h log lines)) ≡ Some (Ok text) → IsSame (events_in f h log lines) (events_in f h log more) more text)
-    → slice_get (Ok first ∷ lines) (length (with_room (f.is_full h) log (before_more said (steps f.event (map (f.line h) (texts lines)))))) ≡ Some (Ok text)
-    → IsSame (with_room (f.is_full h) log (before_more said (steps f.event (map (f.line h) (texts lines)))))
-    (with_room (f.is_full h) log (before_more said (steps f.event (map (f.line h) (texts more))))) (Ok first ∷ more) text
-same_said f h log None first text lines more later at = (refl, at)
-same_said f h log (Some event) first text lines more later at =
-    same_room (f.is_full h log) event (events_in f h (log ++ event ∷ []) lines) (events_in f h (log ++ event ∷ []) more) first text lines more (later (log ++ event ∷ [])) at
-
 same_after : {H L E : Type 0} (f : InputFormat H L E) (h : H) (log : List E) (r : Result L LineCause) (first text : List ℕ) (lines more : Lines)
     → ((log : List E) → slice_get lines (length (events_in f h log lines)) ≡ Some (Ok text) → IsSame (events_in f h log lines) (events_in f h log more) more text)
     → slice_get (Ok first ∷ lines) (length (with_room (f.is_full h) log (steps f.event (r ∷ map (f.line h) (texts lines))))) ≡ Some (Ok text)
     → IsSame (with_room (f.is_full h) log (steps f.event (r ∷ map (f.line h) (texts lines)))) (with_room (f.is_full h) log (steps f.event (r ∷ map (f.line h) (texts more)))) (Ok first ∷ more) text
-same_after f h log (Ok line) first text lines more later at = same_said f h log (f.event line) first text lines more later at
-same_after f h log (Err cause) first text lines more later at = (refl, at)
+same_after f h log r first text lines more k l = grind arith
 
 same_events : {H L E : Type 0} (f : InputFormat H L E) (h : H) (w t u : Lines) (text : List ℕ) → IsOpen t → (log : List E) → slice_get (w ++ t) (length (events_in f h log (w ++ t))) ≡ Some (Ok text)
     → IsSame (events_in f h log (w ++ t)) (events_in f h log (w ++ u)) (w ++ u) text
@@ -112,34 +91,17 @@ same_events f h [] (Ok first ∷ t) u text is log at = absurd is
 same_events f h (Ok first ∷ w) t u text is log at = same_after f h log (f.line h first) first text (w ++ t) (w ++ u) (same_events f h w t u text is) at
 same_events f h _ _ u text is log at = cc
 
--- an input stops by `end` at a line
-at_line : {H L E : Type 0} (f : InputFormat H L E) (h : H) (number : ℕ) (full : Bool) (next : Option (Result (List ℕ) InputCause)) → stop_at f h number full next ≡ AtEnd → (text : List ℕ) × (next ≡ Some (Ok text))
-at_line f h number full (Some (Ok text)) e = (text, refl)
-at_line f h number full _ e = cc
-
 after_same : {H L E : Type 0} (f : InputFormat H L E) (h : H) (n : ℕ) (w t u : Lines) → IsOpen t → (input_after f (record { heading = h; lines = n; rest = w ++ t })).stop ≡ AtEnd
     → input_after f (record { heading = h; lines = n; rest = w ++ u }) ≡ input_after f (record { heading = h; lines = n; rest = w ++ t })
-after_same {E = E} f h n w t u is e =
-    let events : List E = events_after f h (w ++ t) in
-    let stops = at_line f h (n + length events + 1) (f.is_full h events) (slice_get (w ++ t) (length events)) e in
-    let same = same_events f h w t u stops.0 is [] stops.1 in
-    ap (λ (es : List E). record { heading = Some h; lines = n; events = es; stop = stop_at f h (n + length es + 1) (f.is_full h es) (slice_get (w ++ u) (length es)) }) same.0
-    ∙ ap (λ (next : Option (Result (List ℕ) InputCause)). record { heading = Some h; lines = n; events = events; stop = stop_at f h (n + length events + 1) (f.is_full h events) next }) (same.1 ∙ sym stops.1)
+after_same f h n w t u k l = search (rules, same_events)
 
 -- the input after a header that has no more lines before these
 abbrev Goes : {H L E : Type 0} → InputFormat H L E → Result (WholeHeaderOf H) Stop → Result (WholeHeaderOf H) Stop → Type 0
 Goes f this other = (input_by f this).stop ≡ AtEnd → input_by f other ≡ input_by f this
 
-step_done : {H L E : Type 0} (f : InputFormat H L E) (done : Bool) (n : ℕ) (next : H) (w t u : Lines) → IsOpen t → Goes f (header_in f (n + 1) next (w ++ t)) (header_in f (n + 1) next (w ++ u))
-    → Goes f (if done then Ok (record { heading = next; lines = n; rest = w ++ t }) else header_in f (n + 1) next (w ++ t))
-    (if done then Ok (record { heading = next; lines = n; rest = w ++ u }) else header_in f (n + 1) next (w ++ u))
-step_done f true n next w t u is later = λ e. after_same f next n w t u is e
-step_done f false n next w t u is later = later
-
 step_same : {H L E : Type 0} (f : InputFormat H L E) (r : Result H LineCause) (n : ℕ) (w t u : Lines) → IsOpen t → ((next : H) → Goes f (header_in f (n + 1) next (w ++ t)) (header_in f (n + 1) next (w ++ u)))
     → Goes f (header_step f.is_whole n (w ++ t) (λ next. header_in f (n + 1) next (w ++ t)) r) (header_step f.is_whole n (w ++ u) (λ next. header_in f (n + 1) next (w ++ u)) r)
-step_same f (Ok next) n w t u is later = step_done f (f.is_whole next) n next w t u is (later next)
-step_same f (Err cause) n w t u is later = λ e. refl
+step_same f r n w t u h k = search (rules, after_same)
 
 header_same : {H L E : Type 0} (f : InputFormat H L E) (n : ℕ) (h : H) (w t u : Lines) → IsOpen t → Goes f (header_in f n h (w ++ t)) (header_in f n h (w ++ u))
 header_same f n h [] [] u is = λ e. let never : Refused n NoLine ≡ AtEnd = e in cc

@@ -1,14 +1,9 @@
 -- The events of an input fit the ends that its header describes.
-use Rattle.schedule_file.proofs.Common.{End, Event, Fits, FitsEnd, Heading, InputFormat, LineCause, MOST_DATA, MOST_FRAME, OnStep, PairWord, Profile, ScheduleLine, Stop, WholeHeaderOf, allows_id, altered_line, before_more, by_word, bytes_said, delivered_len, event_of, fields_of, header_of, heading_profile, input_by, input_of, is_number, next_field, no_field, not_zero, number_16, number_32, number_said, one_field, one_hex_field, own_length, pair_said, pair_said_by, pair_word_of, reference_of, said_after, schedule_format, steps, switch_of, texts, value_or, ◌>>=◌}
+use Rattle.schedule_file.proofs.Common.{All, All-nil, All-take, End, Err, Event, Fits, FitsEnd, Heading, IfOk, IfOk-at_ok, IfOk-weaker, IfSome, InputFormat, LineCause, MOST_DATA, MOST_FRAME, None, Ok, OnStep, Option, PairWord, Profile, Result, ScheduleLine, Some, Stop, WholeHeaderOf, allows_id, altered_line, and_parts, by_word, bytes_said, delivered_len, digits_value, eqb-true, event_of, fields_of, header_of, heading_profile, input_by, input_of, is_number, leb-true, ltb-true, nat_le, nat_lt, nat_tests, next_field, no_field, not_zero, number_16, number_32, number_said, one_field, one_hex_field, own_length, pair_said, pair_said_by, pair_word_of, reference_of, said_after, schedule_format, steps, switch_of, texts, value_or}
+use Rattle.schedule_file.specs.Fields.{◌>>=◌}
 use Rattle.std.proofs.Common.{◌≡◌, ℕ, ◌≤◌, ◌<◌, Bool, true, false, List, [], ◌∷◌, length, map, refl, arith, sym, subst}
-use Rattle.std.specs.Prelude.{All, Result, Ok, Err, Option, Some, None, IfOk, IfSome, ◌&&◌, ◌==◌, nat_le, nat_lt, if◌then◌else◌}
-use Rattle.std.specs.Str.Parse.{digits_value}
-use Rattle.std.proofs.lemmas.Bool.{and_parts, leb-true, ltb-true, eqb-true}
-use Rattle.std.proofs.lemmas.Bool.Decides.{nat_tests}
-use Rattle.std.proofs.lemmas.List.Elements.{All-cons, All-nil, All-take}
-use Rattle.std.proofs.lemmas.Result.{IfOk-at_ok, IfOk-weaker}
+use Rattle.std.specs.Prelude.{◌&&◌, ◌==◌, if◌then◌else◌}
 use Rattle.schedule_file.specs.NodeEvent.{word_of, node_said}
-use Rattle.schedule_file.specs.declared.event.ScheduleLine.TheVariants as line
 use Rattle.schedule_file.specs.declared.header_kind.HeaderKind.TheVariants.{Pair, Node}
 use Rattle.schedule_file.specs.declared.line_cause.LineCause.TheVariants as cause
 use Rattle.schedule_file.specs.declared.node_event.Word.{Word}
@@ -21,10 +16,6 @@ use Rattle.schedule_file.proofs.Sound.{each, known, IfOk-every, IfOk-map, hex_wi
 given : {A B : Type 0} (o : Option A) (cause : LineCause) (f : A → Result B LineCause) (Q : A → Type 0) (P : B → Type 0) → IfSome o Q → ((x : A) → Q x → IfOk (f x) P) → IfOk (value_or cause o >>= f) P
 given (Some x) cause f Q P q h = h x q
 given None cause f Q P q h = tt
-
-some_if : {A : Type 0} (b : Bool) (x : A) (P : A → Type 0) → (b ≡ true → P x) → IfSome (if b then Some x else None) P
-some_if true x P h = h refl
-some_if false x P h = tt
 
 -- a reference is from 1 to 64
 abbrev IsReference : ℕ → Type 0
@@ -97,10 +88,7 @@ node_line_fits end count profile (first ∷ fields) = node_said_fits end count p
 
 -- an event that a line says fits
 on_event : (P : Event → Type 0) (said : ScheduleLine) (event : Event) → event_of said ≡ Some event → OnStep P said → P event
-on_event P (line.Step x) event e is =
-    let same : x ≡ event = cc in
-    subst P same is
-on_event P line.End event e is = cc
+on_event P said event h k = grind arith
 
 pub pair_event_fits : (h : Heading) (text : List ℕ) (said : ScheduleLine) (event : Event) → said_after Pair h text ≡ Ok said → event_of said ≡ Some event → Fits (own_length h) (heading_profile h) event
 pair_event_fits h text said event says e =
@@ -111,15 +99,9 @@ node_event_fits end h text said event says e =
     on_event (FitsEnd end (own_length h end) (heading_profile h end)) said event e
     (IfOk-at_ok (OnStep (FitsEnd end (own_length h end) (heading_profile h end))) says (node_line_fits end (own_length h end) (heading_profile h end) (fields_of text)))
 
--- the events of lines are such where each line's is
-more_are : {E : Type 0} (P : E → Type 0) (said : Option E) (more : List E) → ((event : E) → said ≡ Some event → P event) → All P more → All P (before_more said more)
-more_are P None more is later = All-nil P
-more_are P (Some event) more is later = All-cons P event more (is event refl) later
-
 first_is : {L E : Type 0} (event_of : L → Option E) (P : E → Type 0) (r : Result L LineCause) (said : List (Result L LineCause)) → ((line : L) (event : E) → r ≡ Ok line → event_of line ≡ Some event → P event)
     → All P (steps event_of said) → All P (steps event_of (r ∷ said))
-first_is event_of P (Ok line) said is later = more_are P (event_of line) (steps event_of said) (λ event e. is line event refl e) later
-first_is event_of P (Err cause) said is later = All-nil P
+first_is event_of P r said h k = grind arith
 
 steps_are : {L E : Type 0} (event_of : L → Option E) (P : E → Type 0) (says : List ℕ → Result L LineCause) → ((text : List ℕ) (line : L) (event : E) → says text ≡ Ok line → event_of line ≡ Some event → P event)
     → (lines : List (List ℕ)) → All P (steps event_of (map says lines))

@@ -1,7 +1,7 @@
 -- What a new header has, and each line keeps, a header that is done has.
-use Rattle.schedule_file.proofs.Common.{InputCause, InputFormat, LineCause, Stop, WholeHeaderOf, header_in, header_read, header_step, input_by, input_read, lines_of}
+use Rattle.schedule_file.proofs.Common.{Err, IfOk, IfSome, InputCause, InputFormat, LineCause, Ok, Result, Stop, WholeHeaderOf, header_in, header_read, header_step, input_by, input_read, lines_of}
 use Rattle.std.proofs.Common.{ℕ, ◌+◌, Bool, true, false, List, ◌∷◌}
-use Rattle.std.specs.Prelude.{Result, Ok, Err, IfOk, IfSome, if◌then◌else◌}
+use Rattle.std.specs.Prelude.{if◌then◌else◌}
 
 pub either : {A E : Type 0} (b : Bool) (r t : Result A E) (P : A → Type 0) → IfOk r P → IfOk t P → IfOk (if b then r else t) P
 either true r t P h i = h

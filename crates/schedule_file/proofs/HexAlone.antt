@@ -1,19 +1,14 @@
 -- Hexadecimal digits are one field.
-use Rattle.schedule_file.proofs.Common.{FromHexError, LineCause, bytes_said, decode_of, decode_of-ok, fields_of, is_hex_digit, is_space, not_hex, one_hex_field, some_bytes, value_or}
-use Rattle.std.proofs.Common.{◌≡◌, ℕ, List, [], ◌∷◌, refl, sym, ap, ◌∙◌, arith, false, true}
-use Rattle.std.specs.Prelude.{Option, Result, Ok, Err, Some, None}
-use Rattle.std.proofs.lemmas.Bool.Decides.{nat_tests}
-use Rattle.std.proofs.lemmas.List.Splits.{slice_split_none, join_with_byte-slice_split}
-use Rattle.std.specs.List.{join_with_byte}
+use Rattle.schedule_file.proofs.Common.{Err, FromHexError, LineCause, None, Ok, Result, Some, bytes_said, decode_of, decode_of-ok, fields_of, is_hex_digit, is_space, join_with_byte, join_with_byte-slice_split, not_hex, one_hex_field, slice_split_none, some_bytes, value_or}
+use Rattle.std.proofs.Common.{◌≡◌, ℕ, List, [], ◌∷◌, refl, sym, ap, ◌∙◌, arith, false, true, rules}
 use Rattle.schedule_file.specs.declared.line_cause.LineCause.TheVariants as cause
 
 -- a space is no digit
 no_space : (c : ℕ) → is_hex_digit c ≡ true → is_space c ≡ false
-no_space c h = grind (arith, nat_tests)
+no_space c h = grind arith
 
 decoded : (most : ℕ) (r : Result (List ℕ) FromHexError) (bytes : List ℕ) → some_bytes most r ≡ Some bytes → (all : List ℕ) × (r ≡ Ok all)
-decoded most (Ok all) bytes e = (all, refl)
-decoded most (Err why) bytes e = cc
+decoded most r bytes h = grind arith
 
 -- digits are one field
 alone : (most : ℕ) (text bytes : List ℕ) → bytes_said most text ≡ Some bytes → fields_of text ≡ text ∷ []
@@ -32,17 +27,8 @@ unsaid most text _ e same = refl
 pub hex_unsaid : (most : ℕ) (text : List ℕ) → bytes_said most text ≡ None → one_hex_field most (fields_of text) ≡ Err (not_hex (fields_of text))
 hex_unsaid most text e = unsaid most text (fields_of text) e (λ field is. ap (join_with_byte 32) (sym is) ∙ join_with_byte-slice_split 32 text)
 
--- what a field says or doesn't, it says or doesn't as the only one
-said-of : (most : ℕ) (text bytes : List ℕ) (said : Option (List ℕ)) → bytes_said most text ≡ said → value_or cause.Hex said ≡ Ok bytes → bytes_said most text ≡ Some bytes
-said-of most text bytes None is e = cc
-said-of most text bytes (Some all) is e = cc
-
-unsaid-of : (most : ℕ) (text : List ℕ) (why : LineCause) (said : Option (List ℕ)) → bytes_said most text ≡ said → value_or cause.Hex said ≡ Err why → bytes_said most text ≡ None
-unsaid-of most text why None is e = is
-unsaid-of most text why (Some all) is e = cc
-
 pub said_alone : (most : ℕ) (text bytes : List ℕ) → value_or cause.Hex (bytes_said most text) ≡ Ok bytes → one_hex_field most (fields_of text) ≡ Ok bytes
-said_alone most text bytes e = hex_said most text bytes (said-of most text bytes (bytes_said most text) refl e)
+said_alone most text bytes h = search (rules, hex_said)
 
 pub unsaid_alone : (most : ℕ) (text : List ℕ) (why : LineCause) → value_or cause.Hex (bytes_said most text) ≡ Err why → one_hex_field most (fields_of text) ≡ Err (not_hex (fields_of text))
-unsaid_alone most text why e = hex_unsaid most text (unsaid-of most text why (bytes_said most text) refl e)
+unsaid_alone most text why h = search (rules, hex_unsaid)

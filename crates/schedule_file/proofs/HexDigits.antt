@@ -1,52 +1,36 @@
 -- What texts of hexadecimal digits say, and which texts say no bytes.
-use Rattle.schedule_file.proofs.Common.{FromHexError, bytes_said, decode_of, decode_of-even, decode_of-ok, hex_digit_value, is_hex_digit, pair_value, some_bytes}
+use Rattle.schedule_file.proofs.Common.{FromHexError, None, Ok, Result, Some, bytes_said, cases_lt, common_steps, decode_of, decode_of-ok, hex_digit_value, is_hex_digit, pair_value, some_bytes, true}
 use Rattle.hex.specs.Hex.{decode_pairs}
-use Rattle.std.proofs.Common.{◌≡◌, ℕ, ◌+◌, ◌*◌, ◌/◌, ◌%◌, ◌<◌, ◌≤◌, List, length, take, drop, slice_index, slice_set, bit_or, unwrap_or, refl, sym, ap, ◌∙◌, arith, inl, inr}
-use Rattle.std.specs.Prelude.{◌⊎◌, Result, Ok, Err, Option, Some, None, true}
-use Rattle.std.proofs.lemmas.Bool.{cases_lt}
-use Rattle.std.proofs.lemmas.Bool.Decides.{nat_tests}
-use Rattle.std.proofs.lemmas.List.{append-nil, drop_all, length-take-le}
+use Rattle.std.proofs.Common.{◌≡◌, ℕ, ◌+◌, ◌*◌, ◌/◌, ◌%◌, ◌<◌, ◌≤◌, List, length, take, drop, slice_index, slice_set, bit_or, unwrap_or, arith, inl, inr, rules}
+use Rattle.std.specs.Prelude.{◌⊎◌}
 use Rattle.std.proofs.lemmas.Nat.{le_or_l, le_or_r, or_of_8}
 use Rattle.hex.proofs.Pairs.{decode_step, prepend}
 
 -- bytes that are as many as there may be
 pub some_bytes-within : (most : ℕ) (bytes : List ℕ) → 0 < length bytes → length bytes ≤ most → some_bytes most (Ok bytes) ≡ Some bytes
-some_bytes-within most bytes some le = grind (arith, nat_tests)
+some_bytes-within most bytes some le = grind arith
 
 some_bytes-beyond : (most : ℕ) (bytes : List ℕ) → (length bytes ≡ 0) ⊎ (most < length bytes) → some_bytes most (Ok bytes) ≡ None
-some_bytes-beyond most bytes (inl none) = grind (arith, nat_tests)
-some_bytes-beyond most bytes (inr many) = grind (arith, nat_tests)
+some_bytes-beyond most bytes h = grind arith
 
 no_bytes : (most : ℕ) (r : Result (List ℕ) FromHexError) → ((bytes : List ℕ) → r ≡ Ok bytes → some_bytes most (Ok bytes) ≡ None) → some_bytes most r ≡ None
-no_bytes most (Err e) h = refl
-no_bytes most (Ok bytes) h = h bytes refl
+no_bytes most r h = grind arith
 
 -- too few characters or too many say no bytes, nor does an odd number of them
 pub other_count : (most : ℕ) (text : List ℕ) → (length text / 2 ≡ 0) ⊎ (most < length text / 2) → bytes_said most text ≡ None
 other_count most text (inl none) = no_bytes most (decode_of text) (λ bytes e. some_bytes-beyond most bytes (inl (omega (arith, (decode_of-ok text bytes e).2))))
 other_count most text (inr many) = no_bytes most (decode_of text) (λ bytes e. some_bytes-beyond most bytes (inr (omega (arith, (decode_of-ok text bytes e).2))))
 
-pub odd_count : (most : ℕ) (text : List ℕ) → length text % 2 ≡ 1 → bytes_said most text ≡ None
-odd_count most text odd = no_bytes most (decode_of text) (λ bytes e. let ok = decode_of-ok text bytes e in absurd (omega (arith, odd, ok.0)))
-
 -- what is looked up of a character
 pub looked_up : (c : ℕ) → unwrap_or (hex_digit_value c) 256 ≤ 256
-looked_up c = grind (arith, nat_tests)
+looked_up c = grind arith
 
 digit_small : (c : ℕ) → is_hex_digit c ≡ true → unwrap_or (hex_digit_value c) 256 < 16
-digit_small c digit = grind (arith, nat_tests)
-
-digit_read : (digit : Option ℕ) (v : ℕ) → v ≡ unwrap_or digit 256 → v < 256 → digit ≡ Some v
-digit_read None v e lt = absurd (omega (arith, e))
-digit_read (Some n) v e lt = ap Some (sym e)
+digit_small c digit = grind arith
 
 -- two values that make a byte are those of digits
 pair_read : (high low i h l : ℕ) → h ≡ unwrap_or (hex_digit_value high) 256 → l ≡ unwrap_or (hex_digit_value low) 256 → h * 16 + l < 256 → pair_value high low i ≡ Ok ((h * 16 + l) % 256)
-pair_read high low i h l e f lt =
-    let h_is = digit_read (hex_digit_value high) h e (omega arith) in
-    let l_is = digit_read (hex_digit_value low) l f (omega arith) in
-    let same : h * 16 + l ≡ (h * 16 + l) % 256 = omega arith in
-    rw (h_is, l_is) (ap Ok same)
+pair_read high low i h l k m n = search rules
 
 -- two values that make none say that a character is no digit
 pair_refused : (text : List ℕ) (most i h l : ℕ) → 2 * i + 1 < length text → h ≡ unwrap_or (hex_digit_value (slice_index text (2 * i))) 256
@@ -88,8 +72,4 @@ one_read text out i seen h l fits room e f so_far =
 pub all_read : (most count : ℕ) (text out : List ℕ) → length text ≡ 2 * count → 0 < count → count ≤ most → count ≤ length out
     → decode_pairs 0 text ≡ prepend (take count out) (decode_pairs (2 * count) (drop (2 * count) text)) → Some (take count out) ≡ bytes_said most text
 unfolding decode_pairs
-all_read most count text out two some few room so_far =
-    let long = length-take-le count out room in
-    let read = decode_of-even text (omega (arith, two)) ∙ so_far ∙ ap (λ rest. prepend (take count out) (decode_pairs (2 * count) rest)) (drop_all (2 * count) text (omega (arith, two)))
-    ∙ ap Ok (append-nil (take count out)) in
-    sym (ap (some_bytes most) read ∙ some_bytes-within most (take count out) (omega (arith, long)) (omega (arith, long)))
+all_read most count text out h k l m n = grind (arith, common_steps)

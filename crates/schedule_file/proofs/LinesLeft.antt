@@ -1,16 +1,12 @@
 -- Each line of a header leaves fewer to come.
-use Rattle.schedule_file.proofs.Common.{AppRule, Becomes, HeaderKind, HeaderLine, Heading, LineCause, Place, RuleLine, Word, header_line, heading_with, highs_of, lengths_line, list_with, lows_of, map_ok, master_line, master_with_app, may_stand, no_field, one_hex_field, profile_line, profile_taken, range_line, ranges_with, rule_begun, rule_len, rule_line, rule_place, rule_with_bytes, rule_with_pairs, slave_line, slave_with_bytes, slave_with_pairs, ◌>>=◌}
-use Rattle.std.proofs.Common.{◌≡◌, ℕ, ◌+◌, ◌-◌, ◌/◌, ◌≤◌, ◌<◌, Bool, true, false, List, [], ◌∷◌, ◌++◌, length, length-append, arith, refl}
-use Rattle.std.specs.Prelude.{IsTrue, Result, Ok, Err, IfOk, OnOk, nat_le, if◌then◌else◌}
-use Rattle.std.proofs.lemmas.Bool.{false≢true, and_parts, leb-true}
-use Rattle.std.proofs.lemmas.Bool.Decides.{nat_tests}
-use Rattle.std.proofs.lemmas.Result.{IfOk-at_ok, IfOk-weaker}
+use Rattle.schedule_file.proofs.Common.{AppRule, Becomes, Err, HeaderKind, HeaderLine, Heading, IfOk, IfOk-at_ok, IfOk-weaker, IsTrue, LineCause, Ok, OnOk, Place, Result, RuleLine, Word, and_parts, common_steps, header_line, heading_with, highs_of, leb-true, lengths_line, list_with, lows_of, map_ok, master_line, master_with_app, may_stand, nat_le, no_field, one_hex_field, profile_line, profile_taken, range_line, ranges_with, rule_begun, rule_len, rule_line, rule_place, rule_with_bytes, rule_with_pairs, slave_line, slave_with_bytes, slave_with_pairs}
+use Rattle.schedule_file.specs.Fields.{◌>>=◌}
+use Rattle.std.proofs.Common.{◌≡◌, ℕ, ◌+◌, ◌-◌, ◌/◌, ◌≤◌, ◌<◌, Bool, true, List, [], ◌∷◌, ◌++◌, length, arith, refl, rules}
+use Rattle.std.specs.Prelude.{if◌then◌else◌}
 use Rattle.param_load.specs.declared.app_rule.AppRule.TheVariants as app_rule
 use Rattle.schedule_file.specs.LinesLeft.{left_after, lines_left}
 use Rattle.schedule_file.specs.declared.header_line.HeaderLine.TheVariants as says
-use Rattle.schedule_file.specs.declared.header_line.RuleLine.TheVariants as rule
 use Rattle.schedule_file.specs.declared.line_cause.LineCause.TheVariants as cause
-use Rattle.schedule_file.specs.declared.place.Place.TheVariants as place
 use Rattle.schedule_file.specs.declared.place.Word.TheVariants as word
 use Rattle.schedule_file.proofs.Sound.{IfOk-map, hex_sound, range_sound}
 
@@ -27,40 +23,19 @@ least word.Range app listed = 1 + (512 - listed)
 least word.Go app listed = 1
 
 left-least : (kind : HeaderKind) (p : Place) (w : Word) (app listed : ℕ) → IsTrue (may_stand kind p w) → least w app listed ≤ left_after p app listed
-left-least kind place.Title word.Lengths app listed h = omega arith
-left-least kind place.Lengths word.Master app listed h = omega arith
-left-least kind place.Lengths word.Slave app listed h = omega arith
-left-least kind place.Master word.App app listed h = omega arith
-left-least kind place.Master word.Slave app listed h = omega arith
-left-least kind place.Master word.Go app listed h = omega arith
-left-least kind place.App word.App app listed h = omega arith
-left-least kind place.App word.Slave app listed h = omega arith
-left-least kind place.App word.Go app listed h = omega arith
-left-least kind place.Slave word.Rule app listed h = omega arith
-left-least kind place.SlaveProfile word.Rule app listed h = omega arith
-left-least kind place.RuleAny word.Go app listed h = omega arith
-left-least kind place.RuleExact word.Bytes app listed h = omega arith
-left-least kind place.RuleExact word.Go app listed h = omega arith
-left-least kind place.RuleRanges word.Range app listed h = omega arith
-left-least kind place.RuleRanges word.Go app listed h = omega arith
-left-least kind p word.Profile app listed h = omega arith
-left-least kind p w app listed h = absurd (false≢true h)
+left-least kind p w app listed h = grind arith
 
 left-rule : (line : RuleLine) (app : ℕ) → left_after (rule_place line) app (rule_len (rule_begun line)) < 514
-left-rule (rule.Any n) app = omega arith
-left-rule _ app = omega arith
+left-rule line app = grind arith
 
 -- a `profile` line follows `master` or `slave`
 profile-fewer : (p : Place) (h : Heading) (n : ℕ) → IsTrue (may_stand h.kind p word.Profile) → lines_left (profile_taken p h n) < left_after p (length h.master.app) (rule_len h.slave.rule)
-profile-fewer place.Master h n stands = omega arith
-profile-fewer place.Slave h n stands = omega arith
-profile-fewer other h n stands = absurd (false≢true stands)
+profile-fewer p h n k = grind arith
 
 -- lists with what one more line adds
 list_with-at : (list bytes : List ℕ) (b : Bool) → b ≡ nat_le (length list + length bytes) 512
     → IfOk (if b then Ok (list ++ bytes) else Err cause.Range) (λ all. (length all ≡ length list + length bytes) × (length all ≤ 512))
-list_with-at list bytes true e = (length-append list bytes, grind (arith, nat_tests, length-append))
-list_with-at list bytes false e = tt
+list_with-at list bytes b h = grind (arith, common_steps)
 
 list_with-longer : (list bytes : List ℕ) → IfOk (list_with list bytes) (λ all. (length all ≡ length list + length bytes) × (length all ≤ 512))
 list_with-longer list bytes = list_with-at list bytes (nat_le (length list + length bytes) 512) refl
@@ -73,24 +48,16 @@ length-lows_of (low ∷ high ∷ pairs) = omega (arith, length-lows_of pairs)
 ranges_with-at : (low high pairs : List ℕ) (b : Bool) → 2 ≤ length pairs
     → (b ≡ true → length low + length pairs / 2 ≤ 512)
     → IfOk (if b then Ok (app_rule.Ranges (low ++ lows_of pairs) (high ++ highs_of pairs)) else Err cause.Range) (λ r. (length low < rule_len r) × (rule_len r ≤ 512))
-ranges_with-at low high pairs true some room =
-    let lows = length-lows_of pairs in
-    let all = length-append low (lows_of pairs) in
-    let most = room refl in
-    (omega (arith, lows, all), omega (arith, lows, all, most))
-ranges_with-at low high pairs false some room = tt
+ranges_with-at low high pairs b h k = grind (arith, common_steps, length-lows_of)
 
 ranges_with-longer : (low high pairs : List ℕ) → 2 ≤ length pairs → IfOk (ranges_with low high pairs) (λ r. (length low < rule_len r) × (rule_len r ≤ 512))
 ranges_with-longer low high pairs some = ranges_with-at low high pairs _ some (λ e. leb-true _ _ (and_parts _ _ e).1)
 
 rule_with_bytes-longer : (r : AppRule) (bytes : List ℕ) → 0 < length bytes → IfOk (rule_with_bytes r bytes) (λ r'. (rule_len r < rule_len r') × (rule_len r' ≤ 512))
-rule_with_bytes-longer (app_rule.Exact want) bytes some =
-    IfOk-map (list_with want bytes) app_rule.Exact _ (IfOk-weaker (list_with want bytes) _ _ (λ all h. (omega (arith, h.0), h.1)) (list_with-longer want bytes))
-rule_with_bytes-longer other bytes some = tt
+rule_with_bytes-longer r bytes h = grind (arith, common_steps)
 
 rule_with_pairs-longer : (r : AppRule) (pairs : List ℕ) → 2 ≤ length pairs → IfOk (rule_with_pairs r pairs) (λ r'. (rule_len r < rule_len r') × (rule_len r' ≤ 512))
-rule_with_pairs-longer (app_rule.Ranges low high) pairs some = ranges_with-longer low high pairs some
-rule_with_pairs-longer other pairs some = tt
+rule_with_pairs-longer r pairs h = search (rules, ranges_with-longer)
 
 -- what is taken of a line, whatever it says, or of which something is known
 taken_each : {A : Type 0} (r : Result A LineCause) (f : A → HeaderLine) (h : Heading) (P : Heading → Type 0) → ((x : A) → IfOk (heading_with h (f x)) P) → IfOk (map_ok f r >>= heading_with h) P

@@ -1,9 +1,7 @@
 -- A maker makes the next event of its number.
-use Rattle.schedule_file.proofs.Common.{Event}
-use Rattle.std.proofs.Common.{◌≡◌, ℕ, zero, suc, ◌-◌, ◌≤◌, ◌==◌, nat_le, min, refl, sym, ap, ◌∙◌, Bool, true, false, ◌||◌, if◌then◌else◌, arith}
-use Rattle.std.specs.Prelude.{Some, None}
+use Rattle.schedule_file.proofs.Common.{Event, Some, nat_tests}
+use Rattle.std.proofs.Common.{◌≡◌, ℕ, zero, suc, ◌-◌, ◌≤◌, ◌==◌, nat_le, min, refl, sym, ap, ◌∙◌, Bool, false, ◌||◌, if◌then◌else◌, arith, rules}
 use Rattle.std.specs.declared.option.Option.{Option}
-use Rattle.std.proofs.lemmas.Bool.Decides.{nat_tests}
 use Rattle.rand_pcg.specs.Lcg.{Lcg, next, next_state, state_after}
 use Rattle.rand_pcg.specs.Pcg.{multiplier_64, pcg32}
 use Rattle.schedule_file.specs.Made.{generator_of, generator_after, word_after, event_of_word, event_in_turn, event_at}
@@ -33,21 +31,15 @@ generator_first number = refl
 same_maker : (a b : MakerView) → a.turn ≡ b.turn → a.left ≡ b.left → a.words ≡ b.words → a ≡ b
 same_maker a b turn left words = λ i. record { turn = turn i; left = left i; words = words i }
 
--- the events of number 0
-either : (a : Bool) (x y : Event) → (if a || true then x else y) ≡ x
-either false x y = refl
-either true x y = refl
-
 pub event_at-zero : (place : ℕ) → event_at 0 place ≡ event_in_turn place
-event_at-zero place = either _ _ _
+event_at-zero place = grind arith
 
 -- the first four events of each number
 pub event_at-first : (number place : ℕ) → place ≤ 4 → event_at number place ≡ event_in_turn place
-event_at-first number place few = grind (arith, nat_tests)
+event_at-first number place few = grind arith
 
 neither : (a b : Bool) (x y : Event) → a ≡ false → b ≡ false → (if a || b then x else y) ≡ y
-neither false false x y p q = refl
-neither _ _ x y p q = cc
+neither a b x y h k = grind arith
 
 -- the later events of the other numbers
 pub event_at-word : (number count : ℕ) → 4 ≤ count → event_at (suc number) (suc count) ≡ event_of_word (word_after (suc number) (count - 4))
@@ -57,39 +49,15 @@ event_at-word number count late =
     let same : suc count - 5 ≡ count - 4 = omega arith in
     neither _ _ _ _ far some ∙ ap (λ (n : ℕ). event_of_word (word_after (suc number) n)) same
 
--- a new maker of number 0, and of another one
-pub new_of_zero : (number : ℕ) (left : Option ℕ) (words : Lcg) → number ≡ 0 → left ≡ None → words ≡ generator_of number
-    → IsMaker number 0 (record { turn = turn.Tick; left = left; words = words })
-new_of_zero zero left words none is_none of_number = same_maker _ _ refl is_none of_number
-new_of_zero (suc number) left words none is_none of_number = cc
-
 pub new_of_other : (number : ℕ) (left : Option ℕ) (words : Lcg) → (number ≡ 0 → ⊥) → left ≡ Some 4 → words ≡ generator_of number
     → IsMaker number 0 (record { turn = turn.Tick; left = left; words = words })
-new_of_other zero left words some is_four of_number = absurd (some refl)
-new_of_other (suc number) left words some is_four of_number = same_maker _ _ refl is_four (of_number ∙ generator_first (suc number))
+new_of_other number left words h k l = search (rules, generator_first)
 
 -- the turn and the events in turn that were made, of a maker of number 0 and of one whose events in turn aren't all
 -- made
 pub record TakesTurn (old : Turn) (event : Event) (new : Turn) : Type 0 where
   pub makes : (count : ℕ) → old ≡ turn_after count → event ≡ event_in_turn (suc count)
   pub goes_on : (count : ℕ) → old ≡ turn_after count → new ≡ turn_after (suc count)
-
--- a maker all of whose events are in turn
-all_stands : (old new : MakerView) (event : Event) → TakesTurn old.turn event new.turn → old.left ≡ None → new.left ≡ None → new.words ≡ old.words
-    → (number count : ℕ) → IsMaker number count old → (event ≡ event_at number (suc count)) × IsMaker number (suc count) new
-all_stands old new event turn none left words zero count is =
-    let now : old.turn ≡ turn_after count = ap (λ (m : MakerView). m.turn) is in
-    (turn.makes count now ∙ sym (event_at-zero (suc count)), same_maker _ _ (turn.goes_on count now) left (words ∙ ap (λ (m : MakerView). m.words) is))
-all_stands old new event turn none left words (suc number) count is =
-    let some : old.left ≡ Some (4 - count) = ap (λ (m : MakerView). m.left) is in
-    cc
-
-pub all_in_turn : (old new : MakerView) (event : Event) → TakesTurn old.turn event new.turn → old.left ≡ None → new.left ≡ None → new.words ≡ old.words
-    → Makes old event new
-all_in_turn old new event turn none left words = record {
-  makes = λ number count is. (all_stands old new event turn none left words number count is).0;
-  stands = λ number count is. (all_stands old new event turn none left words number count is).1;
-}
 
 some_equal : (a b : ℕ) → Some a ≡ Some b → a ≡ b
 some_equal a b e = cc
@@ -98,9 +66,7 @@ some_equal a b e = cc
 first_stands : (old new : MakerView) (event : Event) (left : ℕ) → TakesTurn old.turn event new.turn → old.left ≡ Some left → (left ≡ 0 → ⊥)
     → new.left ≡ Some (left - 1) → new.words ≡ old.words
     → (number count : ℕ) → IsMaker number count old → (event ≡ event_at number (suc count)) × IsMaker number (suc count) new
-first_stands old new event left turn some more fewer words zero count is =
-    let none : old.left ≡ None = ap (λ (m : MakerView). m.left) is in
-    cc
+first_stands old new event left turn some more fewer words zero count is = cc (ap (λ (m : MakerView). m.left) is)
 first_stands old new event left turn some more fewer words (suc number) count is =
     let left_is : left ≡ 4 - count = some_equal left (4 - count) (sym some ∙ ap (λ (m : MakerView). m.left) is) in
     let few : suc count ≤ 4 = omega arith in
@@ -129,9 +95,7 @@ first_in_turn inside old new event left seen turn some more fewer words =
 -- a maker none of whose events in turn is left
 word_stands : (old new : MakerView) (word : ℕ) → old.left ≡ Some 0 → (word, new.words) ≡ pcg32 old.words → new.turn ≡ old.turn → new.left ≡ old.left
     → (number count : ℕ) → IsMaker number count old → (event_of_word word ≡ event_at number (suc count)) × IsMaker number (suc count) new
-word_stands old new word spent step turn left zero count is =
-    let none : old.left ≡ None = ap (λ (m : MakerView). m.left) is in
-    cc
+word_stands old new word spent step turn left zero count is = cc (ap (λ (m : MakerView). m.left) is)
 word_stands old new word spent step turn left (suc number) count is =
     let left_is : 0 ≡ 4 - count = some_equal 0 (4 - count) (sym spent ∙ ap (λ (m : MakerView). m.left) is) in
     let late : 4 ≤ count = omega arith in

@@ -1,8 +1,6 @@
 -- There is a field after each space.
-use Rattle.schedule_file.proofs.Common.{fields_of, is_space, no_field, one_field}
+use Rattle.schedule_file.proofs.Common.{Err, fields_of, is_space, length-slice_split, no_field, one_field}
 use Rattle.std.proofs.Common.{◌≡◌, ℕ, ◌+◌, List, [], ◌∷◌, length, refl, arith}
-use Rattle.std.specs.Prelude.{Err}
-use Rattle.std.proofs.lemmas.List.Splits.{length-slice_split}
 use Rattle.schedule_file.specs.declared.line_cause.LineCause.TheVariants as cause
 
 -- a text that is cut has a first part

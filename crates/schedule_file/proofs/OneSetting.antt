@@ -1,7 +1,6 @@
 -- A header says all that an end is set to, so that an end has one setting by it.
-use Rattle.schedule_file.proofs.Common.{Heading, IsMasterOf, IsSlaveOf, Lengths, MasterSettings, SlaveSettings, allows_id, is_acceptable, is_length}
+use Rattle.schedule_file.proofs.Common.{Heading, IsMasterOf, IsSlaveOf, IsTrue, Lengths, MasterSettings, SlaveSettings, allows_id, is_acceptable, is_length}
 use Rattle.std.proofs.Common.{◌≡◌, ◌<◌, ◌∙◌, sym}
-use Rattle.std.specs.Prelude.{IsTrue}
 use Rattle.std.proofs.Math.Bool.{Bool-set}
 use Rattle.std.proofs.Math.Bridge.{le_prop}
 use mathlib.Core.HLevel.{is_prop→PathP}

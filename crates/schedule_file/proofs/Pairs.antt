@@ -1,13 +1,7 @@
 -- What lines of several pairs say.
-use Rattle.schedule_file.proofs.Common.{Becomes, End, Fits, Heading, Lengths, LineCause, OnStep, PairWord, PairsEvent, PairsLine, PairsLineFits, Profile, ScheduleLine, event_said, length_of, next_field, number_said, numbered, numbered_line, of_pair, pair_word_of, pairs_begun, pairs_event_of, profile_of, said_in, said_to, said_to_number, unlinked, value_or}
-use Rattle.std.proofs.Common.{◌≡◌, ℕ, zero, suc, ◌+◌, ◌<◌, Bool, true, false, List, [], ◌∷◌, ◌++◌, map, take, length, refl, sym, ap, ◌∙◌, add-one, inl, inr, arith}
-use Rattle.std.specs.Prelude.{◌⊎◌, Result, Ok, Err, Option, Some, None, IfOk, OnOk, slice_get, option_map, ◌&&◌}
-use Rattle.std.specs.Char.{is_ascii_digit}
-use Rattle.std.specs.List.{list_all}
-use Rattle.std.specs.Str.{all_ascii_digits}
-use Rattle.std.proofs.lemmas.List.{length_push, map-append, take_more}
-use Rattle.std.proofs.lemmas.Option.{get_or_from_slice_get, slice_get-map, slice_get_within}
-use Rattle.std.proofs.lemmas.Result.{IfOk-at_ok}
+use Rattle.schedule_file.proofs.Common.{Becomes, End, Err, Fits, Heading, IfOk, IfOk-at_ok, Lengths, LineCause, None, Ok, OnOk, OnStep, Option, PairWord, PairsLine, PairsLineFits, Profile, Result, ScheduleLine, Some, all_ascii_digits, common_steps, event_said, get_or_from_slice_get, is_ascii_digit, length_of, list_all, map-append, next_field, number_said, numbered, numbered_line, of_pair, option_map, pair_word_of, pairs_begun, profile_of, said_to, said_to_number, slice_get, slice_get-map, slice_get_within, take_more, unlinked, value_or}
+use Rattle.std.proofs.Common.{◌≡◌, ℕ, zero, suc, ◌+◌, ◌<◌, List, [], ◌∷◌, ◌++◌, map, take, length, refl, sym, ap, ◌∙◌, add-one, arith}
+use Rattle.std.specs.Prelude.{◌⊎◌}
 use Rattle.fsoe_base.specs.declared.command.End.TheVariants as side
 use Rattle.param_load.specs.declared.profile.Profile.TheVariants as profile
 use Rattle.param_load.specs.declared.profile.Profiles.{Profiles}
@@ -16,7 +10,6 @@ use Rattle.schedule_file.specs.declared.pairs_header.PairsStage.TheVariants as s
 use Rattle.schedule_file.specs.declared.event.ScheduleLine.TheVariants as line
 use Rattle.schedule_file.specs.declared.line_cause.LineCause.TheVariants as cause
 use Rattle.schedule_file.specs.declared.pair_event.PairWord.TheVariants as word
-use Rattle.schedule_file.specs.declared.pairs_line.PairsEvent.TheVariants as event
 use Rattle.schedule_file.proofs.Fitting.{said_fits}
 use Rattle.schedule_file.proofs.Sound.{each}
 
@@ -26,24 +19,10 @@ numbered_map f pairs zero = refl
 numbered_map f pairs (suc before) = slice_get-map f pairs before
 
 pub all_digits : (text : List ℕ) → list_all is_ascii_digit text ≡ all_ascii_digits text
-all_digits [] = refl
-all_digits (c ∷ text) = ap (λ b. is_ascii_digit c && b) (all_digits text)
-
--- the event that is kept
-pub said-event : (s : PairsLine) (ended : Bool) (kept : PairsEvent) → said_in ended kept ≡ s → ended ≡ false → pairs_event_of s ≡ Some kept
-said-event s ended event.Tick is e = ap pairs_event_of (sym is) ∙ ap (λ b. pairs_event_of (said_in b event.Tick)) e
-said-event s ended (event.One pair what) is e = ap pairs_event_of (sym is) ∙ ap (λ b. pairs_event_of (said_in b (event.One pair what))) e
-
-pub said-end : (s : PairsLine) (ended : Bool) (kept : PairsEvent) → said_in ended kept ≡ s → ended ≡ true → pairs_event_of s ≡ None
-said-end s ended kept is e = ap pairs_event_of (sym is) ∙ ap (λ b. pairs_event_of (said_in b kept)) e
-
--- ends that send one byte each and are in profile One
-at_ends : {X : Type 0} (f g : End → X) → f side.Master ≡ g side.Master → f side.Slave ≡ g side.Slave → (end : End) → f end ≡ g end
-at_ends f g master slave side.Master = master
-at_ends f g master slave side.Slave = slave
+all_digits text = grind arith
 
 pub same_ends : {X : Type 0} (f g : End → X) → f side.Master ≡ g side.Master → f side.Slave ≡ g side.Slave → f ≡ g
-same_ends f g master slave = λ i. λ end. at_ends f g master slave end i
+same_ends f g h k = grind arith
 
 pub unlinked-is : (lengths : Lengths) (profiles : Profiles) (word : PairWord) (fields : List (List ℕ)) → lengths.master ≡ 1 → lengths.slave ≡ 1 → profiles.master ≡ profile.One → profiles.slave ≡ profile.One
     → event_said (length_of lengths) (profile_of profiles) word fields ≡ unlinked word fields
@@ -103,6 +82,4 @@ map-next f g kept new pairs before a b e is found same =
 
 -- a header that has pairs has those before the last one, and the last one
 pub room_before : (s : PairsStage) (before : List Heading) (last : Heading) (most : ℕ) → length (pairs_begun s before last) < most → (s ≡ stage.Pairs) ⊎ (s ≡ stage.Done) → length before + 1 < most
-room_before stage.Pairs before last most few some = let all = length_push before last in omega (arith, all, few)
-room_before stage.Done before last most few some = let all = length_push before last in omega (arith, all, few)
-room_before _ before last most few some = elim some [ inl e ↦ cc | inr e ↦ cc ]
+room_before s before last most h k = grind (arith, common_steps)

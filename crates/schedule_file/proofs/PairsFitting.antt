@@ -1,13 +1,11 @@
 -- What a line of several pairs says to one of them fits it, and so do the events of an input of several pairs.
-use Rattle.schedule_file.proofs.Common.{End, PairsEvent, PairsHeading, PairsLine, PairsLineFits, Profile, by_word, common_line, fields_of, header_read, heading_profile, is_digits, line_of_event, no_field, numbered_line, own_length, pairs_event_of, pairs_of, pairs_said}
-use Rattle.std.proofs.Common.{◌≡◌, ℕ, List, [], ◌∷◌, All, map, subst}
-use Rattle.std.specs.Prelude.{IfOk, IfSome, Ok, Some, codes}
-use Rattle.std.specs.Str.{bytes_eq}
-use Rattle.std.proofs.lemmas.Result.{IfOk-at_ok}
+use Rattle.schedule_file.proofs.Common.{End, IfOk, IfOk-at_ok, IfSome, Ok, PairsHeading, PairsLine, PairsLineFits, Profile, Some, by_word, bytes_eq, codes, common_line, fields_of, header_read, heading_profile, is_digits, line_of_event, no_field, numbered_line, own_length, pairs_of, pairs_said}
+use Rattle.schedule_file.specs.declared.pairs_line.PairsEvent.{PairsEvent}
+use Rattle.schedule_file.specs.PairsLine.{pairs_event_of}
+use Rattle.std.proofs.Common.{◌≡◌, ℕ, List, [], ◌∷◌, All, map, arith}
 use Rattle.schedule_file.specs.PairsInput.{pairs_format, pairs_input, pairs_said_after}
 use Rattle.schedule_file.specs.declared.line_cause.LineCause.TheVariants as cause
 use Rattle.schedule_file.specs.declared.pairs_line.PairsEvent.TheVariants as event
-use Rattle.schedule_file.specs.declared.pairs_line.PairsLine.TheVariants as said
 use Rattle.schedule_file.proofs.Fitting.{input_is}
 use Rattle.schedule_file.proofs.Pairs.{numbered_fits}
 use Rattle.schedule_file.proofs.Sound.{IfOk-every, IfOk-map}
@@ -25,13 +23,7 @@ line_fits sends profiles (first ∷ fields) =
 
 -- the event of a line is its line again
 in_line : (P : PairsLine → Type 0) (line : PairsLine) (x : PairsEvent) → pairs_event_of line ≡ Some x → P line → P (line_of_event x)
-in_line P said.Tick x e is =
-    let same : event.Tick ≡ x = cc in
-    subst (λ (x : PairsEvent). P (line_of_event x)) same is
-in_line P (said.One pair own) x e is =
-    let same : event.One pair own ≡ x = cc in
-    subst (λ (x : PairsEvent). P (line_of_event x)) same is
-in_line P said.End x e is = cc
+in_line P line x h k = grind arith
 
 pub pairs_event_fits : (h : PairsHeading) (text : List ℕ) (line : PairsLine) (event : PairsEvent) → pairs_said_after h text ≡ Ok line → pairs_event_of line ≡ Some event
     → PairsLineFits (map own_length (pairs_of h)) (map heading_profile (pairs_of h)) (line_of_event event)

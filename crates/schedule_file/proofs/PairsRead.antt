@@ -1,34 +1,16 @@
 -- A line with the number of a pair before it says the same of this pair.
-use Rattle.schedule_file.proofs.Common.{End, Event, FitsEnds, FitsPair, IsOfTypes, PairWord, Profile, by_word, common_line, event_said, event_text, fields_of, is_digits, is_space, number_said, numbered, numbered_line, pair_line, pair_said, pair_said_by, pair_word_of, pairs_line, pairs_said, with_pair}
-use Rattle.std.proofs.Common.{◌≡◌, ℕ, ◌<◌, ◌^◌, Bool, true, List, [], ◌∷◌, refl, ap, ◌∙◌, arith}
-use Rattle.std.specs.Prelude.{decimal, Option, Some, None, Ok, if◌then◌else◌}
-use Rattle.std.proofs.lemmas.Bool.Decides.{nat_tests}
-use Rattle.std.proofs.lemmas.Fmt.{decimal_nonempty}
-use Rattle.std.proofs.lemmas.List.Splits.{slice_split_at}
+use Rattle.schedule_file.proofs.Common.{End, Event, FitsEnds, FitsPair, IsOfTypes, Ok, Option, Profile, Some, by_word, common_line, decimal, decimal_nonempty, event_text, fields_of, is_digits, is_space, nat_tests, number_said, numbered, numbered_line, pair_line, pair_said_by, pairs_line, pairs_said, slice_split_at, with_pair}
+use Rattle.std.proofs.Common.{◌≡◌, ℕ, ◌<◌, ◌^◌, Bool, true, List, refl, ap, ◌∙◌, arith}
+use Rattle.std.specs.Prelude.{if◌then◌else◌}
 use Rattle.schedule_file.specs.declared.line_cause.LineCause.TheVariants as cause
 use Rattle.schedule_file.specs.declared.event.ScheduleLine.TheVariants as line
-use Rattle.schedule_file.specs.declared.pair_event.PairWord.TheVariants as word
 use Rattle.schedule_file.specs.declared.pairs_line.PairsLine.TheVariants as said
 use Rattle.schedule_file.proofs.ReadBack.{digits-decimal, no_space-decimal, number_said-decimal, read_back}
-
--- what a word of an event says to a pair, where it says this event
-word_said : (own : End → ℕ) (profile : End → Profile) (word : PairWord) (fields : List (List ℕ)) (event : Event) → pair_said own profile (Some word) fields ≡ Ok (line.Step event) → event_said own profile word fields ≡ Ok (line.Step event)
-word_said own profile word.End [] event e = cc
-word_said own profile word.End (field ∷ fields) event e = cc
-word_said own profile _ fields event e = e
-
--- the word of a line, and the fields after it
-of_word : (sends : List (End → ℕ)) (profiles : List (End → Profile)) (pair : ℕ) (own : End → ℕ) (profile : End → Profile) (digits first : List ℕ) (fields : List (List ℕ)) (w : Option PairWord) (event : Event)
-    → number_said 65535 digits ≡ Some pair → numbered pair sends ≡ Some own → numbered pair profiles ≡ Some profile → pair_word_of first ≡ w → pair_said own profile w fields ≡ Ok (line.Step event)
-    → numbered_line sends profiles digits (first ∷ fields) ≡ Ok (said.One pair event)
-of_word sends profiles pair own profile digits first fields (Some word) event number s p e says = rw (e, number, s, p, word_said own profile word fields event says) refl
-of_word sends profiles pair own profile digits first fields None event number s p e says = cc
 
 by_fields : (sends : List (End → ℕ)) (profiles : List (End → Profile)) (pair : ℕ) (own : End → ℕ) (profile : End → Profile) (digits : List ℕ) (fields : List (List ℕ)) (event : Event)
     → number_said 65535 digits ≡ Some pair → numbered pair sends ≡ Some own → numbered pair profiles ≡ Some profile → pair_said_by own profile fields ≡ Ok (line.Step event)
     → numbered_line sends profiles digits fields ≡ Ok (said.One pair event)
-by_fields sends profiles pair own profile digits (first ∷ fields) event number s p says = of_word sends profiles pair own profile digits first fields (pair_word_of first) event number s p refl says
-by_fields sends profiles pair own profile digits [] event number s p says = cc
+by_fields sends profiles pair own profile digits fields event h k l m = grind arith
 
 pub numbered_said : (sends : List (End → ℕ)) (profiles : List (End → Profile)) (pair : ℕ) (own : End → ℕ) (profile : End → Profile) (text : List ℕ) (event : Event) → pair < 65536
     → numbered pair sends ≡ Some own → numbered pair profiles ≡ Some profile → pair_line own profile text ≡ Ok (line.Step event) → pairs_line sends profiles (with_pair pair text) ≡ Ok (said.One pair event)

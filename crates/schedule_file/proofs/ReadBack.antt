@@ -1,17 +1,7 @@
 -- The line of an event is read as that event.
-use Rattle.schedule_file.proofs.Common.{End, Event, Fits, IsBytes, IsOfTypes, MOST_DATA, MOST_FRAME, PairWord, Profile, allows_id, altered_line, bytes_said, decode_of-encode_lower, decode_of-ok, deliver_line, delivered_len, encode_lower, end_letter, event_text, fields_of, hold_line, is_hex_digit, is_space, nonce_line, number_said, pair_line, pair_said, pair_said_by, pair_word_of, put_line, raw_line, reference_of, reference_text, some_bytes, switch_of, switch_text}
-use Rattle.std.proofs.Common.{◌≡◌, ℕ, ◌<◌, ◌≤◌, ◌^◌, Bool, true, false, List, [], ◌∷◌, length, get_or, All, inl, inr, refl, sym, ap, ◌∙◌, arith}
-use Rattle.std.specs.Prelude.{◌⊎◌, decimal, Option, Some, Ok}
-use Rattle.std.specs.Char.{is_ascii_digit}
-use Rattle.std.specs.List.{join_with_byte}
-use Rattle.std.specs.Str.{all_ascii_digits}
-use Rattle.std.specs.Str.Parse.{digits_value}
-use Rattle.std.proofs.lemmas.Bool.{and_parts, eqb-true, false≢true, cases_lt}
-use Rattle.std.proofs.lemmas.Bool.Decides.{nat_tests}
-use Rattle.std.proofs.lemmas.Fmt.{decimal_nonempty, decimal_digit, first_decimal, digits_decimal, digits_value-decimal}
-use Rattle.std.proofs.lemmas.List.Elements.{All-cons, All-nil}
-use Rattle.std.proofs.lemmas.List.Splits.{slice_split_at, slice_split_none}
-use Rattle.std.proofs.lemmas.Str.Parse.{numerals_by_value, tells_all_ascii_digits}
+use Rattle.schedule_file.proofs.Common.{All-cons, All-nil, End, Event, Fits, IsBytes, IsOfTypes, MOST_DATA, MOST_FRAME, Ok, PairWord, Profile, Some, all_ascii_digits, allows_id, altered_line, and_parts, bytes_said, cases_lt, decimal, decimal_digit, decimal_nonempty, decode_of-encode_lower, decode_of-ok, deliver_line, delivered_len, digits_decimal, digits_value, digits_value-decimal, encode_lower, end_letter, event_text, fields_of, first_decimal, hold_line, is_ascii_digit, is_hex_digit, is_space, join_with_byte, nat_tests, nonce_line, number_said, numerals_by_value, pair_line, pair_said, pair_word_of, put_line, raw_line, reference_of, reference_text, slice_split_at, slice_split_none, some_bytes, switch_of, switch_text, tells_all_ascii_digits}
+use Rattle.std.proofs.Common.{◌≡◌, ℕ, ◌<◌, ◌≤◌, ◌^◌, Bool, true, false, List, [], ◌∷◌, length, get_or, All, inl, inr, refl, ap, ◌∙◌, arith, rules}
+use Rattle.std.specs.Prelude.{◌⊎◌}
 use Rattle.fsoe_base.specs.declared.command.End.TheVariants as side
 use Rattle.schedule_file.proofs.HexDigits.{some_bytes-within}
 use Rattle.schedule_file.specs.declared.pair_event.PairWord.TheVariants as word
@@ -21,9 +11,6 @@ use Rattle.schedule_file.specs.declared.event.ScheduleLine.TheVariants as line
 -- no space stands in a text
 abbrev pub HasNoSpace : List ℕ → Type 0
 HasNoSpace text = All (λ b. is_space b ≡ false) text
-
-spaceless-none : HasNoSpace []
-spaceless-none = All-nil (λ b. is_space b ≡ false)
 
 spaceless-more : (c : ℕ) (text : List ℕ) → is_space c ≡ false → HasNoSpace text → HasNoSpace (c ∷ text)
 spaceless-more c text e none = All-cons (λ b. is_space b ≡ false) c text e none
@@ -38,14 +25,10 @@ fields_joined first [] none = slice_split_none is_space first none.0
 fields_joined first (next ∷ fields) none =
     slice_split_at is_space first 32 (join_with_byte 32 (next ∷ fields)) none.0 refl ∙ ap (λ (z : List (List ℕ)). first ∷ z) (fields_joined next fields none.1)
 
-two_letters : (x y : ℕ) → is_space x ≡ false → is_space y ≡ false → HasNoSpace (x ∷ y ∷ [])
-two_letters x y e f = spaceless-more x (y ∷ []) e (spaceless-more y [] f spaceless-none)
-
 -- a decimal number is read as its value
 number_said-numeral : (most n : ℕ) (text : List ℕ) → 0 < length text → all_ascii_digits text ≡ true → (length text ≡ 1) ⊎ (48 < get_or text 0 0)
     → digits_value 10 text ≡ n → n ≤ most → number_said most text ≡ Some n
-number_said-numeral most n text some digits (inl one) value le = grind (arith, nat_tests)
-number_said-numeral most n text some digits (inr first) value le = grind (arith, nat_tests)
+number_said-numeral most n text h k l m o = grind arith
 
 begins : (n : ℕ) → n < 2 ^ 64 → (length (decimal n) ≡ 1) ⊎ (48 < get_or (decimal n) 0 0)
 begins n lt = elim (cases_lt 0 n) [
@@ -61,7 +44,7 @@ number_said-decimal most n lt le =
     number_said-numeral most n (decimal n) (decimal_nonempty n lt) (digits-decimal n lt) (begins n lt) (digits_value-decimal (numerals_by_value _ tells_all_ascii_digits) n lt) le
 
 no_space-digit : (c : ℕ) → is_ascii_digit c ≡ true → is_space c ≡ false
-no_space-digit c h = grind (arith, nat_tests)
+no_space-digit c h = grind arith
 
 no_space-digits : (text : List ℕ) → all_ascii_digits text ≡ true → HasNoSpace text
 no_space-digits [] h = All-nil _
@@ -74,8 +57,7 @@ no_space-decimal n lt = no_space-digits (decimal n) (digits-decimal n lt)
 
 -- hexadecimal digits are read as the bytes that they were made of
 no_space-hex_at : (c : ℕ) (b : Bool) → is_space c ≡ b → is_hex_digit c ≡ true → b ≡ false
-no_space-hex_at c false e h = refl
-no_space-hex_at c true e h = absurd (false≢true (sym (ap is_hex_digit (eqb-true c 32 e)) ∙ h))
+no_space-hex_at c b h k = search rules
 
 no_space-hex : (bytes : List ℕ) → IsBytes bytes → HasNoSpace (encode_lower bytes)
 no_space-hex bytes are =
@@ -87,23 +69,17 @@ bytes_said-hex most bytes are some le = ap (some_bytes most) (decode_of-encode_l
 one_byte : (mask : ℕ) → mask < 256 → IsBytes (mask ∷ [])
 one_byte mask lt = λ i. grind (arith, nat_tests)
 
--- a reference is read as its number
-reference_of-number : (back : ℕ) (digits : List ℕ) → number_said 64 digits ≡ Some back → 0 < back → reference_of (45 ∷ digits) ≡ Some back
-reference_of-number back digits e some = rw e (grind (arith, nat_tests))
-
 reference_of-text : (back : ℕ) → 0 < back → back ≤ 64 → reference_of (reference_text back) ≡ Some back
-reference_of-text back some le = reference_of-number back (decimal back) (number_said-decimal 64 back (omega arith) le) some
+reference_of-text back h k = search (rules, number_said-decimal)
 
 no_space-reference : (back : ℕ) → back ≤ 64 → HasNoSpace (reference_text back)
 no_space-reference back le = spaceless-more 45 (decimal back) refl (no_space-decimal back (omega arith))
 
 switch_of-text : (on : Bool) → switch_of (switch_text on) ≡ Some on
-switch_of-text true = refl
-switch_of-text false = refl
+switch_of-text on = grind arith
 
 no_space-switch : (on : Bool) → HasNoSpace (switch_text on)
-no_space-switch true = spaceless-more 49 [] refl spaceless-none
-no_space-switch false = spaceless-more 48 [] refl spaceless-none
+no_space-switch on = grind arith
 
 -- what the fields after the word say
 deliver_read : (to : End) (back : ℕ) (reference : List ℕ) → reference_of reference ≡ Some back → deliver_line to (reference ∷ []) ≡ Ok (line.Step (event.Deliver to back))
@@ -126,22 +102,11 @@ hold_read at on field e = rw e refl
 nonce_read : (at : End) (profile : Profile) (id : ℕ) (field : List ℕ) → number_said 4294967295 field ≡ Some id → allows_id profile id ≡ true → nonce_line at profile (field ∷ []) ≡ Ok (line.Step (event.Nonce at id))
 nonce_read at profile id field e allowed = rw (e, allowed) refl
 
-word_spaceless : (first : ℕ) (end : End) → is_space first ≡ false → HasNoSpace (first ∷ end_letter end)
-word_spaceless first side.Master e = two_letters first 109 e refl
-word_spaceless first side.Slave e = two_letters first 115 e refl
-
--- what holds of both ends holds of each
-of_both : (P : End → Type 0) → P side.Master → P side.Slave → (end : End) → P end
-of_both P master slave side.Master = master
-of_both P master slave side.Slave = slave
-
 -- a line says what its word says with the fields after it
 line_said : (sends : End → ℕ) (profiles : End → Profile) (first : ℕ) (named : End → PairWord) (at : End) (fields : List (List ℕ)) → is_space first ≡ false
     → pair_word_of (first ∷ end_letter side.Master) ≡ Some (named side.Master) → pair_word_of (first ∷ end_letter side.Slave) ≡ Some (named side.Slave) → HaveNoSpaces fields
     → pair_line sends profiles (join_with_byte 32 ((first ∷ end_letter at) ∷ fields)) ≡ pair_said sends profiles (Some (named at)) fields
-line_said sends profiles first named at fields letter master slave none =
-    ap (pair_said_by sends profiles) (fields_joined (first ∷ end_letter at) fields (word_spaceless first at letter, none))
-    ∙ ap (λ (w : Option PairWord). pair_said sends profiles w fields) (of_both (λ end. pair_word_of (first ∷ end_letter end) ≡ Some (named end)) master slave at)
+line_said sends profiles first named at fields h k l m = search (rules, fields_joined)
 
 pub read_back : (sends : End → ℕ) (profiles : End → Profile) (event : Event) → IsOfTypes event → Fits sends profiles event → pair_line sends profiles (event_text event) ≡ Ok (line.Step event)
 read_back sends profiles (event.Deliver to back) typed fits =

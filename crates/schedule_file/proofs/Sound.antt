@@ -1,15 +1,9 @@
 -- What a header says once it is done is such as settings may have.
-use Rattle.schedule_file.proofs.Common.{AppRule, FromHexError, HeaderKind, HeaderLine, Heading, InRange, IsMasterOf, IsSlaveOf, Lengths, LineCause, MasterSettings, Place, Profile, RuleInRange, RuleLine, SlaveSettings, Word, admitted, allows_id, any_line, decode_of, end_numbers, fields_of, fields_taken, header_line, header_word_of, heading_after, heading_new, heading_with, highs_of, input_of, is_acceptable, is_length, is_start, lengths_line, list_with, listed_line, lows_of, map_ok, master_line, master_with_app, next_field, no_field, number_16, one_field, one_hex_field, profile_for, profile_given, profile_line, profile_taken, range_line, rule_begun, rule_line, rule_with_bytes, rule_with_pairs, schedule_format, slave_line, slave_with_bytes, slave_with_pairs, some_bytes, title_taken, value_or, ◌>>=◌}
-use Rattle.std.proofs.Common.{◌≡◌, ℕ, ◌+◌, ◌/◌, ◌%◌, ◌≤◌, ◌<◌, Bool, true, false, List, [], ◌∷◌, ◌++◌, length, arith, refl, sym}
-use Rattle.std.specs.Prelude.{IsTrue, Result, Ok, Err, Some, None, IfOk, IfSome, ◌&&◌, ◌||◌, ◌==◌, nat_le, nat_lt, codes, if◌then◌else◌}
-use Rattle.std.specs.Str.{bytes_eq}
-use Rattle.std.specs.Cmp.Lexicographic.{pointwise}
-use Rattle.std.proofs.lemmas.Bool.{and_parts, or_parts, leb-true, ltb-true}
-use Rattle.std.proofs.lemmas.Bool.Decides.{nat_tests}
-use Rattle.std.proofs.lemmas.Option.{IfSome_then}
-use Rattle.std.proofs.lemmas.Result.{IfOk-at_ok, IfOk-weaker}
+use Rattle.schedule_file.proofs.Common.{AppRule, Err, HeaderKind, HeaderLine, Heading, IfOk, IfOk-at_ok, IfOk-weaker, IfSome, IfSome_then, InRange, IsMasterOf, IsSlaveOf, IsTrue, Lengths, LineCause, MasterSettings, Ok, Place, Profile, Result, RuleInRange, RuleLine, SlaveSettings, Word, admitted, allows_id, and_parts, any_line, bytes_eq, codes, fields_of, fields_taken, header_line, header_word_of, heading_after, heading_new, heading_with, highs_of, input_of, is_acceptable, is_length, is_start, leb-true, lengths_line, list_with, listed_line, lows_of, map_ok, master_line, master_with_app, nat_le, nat_tests, next_field, no_field, number_16, one_field, one_hex_field, pointwise, profile_for, profile_given, profile_line, profile_taken, range_line, rule_begun, rule_line, rule_with_bytes, rule_with_pairs, schedule_format, slave_line, slave_with_bytes, slave_with_pairs, title_taken}
+use Rattle.schedule_file.specs.Fields.{◌>>=◌}
+use Rattle.std.proofs.Common.{◌≡◌, ℕ, ◌+◌, ◌/◌, ◌%◌, ◌≤◌, ◌<◌, Bool, true, false, List, [], ◌∷◌, ◌++◌, length, arith, refl, sym, rules}
+use Rattle.std.specs.Prelude.{◌&&◌, ◌==◌, if◌then◌else◌}
 use Rattle.param_load.specs.declared.app_rule.AppRule.TheVariants as app_rule
-use Rattle.param_load.specs.declared.profile.Profile.TheVariants as profile
 use Rattle.schedule_file.specs.HeaderKind.{title_of}
 use Rattle.schedule_file.specs.declared.header_line.HeaderLine.TheVariants as says
 use Rattle.schedule_file.specs.declared.header_line.LengthsLine.{LengthsLine}
@@ -67,25 +61,19 @@ pub ok_if : {A : Type 0} (b : Bool) (x : A) (e : LineCause) (P : A → Type 0) �
 ok_if true x e P h = h refl
 ok_if false x e P h = tt
 
-ok_unless : {A : Type 0} (b : Bool) (x : A) (e : LineCause) (P : A → Type 0) → (b ≡ false → P x) → IfOk (if b then Err e else Ok x) P
-ok_unless true x e P h = tt
-ok_unless false x e P h = h refl
-
 -- a number that isn't 0
 not_zero : (n : ℕ) → (n == 0) ≡ false → 0 < n
-not_zero n e = grind (arith, nat_tests)
+not_zero n e = grind arith
 
 lengths_sound : (fields : List (List ℕ)) → IfOk (lengths_line fields) (λ line. IsTrue (is_length line.master) × IsTrue (is_length line.slave))
 lengths_sound fields =
     each (next_field fields) _ _ (λ first. each (one_field first.1) _ _ (λ second. each (number_16 first.0) _ _ (λ master. each (number_16 second) _ _ (λ slave. ok_if (is_length master && is_length slave) _ cause.Length _ (λ e. and_parts (is_length master) (is_length slave) e)))))
 
 master_sound : (fields : List (List ℕ)) → IfOk (master_line fields) (λ line. (0 < line.conn) × (0 < line.watchdog))
-master_sound fields =
-    each (end_numbers fields) _ _ (λ n. ok_unless (n.0 == 0 || n.2 == 0) _ cause.Range _ (λ e. let some = or_parts (n.0 == 0) (n.2 == 0) e in (not_zero n.0 some.0, not_zero n.2 some.1)))
+master_sound fields = search (rules, not_zero)
 
 slave_sound : (fields : List (List ℕ)) → IfOk (slave_line fields) (λ line. (0 < line.hand) × (0 < line.most))
-slave_sound fields =
-    each (end_numbers fields) _ _ (λ n. ok_unless (n.1 == 0 || n.2 == 0) _ cause.Range _ (λ e. let some = or_parts (n.1 == 0) (n.2 == 0) e in (not_zero n.1 some.0, not_zero n.2 some.1)))
+slave_sound fields = search rules
 
 any_sound : (fields : List (List ℕ)) → IfOk (any_line fields) RuleInRange
 any_sound fields = each (one_field fields) _ _ (λ field. each (number_16 field) _ _ (λ n. ok_if (nat_le n 512) (rule.Any n) cause.Range _ (λ e. leb-true n 512 e)))
@@ -105,29 +93,14 @@ rule_by false form fields = listed_sound form fields
 rule_sound : (fields : List (List ℕ)) → IfOk (rule_line fields) RuleInRange
 rule_sound fields = each (next_field fields) _ _ (λ form. rule_by (bytes_eq form.0 (codes "any")) form.0 form.1)
 
--- hexadecimal bytes are at least one, and no more than there may be
-bytes_if : (b : Bool) (bytes : List ℕ) (P : List ℕ → Type 0) → (b ≡ true → P bytes) → IfOk (value_or cause.Hex (if b then Some bytes else None)) P
-bytes_if true bytes P h = h refl
-bytes_if false bytes P h = tt
-
-bytes_within : (most : ℕ) (r : Result (List ℕ) FromHexError) → IfOk (value_or cause.Hex (some_bytes most r)) (λ bytes. (0 < length bytes) × (length bytes ≤ most))
-bytes_within most (Ok bytes) =
-    bytes_if (nat_lt 0 (length bytes) && nat_le (length bytes) most) bytes _
-    (λ e. let parts = and_parts (nat_lt 0 (length bytes)) (nat_le (length bytes) most) e in (ltb-true 0 (length bytes) parts.0, leb-true (length bytes) most parts.1))
-bytes_within most (Err e) = tt
-
 pub hex_within : (most : ℕ) (fields : List (List ℕ)) → IfOk (one_hex_field most fields) (λ bytes. (0 < length bytes) × (length bytes ≤ most))
-hex_within most fields = each (one_field fields) _ _ (λ field. bytes_within most (decode_of field))
+hex_within most fields = grind arith
 
 pub hex_sound : (fields : List (List ℕ)) → IfOk (one_hex_field 256 fields) (λ bytes. 0 < length bytes)
 hex_sound fields = IfOk-weaker (one_hex_field 256 fields) _ _ (λ bytes within. within.0) (hex_within 256 fields)
 
-not_one : (n : ℕ) → 0 < n → (n == 1) ≡ false → 2 ≤ n
-not_one n some e = grind (arith, nat_tests)
-
 pub range_sound : (fields : List (List ℕ)) → IfOk (range_line fields) (λ pairs. 2 ≤ length pairs)
-range_sound fields =
-    known (one_hex_field 256 fields) _ _ _ (hex_sound fields) (λ pairs some. ok_unless (length pairs == 1) pairs cause.Hex _ (λ e. not_one (length pairs) some e))
+range_sound fields = grind arith
 
 -- a line that is read is in range
 line_sound : (word : Word) (fields : List (List ℕ)) → IfOk (header_line word fields) InRange
@@ -145,17 +118,11 @@ line_sound word.Go fields = IfOk-map (no_field fields) (λ _. says.Go) InRange (
 pub said_in_range : (word : Word) (fields : List (List ℕ)) (line : HeaderLine) → Ok line ≡ header_line word fields → InRange line
 said_in_range word fields line e = IfOk-at_ok InRange (sym e) (line_sound word fields)
 
--- the profile for a nonce allows it
-allows_by : (b : Bool) (nonce : ℕ) → allows_id profile.One nonce ≡ b → IsTrue (allows_id (if b then profile.One else profile.Two 0) nonce)
-allows_by true nonce e = e
-allows_by false nonce e = refl
-
 profile_allows : (nonce : ℕ) → IsTrue (allows_id (profile_for nonce) nonce)
-profile_allows nonce = allows_by (allows_id profile.One nonce) nonce refl
+profile_allows nonce = grind arith
 
 begun_acceptable : (line : RuleLine) → RuleInRange line → IsTrue (is_acceptable (rule_begun line))
-begun_acceptable (rule.Any n) range = grind (arith, nat_tests)
-begun_acceptable _ range = refl
+begun_acceptable line h = grind arith
 
 pointwise_append : (low high lows highs : List ℕ) → IsTrue (pointwise nat_le low high) → IsTrue (pointwise nat_le lows highs) → IsTrue (pointwise nat_le (low ++ lows) (high ++ highs))
 pointwise_append [] [] lows highs a b = b
@@ -174,8 +141,7 @@ pairs_acceptable other pairs is = tt
 
 -- a header after one more line
 profile_sound : (p : Place) (h : Heading) (n : ℕ) → Sound h → Sound (profile_taken p h n)
-profile_sound place.Slave h n s = (s.0, s.1, record { hand = s.2.hand; most = s.2.most; acceptable = s.2.acceptable; allowed = refl })
-profile_sound other h n s = (s.0, record { conn = s.1.conn; watchdog = s.1.watchdog; allowed = refl }, s.2)
+profile_sound p h n k = grind arith
 
 with_rule : (h : Heading) (r : AppRule) → Sound h → IsTrue (is_acceptable r) → Sound (record h { slave = record h.slave { rule = r } })
 with_rule h r s is = (s.0, s.1, record { hand = s.2.hand; most = s.2.most; acceptable = is; allowed = s.2.allowed })

@@ -1,10 +1,6 @@
 -- A text is cut at its first space.
-use Rattle.schedule_file.proofs.Common.{IsFirstByte, Nowhere, Passes, fields_of, is_byte, is_space}
+use Rattle.schedule_file.proofs.Common.{IsFirstByte, None, Nowhere, Passes, Some, drop_more, false_from_ne_true, fields_of, get_or-take, get_or_default, is_byte, is_space, length-take, slice_split_at, slice_split_none, take-append-drop}
 use Rattle.std.proofs.Common.{◌≡◌, ℕ, ◌+◌, ◌≤◌, List, [], ◌∷◌, ◌++◌, length, take, drop, get_or, slice_index, All, false, arith, ap, ◌∙◌, sym}
-use Rattle.std.specs.Prelude.{None, Some}
-use Rattle.std.proofs.lemmas.List.{drop_more, get_or-take, get_or_default, length-take, take-append-drop}
-use Rattle.std.proofs.lemmas.List.Splits.{slice_split_at, slice_split_none}
-use Rattle.std.proofs.lemmas.Bool.{false_from_ne_true}
 
 -- none of the first n bytes is found
 none_found : (text : List ℕ) (n : ℕ) → n ≤ length text → Nowhere (Passes (is_byte 32) text) 0 n → All (λ b. is_space b ≡ false) (take n text)

@@ -1,5 +1,5 @@
 -- What a line says that stands after the header of a node.
-use Rattle.std.specs.Prelude.{List, [], ℕ, codes, Option, Some, None, Result, Err, if◌then◌else◌}
+use Rattle.std.specs.Prelude.{List, ℕ, codes, Option, Some, None, Result, Err, if◌then◌else◌}
 use Rattle.std.specs.Str.{bytes_eq}
 use Rattle.fsoe_base.specs.declared.command.End.{End}
 use Rattle.param_load.specs.declared.profile.Profile.{Profile}

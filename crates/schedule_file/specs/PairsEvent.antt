@@ -1,7 +1,7 @@
 -- What a line says that stands after the header of several pairs: `t`, a tick of all pairs; `end`; or the number of a
 -- pair, from 1, and an event of this pair. The causes come in their order over the whole line, so those of the event
 -- that come before that of its pair count.
-use Rattle.std.specs.Prelude.{ℕ, zero, suc, nat_lt, nat_le, ◌&&◌, length, List, [], Bool, codes, Option, Some, None, Result, Ok, Err, slice_get, if◌then◌else◌}
+use Rattle.std.specs.Prelude.{ℕ, zero, suc, nat_lt, nat_le, ◌&&◌, length, List, Bool, codes, Option, Some, None, Result, Ok, Err, slice_get, if◌then◌else◌}
 use Rattle.std.specs.Str.{bytes_eq, all_ascii_digits}
 use Rattle.fsoe_base.specs.declared.command.End.{End}
 use Rattle.param_load.specs.declared.profile.Profile.{Profile}

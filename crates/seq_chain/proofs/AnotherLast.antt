@@ -1,8 +1,7 @@
 -- A frame after another CRC_0 that was taken last.
-use Rattle.seq_chain.proofs.Common.{Frame, Link, SteppedAlikeAfter, bits_of, bytes_xored, cover, crc_0, fed_bits, fed_bits-injective, fed_bytes, fed_bytes-append, fed_bytes-below, fed_bytes-injective, first_byte, first_of, fits, following, number_of, place, second_byte, sixteen_zeros, sixteen_zeros-are_bits, step_in_last, stepped, steps_again}
+use Rattle.seq_chain.proofs.Common.{Frame, Link, SteppedAlikeAfter, bits_of, bytes_xored, cover, crc_0, fed_bits, fed_bits-injective, fed_bytes, fed_bytes-append, fed_bytes-below, fed_bytes-injective, first_byte, first_of, fits, following, number_of, place, second_byte, sixteen_zeros-are_bits, step_in_last, stepped, xor_block, xor_comm, xor_lt, xor_self}
 use Rattle.fsoe_crc.specs.Remainder.{computing, rem}
-use Rattle.std.proofs.Common.{◌≡◌, ◌≢◌, ℕ, ◌*◌, ◌+◌, ◌/◌, ◌%◌, ◌<◌, List, [], ◌∷◌, ◌++◌, length, bit_xor, Bool, true, false, Option, Some, None, IsTrue, refl, sym, ap, ◌∙◌, lit<, arith}
-use Rattle.std.specs.Int.Bits.{xor_self, xor_comm, xor_lt, xor_block}
+use Rattle.std.proofs.Common.{◌≡◌, ◌≢◌, ℕ, ◌*◌, ◌+◌, ◌/◌, ◌%◌, ◌<◌, List, [], ◌∷◌, ◌++◌, length, bit_xor, false, Option, Some, None, IsTrue, refl, sym, ap, ◌∙◌, lit<, arith, rules}
 use Rattle.seq_chain.proofs.ToldApart.{last_told, first_group, crc_0_is}
 use Rattle.seq_chain.proofs.OneChange.{refused, fitting}
 
@@ -30,11 +29,7 @@ first_refused last last' f h h' other some right = another_refused last last' No
 -- what comes after equal ends was equal
 before_end : (xs ys end : List ℕ) → rem (xs ++ end) ≡ rem (ys ++ end) → fed_bytes 0 xs ≡ fed_bytes 0 ys
 unfolding rem
-before_end xs ys end e =
-    let whole : fed_bytes 0 (xs ++ end) ≡ fed_bytes 0 (ys ++ end) =
-    fed_bits-injective _ _ sixteen_zeros (fed_bytes-below 0 (xs ++ end) (lit< tt)) (fed_bytes-below 0 (ys ++ end) (lit< tt)) sixteen_zeros-are_bits e in
-    fed_bytes-injective (fed_bytes 0 xs) (fed_bytes 0 ys) end (fed_bytes-below 0 xs (lit< tt)) (fed_bytes-below 0 ys (lit< tt))
-    (sym (fed_bytes-append 0 xs end) ∙ whole ∙ fed_bytes-append 0 ys end)
+before_end xs ys end h = search (rules, fed_bits-injective, fed_bytes-below, sixteen_zeros-are_bits, fed_bytes-injective, fed_bytes-append)
 
 two_spell : (x y : ℕ) → x < 256 → y < 256 → fed_bytes 0 (x ∷ y ∷ []) ≡ 256 * x + y
 two_spell x y hx hy = ap (λ v. fed_bits v (bits_of y)) (first_byte x hx) ∙ second_byte x y hx hy
@@ -87,18 +82,6 @@ stepped_once : (last last' conn cmd : ℕ) (load : List ℕ) → last < 65536 �
 stepped_once last last' conn cmd load h h' some by e =
     by (differ_by_step last last' conn cmd 0 (first_group load) h h' (sym (crc_0_is last conn 2 cmd load some) ∙ e ∙ crc_0_is last' conn 3 cmd load some))
 
--- at the second frame of a session, by whether its number is stepped once more after the one CRC_0 and after the other
-second_by : (last last' crc : ℕ) (f : Frame) (again again' : Bool) → last < 65536 → last' < 65536 → last ≢ last' → bit_xor last last' ≢ step_in_last → 0 < length f.load
-    → steps_again last (Some (record { number = 1; crc = crc })) f ≡ again → steps_again last' (Some (record { number = 1; crc = crc })) f ≡ again'
-    → crc_0 last f.conn (stepped 2 again) f.cmd f.load ≢ crc_0 last' f.conn (stepped 2 again') f.cmd f.load
-second_by last last' crc f true true h h' other by some test test' = one_number last last' f.conn 3 f.cmd f.load h h' other some
-second_by last last' crc f false false h h' other by some test test' = one_number last last' f.conn 2 f.cmd f.load h h' other some
-second_by last last' crc f false true h h' other by some test test' = stepped_once last last' f.conn f.cmd f.load h h' some by
-second_by last last' crc f true false h h' other by some test test' = λ e. stepped_once last' last f.conn f.cmd f.load h' h some (λ k. by (xor_comm last last' ∙ k)) (sym e)
-
 pub second_refused : (last last' crc : ℕ) (f : Frame) → last < 65536 → last' < 65536 → last ≢ last' → bit_xor last last' ≢ step_in_last → 0 < length f.load
     → IsTrue (fits last (Some (record { number = 1; crc = crc })) f) → fits last' (Some (record { number = 1; crc = crc })) f ≡ false
-second_refused last last' crc f h h' other by some right =
-    let before : Option Link = Some (record { number = 1; crc = crc }) in
-    refused (fits last' before f) (λ also.
-    second_by last last' crc f (steps_again last before f) (steps_again last' before f) h h' other by some refl refl (one_crc_0 last last' before f right also))
+second_refused last last' crc f h k l m n o = search (rules, refused, fits, one_number, stepped_once, xor_comm, one_crc_0)

@@ -1,6 +1,6 @@
 -- The two frames of the worked case fit, and differ in their data alone.
 use Rattle.seq_chain.proofs.Common.{DifferInGroup, first_of, fits}
-use Rattle.std.proofs.Common.{◌≡◌, ◌≢◌, ℕ, IsTrue, refl, ap, arith}
+use Rattle.std.proofs.Common.{IsTrue, refl, rules}
 use Rattle.fsoe_crc.specs.Remainder.{computing}
 use Rattle.seq_chain.specs.BothFit.{noted_before, stepped_frame, other_frame}
 
@@ -12,8 +12,5 @@ pub other_fits : IsTrue (fits 0x672D noted_before other_frame)
 unfolding computing
 other_fits = refl
 
-other_data : stepped_frame.load ≢ other_frame.load
-other_data e = let first : ◌≡◌ {A = ℕ} 0x50 0xE2 = ap first_of e in omega arith
-
 pub data_differ : DifferInGroup 0 stepped_frame other_frame
-data_differ = record { one_length = refl; group = (other_data, refl); alone = refl }
+data_differ = search (rules, first_of)

@@ -7,8 +7,8 @@ pub use Rattle.fsoe_crc.proofs.Weight.{byte_turned, pair_turned, weight, zero_fi
 pub use Rattle.fsoe_crc.proofs.Xored.{bytes_xored, rem-xored}
 pub use Rattle.fsoe_crc.specs.Remainder.{bits_of, fed_bits, fed_bytes, rem, sixteen_zeros}
 pub use Rattle.fsoe_crc.specs.Turned.{turned_bits}
-pub use Rattle.fsoe_frame.proofs.Places.{FrameAt, frame_at, frame_len_other, pair_left, whole}
-pub use Rattle.fsoe_frame.specs.Layout.{groups, layout}
+pub use Rattle.fsoe_frame.proofs.Places.{frame_at, frame_len_other, pair_left, whole}
+pub use Rattle.fsoe_frame.specs.Layout.{groups}
 pub use Rattle.fsoe_frame.specs.Parts.{AreBytes, Frame, frame_of, one_byte, pairs}
 pub use Rattle.seq_chain.specs.Cover.{common, cover, covered, crc_0, crcs, crcs_from, first_of, place}
 pub use Rattle.seq_chain.specs.Differences.{DifferAt, DifferInCommand, DifferInConnection, DifferInCrc, DifferInGroup, DifferInGroups, SteppedAlike, steps_again, turned_in_frames, turned_within}
@@ -18,3 +18,7 @@ pub use Rattle.seq_chain.specs.Numbers.{following, next, number_of, repeats_crc,
 pub use Rattle.seq_chain.specs.Reset.{reset_crcs, reset_load, reset_view, zeros_follow}
 pub use Rattle.seq_chain.specs.Sealing.{fits, noted, sealed}
 pub use Rattle.seq_chain.specs.declared.link.Link.{Link}
+pub use Rattle.std.proofs.lemmas.Bool.{agree_below_at, cases_eq, eqb-false, eqb-true}
+pub use Rattle.std.proofs.lemmas.List.{get_or-drop, take-replicate}
+pub use Rattle.std.specs.Cmp.Lexicographic.{bytes_decides, pointwise}
+pub use Rattle.std.specs.Int.Bits.{xor_assoc, xor_block, xor_comm, xor_lt, xor_mod, xor_self, xor_shr}

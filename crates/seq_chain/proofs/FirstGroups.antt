@@ -1,8 +1,7 @@
 -- Frames whose loads differ in their first group.
-use Rattle.seq_chain.proofs.Common.{AreBytes, Link, SteppedAlike, common, cover, crc_0, fed_bits-below, fed_bytes, fed_bytes-below, first_number, first_of, following, number_of, rem-adjacent, rem-xored, sealed, sixteen_zeros, sixteen_zeros-are_bits, step_in_last, step_in_load, stepped, zero_first}
+use Rattle.seq_chain.proofs.Common.{AreBytes, Link, SteppedAlike, common, crc_0, fed_bits-below, fed_bytes, fed_bytes-below, first_number, first_of, rem-adjacent, rem-xored, sealed, sixteen_zeros, sixteen_zeros-are_bits, step_in_last, step_in_load, xor_block, xor_lt, zero_first}
 use Rattle.fsoe_crc.specs.Remainder.{computing, rem}
-use Rattle.std.proofs.Common.{◌≡◌, ◌≢◌, ℕ, ◌*◌, ◌+◌, ◌<◌, List, [], ◌∷◌, length, bit_xor, Option, refl, sym, ap, ◌∙◌, lit<, arith}
-use Rattle.std.specs.Int.Bits.{xor_lt, xor_block}
+use Rattle.std.proofs.Common.{◌≡◌, ◌≢◌, ℕ, ◌*◌, ◌+◌, ◌<◌, List, [], ◌∷◌, length, bit_xor, Option, refl, sym, ap, ◌∙◌, lit<, arith, rules}
 use Rattle.seq_chain.proofs.ToldApart.{one_told, pair_told}
 
 pub first_told : (last conn n cmd : ℕ) (load load' : List ℕ) → length load ≡ length load' → AreBytes load → AreBytes load' → first_number load ≢ first_number load'
@@ -16,8 +15,7 @@ first_told last conn n cmd load load' same h h' other e = absurd (omega arith)
 pub frames_told : (last conn cmd : ℕ) (before : Option Link) (load load' : List ℕ) → length load ≡ length load' → AreBytes load → AreBytes load' → first_number load ≢ first_number load'
     → SteppedAlike last before (sealed last before conn cmd load) (sealed last before conn cmd load')
     → first_of (sealed last before conn cmd load).crcs ≢ first_of (sealed last before conn cmd load').crcs
-frames_told last conn cmd before load load' same h h' other steps e =
-    first_told last conn (number_of last before conn cmd load) cmd load load' same h h' other (e ∙ ap (λ again. crc_0 last conn (stepped (following before) again) cmd load') (sym steps))
+frames_told last conn cmd before load load' h k l m n = search (rules, first_told)
 
 rem-below : (bytes : List ℕ) → rem bytes < 65536
 unfolding rem
@@ -56,6 +54,4 @@ differ_in_load last conn n cmd load load' same h h' e = absurd (omega arith)
 
 -- the CRC_0 of a load has 16 bits
 pub crc_0_within : (last conn n cmd : ℕ) (load : List ℕ) → crc_0 last conn n cmd load < 65536
-crc_0_within last conn n cmd [] = lit< tt
-crc_0_within last conn n cmd (d ∷ []) = rem-below (cover last conn n cmd 0 (d ∷ []))
-crc_0_within last conn n cmd (d ∷ b ∷ load) = rem-below (cover last conn n cmd 0 (d ∷ b ∷ []))
+crc_0_within last conn n cmd load = search (rules, rem-below)

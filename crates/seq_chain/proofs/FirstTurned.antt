@@ -1,9 +1,8 @@
 -- What the CRC of the first group says of turned bits of the connection id, the command and the data.
-use Rattle.seq_chain.proofs.Common.{cover, low_high, rem, rem-xored, turned_bits, weight}
+use Rattle.seq_chain.proofs.Common.{cover, low_high, rem, rem-xored, turned_bits, weight, xor_lt, xor_mod, xor_self, xor_shr}
 use Rattle.fsoe_crc.specs.Remainder.{computing}
 use Rattle.fsoe_crc.proofs.Weight.{crc_at}
 use Rattle.std.proofs.Common.{◌≡◌, ◌≢◌, ℕ, ◌+◌, ◌*◌, ◌/◌, ◌%◌, ◌^◌, ◌<◌, ◌≤◌, [], ◌∷◌, bit_xor, count_ones, true, refl, sym, ◌∙◌, arith}
-use Rattle.std.specs.Int.Bits.{xor_self, xor_shr, xor_mod, xor_lt}
 use Rattle.std.specs.Int.Count.{ones_cat}
 use Rattle.fsoe_crc.proofs.Xor.{xor_zero_eq}
 use Rattle.fsoe_crc.proofs.Far.{ones_below, columns, far, all_far}

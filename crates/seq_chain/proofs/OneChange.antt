@@ -1,12 +1,10 @@
 -- A frame that differs in one thing from a frame that fits.
-use Rattle.seq_chain.proofs.Common.{AreBytes, DifferAt, DifferInCommand, DifferInConnection, DifferInCrc, DifferInGroup, Frame, Link, SteppedAlike, cover, crc_0, crcs, crcs_from, first_of, fits, following, groups, next, number_of, rem, repeats_crc, stepped, steps_again}
-use Rattle.std.proofs.Common.{◌≡◌, ◌≢◌, ℕ, zero, suc, ◌<◌, List, ◌∷◌, length, Bool, true, false, Option, Some, None, ◌==◌, IsTrue, refl, sym, ap, subst, ◌∙◌, arith}
-use Rattle.std.specs.Cmp.Lexicographic.{bytes_decides}
+use Rattle.seq_chain.proofs.Common.{AreBytes, DifferAt, DifferInCommand, DifferInConnection, DifferInCrc, DifferInGroup, Frame, Link, SteppedAlike, bytes_decides, crc_0, crcs, first_of, fits, groups, number_of, repeats_crc, steps_again}
+use Rattle.std.proofs.Common.{◌≡◌, ◌≢◌, ℕ, zero, suc, ◌<◌, List, ◌∷◌, length, Bool, true, false, Option, IsTrue, sym, ap, subst, ◌∙◌, arith, rules}
 use Rattle.seq_chain.proofs.ToldApart.{command_told, connection_told, groups_told, first_group, crc_0_is}
 
 pub refused : (b : Bool) → b ≢ true → b ≡ false
-refused true h = absurd (h refl)
-refused false h = refl
+refused b h = grind arith
 
 -- the CRCs of a frame that fits are those under its number
 pub fitting : (last : ℕ) (before : Option Link) (f : Frame) → IsTrue (fits last before f) → f.crcs ≡ crcs last f.conn (number_of last before f.conn f.cmd f.load) f.cmd f.load
@@ -19,10 +17,7 @@ alike : (last conn conn' cmd cmd' : ℕ) (before : Option Link) (load load' fiel
     → IsTrue (fits last before (record { cmd = cmd'; load = load'; crcs = fields; conn = conn' }))
     → steps_again last before (record { cmd = cmd; load = load; crcs = fields; conn = conn }) ≡ steps_again last before (record { cmd = cmd'; load = load'; crcs = fields; conn = conn' })
     → crcs last conn (number_of last before conn cmd load) cmd load ≡ crcs last conn' (number_of last before conn cmd load) cmd' load'
-alike last conn conn' cmd cmd' before load load' fields one two steps =
-    sym (fitting last before (record { cmd = cmd; load = load; crcs = fields; conn = conn }) one)
-    ∙ fitting last before (record { cmd = cmd'; load = load'; crcs = fields; conn = conn' }) two
-    ∙ ap (λ again. crcs last conn' (stepped (following before) again) cmd' load') (sym steps)
+alike last conn conn' cmd cmd' before load load' fields h k l = search rules
 
 pub command_refused : (last : ℕ) (before : Option Link) (f g : Frame) → f.cmd < 256 → g.cmd < 256 → 0 < length f.load → IsTrue (fits last before f) → DifferInCommand f g → SteppedAlike last before f g → fits last before g ≡ false
 command_refused last before f g h h' some right d steps =
@@ -45,24 +40,14 @@ connection_refused last before f g h h' some right d steps =
 -- the data of one group, where the second step comes for both or for neither
 group_refused : (last : ℕ) (before : Option Link) (f g : Frame) (k : ℕ) → AreBytes f.load → AreBytes g.load → IsTrue (fits last before f) → DifferInGroup k f g
     → steps_again last before f ≡ steps_again last before (record f { load = g.load }) → fits last before g ≡ false
-group_refused last before f g k h h' right d steps =
-    subst (λ (x : Frame). fits last before x ≡ false) (sym d.alone)
-    (refused (fits last before (record f { load = g.load })) (λ also.
-    groups_told last f.conn (number_of last before f.conn f.cmd f.load) f.cmd 0 k f.load g.load d.one_length h h' d.group
-    (alike last f.conn f.conn f.cmd f.cmd before f.load g.load f.crcs right also steps)))
+group_refused last before f g k h l m n o = search (rules, groups_told)
 
 pub first_data_refused : (last : ℕ) (before : Option Link) (f g : Frame) → AreBytes f.load → AreBytes g.load → IsTrue (fits last before f) → DifferInGroup 0 f g → SteppedAlike last before f g → fits last before g ≡ false
 first_data_refused last before f g h h' right d steps = group_refused last before f g 0 h h' right d (subst (λ (x : Frame). SteppedAlike last before f x) d.alone steps)
 
--- a later group doesn't change the CRC_0, and so not the step
-same_first : (last conn n cmd k : ℕ) (gs hs : List (List ℕ)) → DifferAt (suc k) gs hs → first_of (crcs_from last conn n cmd 0 gs) ≡ first_of (crcs_from last conn n cmd 0 hs)
-same_first last conn n cmd k (g ∷ gs) (h ∷ hs) other = ap (λ x. rem (cover last conn n cmd 0 x)) other.0
-same_first last conn n cmd k _ _ other = absurd other
-
 same_step : (last conn cmd k : ℕ) (before : Option Link) (load load' : List ℕ) → DifferAt (suc k) (groups load) (groups load')
     → repeats_crc (λ n. crc_0 last conn n cmd load) before ≡ repeats_crc (λ n. crc_0 last conn n cmd load') before
-same_step last conn cmd k None load load' other = refl
-same_step last conn cmd k (Some link) load load' other = ap (λ crc. crc == link.crc) (same_first last conn (next link.number) cmd k (groups load) (groups load') other)
+same_step last conn cmd k before load load' h = grind arith
 
 pub later_data_refused : (last : ℕ) (before : Option Link) (f g : Frame) (k : ℕ) → 0 < k → AreBytes f.load → AreBytes g.load → IsTrue (fits last before f) → DifferInGroup k f g → fits last before g ≡ false
 later_data_refused last before f g zero later h h' right d = absurd (omega arith)
@@ -74,7 +59,4 @@ differ_not_equal (suc k) (x ∷ xs) (y ∷ ys) d e = differ_not_equal k xs ys d.
 differ_not_equal _ _ _ d e = d
 
 pub crc_refused : (last : ℕ) (before : Option Link) (f g : Frame) (k : ℕ) → IsTrue (fits last before f) → DifferInCrc k f g → fits last before g ≡ false
-crc_refused last before f g k right d =
-    subst (λ (x : Frame). fits last before x ≡ false) (sym d.alone)
-    (refused (fits last before (record f { crcs = g.crcs })) (λ also.
-    differ_not_equal k f.crcs g.crcs d.crc (fitting last before f right ∙ sym (fitting last before (record f { crcs = g.crcs }) also))))
+crc_refused last before f g k h l = search (rules, differ_not_equal)

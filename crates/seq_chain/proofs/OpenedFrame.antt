@@ -1,8 +1,6 @@
 -- What the first tests of a delivered frame tell of it.
-use Rattle.seq_chain.proofs.Common.{Frame, first_of, frame_len, frame_of, reset_crcs, reset_view, zeros_follow}
-use Rattle.std.proofs.Common.{◌≡◌, ◌≢◌, ◌==◌, nat_eq, ℕ, Bool, true, false, not, List, length, Option, Some, None, Result, Ok, Err, if◌then◌else◌, refl}
-use Rattle.std.proofs.lemmas.Bool.{eqb-true, eqb-false}
-use Rattle.std.specs.Cmp.Lexicographic.{pointwise}
+use Rattle.seq_chain.proofs.Common.{Frame, eqb-false, eqb-true, first_of, frame_len, frame_of, pointwise, reset_crcs, reset_view, zeros_follow}
+use Rattle.std.proofs.Common.{◌≡◌, ◌≢◌, ◌==◌, nat_eq, ℕ, Bool, true, false, not, List, length, Option, Some, None, Result, Ok, Err, if◌then◌else◌, refl, arith}
 use Rattle.fsoe_base.specs.declared.command.Code.{Code}
 use Rattle.fsoe_base.specs.declared.command.Command.{Command}
 use Rattle.fsoe_base.specs.declared.command.Command.TheVariants as command
@@ -32,8 +30,7 @@ pub data Tested (l : ℕ) (repeats : Bool) (bytes : List ℕ) : Opened → Type 
 
 -- what a Reset frame says is its first data byte
 said : (a b k : Bool) (x y z u v : Code) → (if not a then Err x else if not b then Err y else if not k then Err z else Ok u) ≡ Ok v → v ≡ u
-said true true true x y z u v h = cc
-said _ _ _ x y z u v h = absurd (cc h)
+said a b k x y z u v h = grind arith
 
 said-first : (f : Frame) (x : Code) → reset_view f ≡ Ok x → x ≡ code (first_of f.load)
 said-first f x h = said (f.conn == 0) (pointwise nat_eq f.crcs (reset_crcs f.load)) (zeros_follow f.load) (code 0x03) (code 0x04) (code 0x07) (code (first_of f.load)) x h

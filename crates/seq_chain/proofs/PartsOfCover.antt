@@ -1,7 +1,6 @@
 -- What the parts of a later group's cover decide of its CRC, each by itself.
-use Rattle.seq_chain.proofs.Common.{covered, place, rem}
+use Rattle.seq_chain.proofs.Common.{covered, place, rem, xor_assoc}
 use Rattle.std.proofs.Common.{◌≡◌, ℕ, zero, suc, ◌<◌, List, [], ◌∷◌, ◌++◌, bit_xor, replicate, append_assoc, sym, ap, ◌∙◌, arith}
-use Rattle.std.specs.Int.Bits.{xor_assoc}
 use Rattle.fsoe_crc.proofs.TwoParts.{rem-two_parts}
 
 -- the cover is the first part, and then the place and the pair

@@ -1,17 +1,10 @@
 -- What is read from bytes is within the widths of a frame's parts.
-use Rattle.seq_chain.proofs.Common.{AreBytes, FrameAt, frame_at, frame_len, frame_len_other, frame_of, is_length, one_byte, pairs, whole}
-use Rattle.std.proofs.Common.{◌≡◌, ◌≢◌, ℕ, zero, suc, ◌+◌, ◌-◌, ◌*◌, ◌/◌, ◌%◌, ◌<◌, List, [], ◌∷◌, length, drop, slice_index, IsTrue, inl, inr, ap, arith}
-use Rattle.std.proofs.lemmas.Bool.{cases_eq}
-use Rattle.std.proofs.lemmas.Bool.Decides.{nat_tests}
-use Rattle.std.proofs.lemmas.List.{get_or-drop}
+use Rattle.seq_chain.proofs.Common.{AreBytes, cases_eq, frame_at, frame_len, frame_len_other, frame_of, get_or-drop, is_length, one_byte, pairs}
+use Rattle.std.proofs.Common.{◌≡◌, ◌≢◌, ℕ, zero, suc, ◌+◌, ◌-◌, ◌*◌, ◌/◌, ◌%◌, ◌<◌, List, [], ◌∷◌, length, drop, IsTrue, inl, inr, ap, arith, rules}
 use Rattle.byteorder.specs.Numbers.{little_from-lt}
 
 pub received_command : (l : ℕ) (bytes : List ℕ) → IsTrue (is_length l) → length bytes ≡ frame_len l → AreBytes bytes → (frame_of l bytes).cmd < 256
-received_command l bytes valid right h =
-    let at : FrameAt l bytes (frame_of l bytes) = frame_at l bytes valid right in
-    let b : slice_index bytes 0 < 256 = h 0 in
-    let e = at.cmd_is in
-    omega arith
+received_command l bytes h k m = search (rules, frame_at)
 
 pub received_connection : (l : ℕ) (bytes : List ℕ) → IsTrue (is_length l) → length bytes ≡ frame_len l → AreBytes bytes → (frame_of l bytes).conn < 65536
 received_connection l bytes valid right h =
@@ -33,7 +26,7 @@ pairs_load cmd (suc n) (d ∷ d' ∷ c ∷ c' ∷ bytes) right h (suc (suc i)) =
 pairs_load cmd _ _ right h i = absurd (omega arith)
 
 pairs_of : (l cmd : ℕ) (bytes : List ℕ) → l ≢ 1 → frame_of l (cmd ∷ bytes) ≡ pairs cmd bytes
-pairs_of l cmd bytes other = grind (arith, nat_tests)
+pairs_of l cmd bytes other = grind arith
 
 load_of_pairs : (l cmd : ℕ) (bytes : List ℕ) → IsTrue (is_length l) → l ≢ 1 → length (cmd ∷ bytes) ≡ frame_len l → AreBytes bytes → AreBytes (frame_of l (cmd ∷ bytes)).load
 load_of_pairs l cmd bytes valid other right h =
@@ -50,10 +43,4 @@ received_load l (cmd ∷ bytes) valid right h =
     ]
 
 pub received_some : (l : ℕ) (bytes : List ℕ) → IsTrue (is_length l) → length bytes ≡ frame_len l → 0 < length (frame_of l bytes).load
-received_some l bytes valid right =
-    let e : length (frame_of l bytes).load ≡ l = (whole l bytes valid right).load in
-    let some : 0 < l = positive l valid in
-    omega arith
-  where
-    positive : (l : ℕ) → IsTrue (is_length l) → 0 < l
-    positive l valid = grind (arith, nat_tests)
+received_some l bytes h k = search rules

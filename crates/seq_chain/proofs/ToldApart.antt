@@ -1,13 +1,10 @@
 -- What the CRC tells apart of what it covers.
 use Rattle.seq_chain.proofs.Common.{AreBytes, DifferAt, common, cover, covered, crc_0, crcs_from, first_of, groups, low_high, place, rem, rem-adjacent, rem-one}
-use Rattle.std.proofs.Common.{◌≡◌, ◌≢◌, ℕ, zero, suc, ◌/◌, ◌%◌, ◌<◌, ◌≤◌, List, [], ◌∷◌, ◌++◌, length, refl, sym, ap, ◌∙◌, arith, append_assoc}
+use Rattle.std.proofs.Common.{◌≡◌, ◌≢◌, ℕ, zero, suc, ◌/◌, ◌%◌, ◌<◌, ◌≤◌, List, [], ◌∷◌, ◌++◌, length, refl, ap, arith, append_assoc, rules}
 
 -- a number of 16 bits is two adjacent bytes
 word_told : (before after : List ℕ) (m n : ℕ) → m < 65536 → n < 65536 → rem (before ++ m % 256 ∷ m / 256 ∷ after) ≡ rem (before ++ n % 256 ∷ n / 256 ∷ after) → m ≡ n
-word_told before after m n hm hn e =
-    let both : (m % 256 ≡ n % 256) × (m / 256 ≡ n / 256) =
-    rem-adjacent before after (m % 256) (m / 256) (n % 256) (n / 256) (omega arith) (omega arith) (omega arith) (omega arith) e in
-    omega arith
+word_told before after m n h k l = search (rules, rem-adjacent)
 
 -- what comes after the common part
 abbrev after_common : ℕ → List ℕ → List ℕ
@@ -30,14 +27,10 @@ pub zeros_last : (first : List ℕ) (i : ℕ) (group : List ℕ) → rem (covere
 zeros_last first i group = ap rem (append_assoc (first ++ place i) group (0 ∷ 0 ∷ 0 ∷ []))
 
 pub one_told : (first : List ℕ) (i d d' : ℕ) → d < 256 → d' < 256 → rem (covered first i (d ∷ [])) ≡ rem (covered first i (d' ∷ [])) → (d ∷ []) ≡ (d' ∷ [])
-one_told first i d d' h h' e =
-    ap (λ x. x ∷ []) (rem-one (first ++ place i) (0 ∷ 0 ∷ 0 ∷ []) d d' h h' (sym (zeros_last first i (d ∷ [])) ∙ e ∙ zeros_last first i (d' ∷ [])))
+one_told first i d d' h k l = search (rules, rem-one, zeros_last)
 
 pub pair_told : (first : List ℕ) (i d b d' b' : ℕ) → d < 256 → b < 256 → d' < 256 → b' < 256 → rem (covered first i (d ∷ b ∷ [])) ≡ rem (covered first i (d' ∷ b' ∷ [])) → (d ∷ b ∷ []) ≡ (d' ∷ b' ∷ [])
-pair_told first i d b d' b' hd hb hd' hb' e =
-    let both : (d ≡ d') × (b ≡ b') =
-    rem-adjacent (first ++ place i) (0 ∷ 0 ∷ 0 ∷ []) d b d' b' hd hb hd' hb' (sym (zeros_last first i (d ∷ b ∷ [])) ∙ e ∙ zeros_last first i (d' ∷ b' ∷ [])) in
-    cc
+pair_told first i d b d' b' h k l m n = search (rules, rem-adjacent, zeros_last)
 
 pub data_told : (last conn n cmd i : ℕ) (group group' : List ℕ) → length group ≤ 2 → length group ≡ length group' → AreBytes group → AreBytes group' → group ≢ group' → rem (cover last conn n cmd i group) ≢ rem (cover last conn n cmd i group')
 data_told last conn n cmd i [] [] most same h h' other e = other refl
@@ -46,8 +39,7 @@ data_told last conn n cmd i (d ∷ b ∷ []) (d' ∷ b' ∷ []) most same h h' o
 data_told last conn n cmd i group group' most same h h' other e = absurd (omega arith)
 
 no_place : (k : ℕ) → DifferAt {A = List ℕ} k [] [] → ⊥
-no_place zero h = h
-no_place (suc k) h = h
+no_place k h = grind arith
 
 after_first : List ℕ → List ℕ
 after_first [] = []
@@ -73,6 +65,4 @@ first_group (d ∷ b ∷ load) = d ∷ b ∷ []
 
 -- the CRC_0 of a load is that of its first group
 pub crc_0_is : (last conn n cmd : ℕ) (load : List ℕ) → 0 < length load → crc_0 last conn n cmd load ≡ rem (cover last conn n cmd 0 (first_group load))
-crc_0_is last conn n cmd [] some = absurd (omega arith)
-crc_0_is last conn n cmd (d ∷ []) some = refl
-crc_0_is last conn n cmd (d ∷ b ∷ load) some = refl
+crc_0_is last conn n cmd load h = grind arith

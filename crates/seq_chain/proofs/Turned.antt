@@ -1,7 +1,6 @@
 -- The chain of an end, and the same as the peer has it.
-use Rattle.seq_chain.proofs.Common.{Frame}
+use Rattle.seq_chain.proofs.Common.{Frame, bytes_decides}
 use Rattle.std.proofs.Common.{ℕ, List, IsTrue, refl}
-use Rattle.std.specs.Cmp.Lexicographic.{bytes_decides}
 use Rattle.seq_chain.specs.declared.chain.Chain.{Chain}
 use Rattle.seq_chain.specs.Chain.{sealed_by, turned}
 use Rattle.seq_chain.specs.Session.{fits_next}

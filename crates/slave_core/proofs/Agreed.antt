@@ -1,9 +1,7 @@
 -- What each event leaves at the machine is what looking back gives.
-use Rattle.slave_core.proofs.Common.{Code, Command, Deed, Did, InData, InReset, IsProper, IsRun, Move, Notes, Now, OfSlave, Outcome, SlaveSettings, SlaveShows, State, Terms, after, as_now, code, data_next, data_reply, deed_of, did_on, id_len, is_whole, kit_of, next_state, nonce, notes_of, now_in, on_verdict, parameters, reply, rule_len, running, session_of, settles, slave-run, slave_conn, state_of, terms, upload_fault, upload_of, view_in, view_of, whole, whole_parameters}
-use Rattle.std.proofs.Common.{◌≡◌, ℕ, ◌+◌, ◌<◌, ◌≤◌, List, [], ◌∷◌, length, take, replicate, Bool, true, false, not, Option, Some, unwrap_or, Result, if◌then◌else◌, refl, sym, ap, subst, ◌∙◌, arith}
-use Rattle.std.specs.Option.{option_or}
+use Rattle.slave_core.proofs.Common.{Code, Command, Deed, Did, InData, InReset, IsProper, IsRun, Move, Notes, Now, OfSlave, Outcome, SlaveSettings, State, Terms, after, as_now, code, data_next, data_reply, deed_of, did_on, is_whole, kit_of, length-replicate, next_state, nonce, notes_of, now_in, on_verdict, option_or, parameters, reply, rule_len, running, session_of, settles, slave-run, slave_conn, state_of, terms, upload_fault, upload_of, view_in, view_of, whole, whole_parameters}
+use Rattle.std.proofs.Common.{◌≡◌, ℕ, ◌<◌, ◌≤◌, List, [], ◌∷◌, length, replicate, Bool, true, false, not, Option, Some, unwrap_or, Result, if◌then◌else◌, refl, sym, ap, subst, ◌∙◌, arith, rules}
 use Rattle.std.proofs.lemmas.Bool.{leb-true, eqb-true}
-use Rattle.std.proofs.lemmas.List.{length-replicate}
 use Rattle.fsoe_base.specs.declared.command.Command.TheVariants as command
 use Rattle.fsoe_base.specs.declared.command.State.TheVariants as state
 use Rattle.fsoe_base.specs.declared.did.Cause.TheVariants as cause
@@ -26,14 +24,12 @@ use Rattle.slave_core.proofs.TakenData.{process-agrees, failsafe-agrees}
 whole-branch : (p : State) (ss : SlaveSettings) (e : List Deed) (bytes : List ℕ) (c : Command) (d : Did) (x y : List ℕ) (r q : Result Now (InReset × Code)) (b : Bool) → b ≡ true
     → Agrees ss e (move.Deliver bytes) d (settles (view_in p ss e) (record { command = c; frame = came ss bytes }) x r)
     → Agrees ss e (move.Deliver bytes) d (settles (view_in p ss e) (record { command = c; frame = came ss bytes }) (if b then x else y) (if b then r else q))
-whole-branch p ss e bytes c d x y r q true h a = a
-whole-branch p ss e bytes c d x y r q false h a = absurd (cc h)
+whole-branch p ss e bytes c d x y r q b h k = grind arith
 
 more-branch : (p : State) (ss : SlaveSettings) (e : List Deed) (bytes : List ℕ) (c : Command) (d : Did) (x y : List ℕ) (r q : Result Now (InReset × Code)) (b : Bool) → not b ≡ true
     → Agrees ss e (move.Deliver bytes) d (settles (view_in p ss e) (record { command = c; frame = came ss bytes }) y q)
     → Agrees ss e (move.Deliver bytes) d (settles (view_in p ss e) (record { command = c; frame = came ss bytes }) (if b then x else y) (if b then r else q))
-more-branch p ss e bytes c d x y r q false h a = a
-more-branch p ss e bytes c d x y r q true h a = absurd (cc h)
+more-branch p ss e bytes c d x y r q b h k = grind arith
 
 -- what the machine does at a frame that passed its tests
 abbrev Passed : State → SlaveSettings → List Deed → List ℕ → Command → Type 0
@@ -120,25 +116,11 @@ loads-passed ss e bytes at s h k a run =
 -- in Parameter they go on
 parameter-passed : (ss : SlaveSettings) (e : List Deed) (bytes : List ℕ) → state_of (OfSlave ss) e ≡ state.Parameter → Sound ss e → OfParameters ss (notes_of ss e)
     → Came state.Parameter ss e bytes command.Parameter → Arrived ss bytes command.Parameter → RunOn state.Parameter ss e bytes command.Parameter → Passed state.Parameter ss e bytes command.Parameter
-parameter-passed ss e bytes at s h k a run =
-    more-branch state.Parameter ss e bytes command.Parameter _ _ _ _ _ (is_whole (upload_of ss (expected.Parameter ss.most (rule_len ss.rule) ss.profile) (notes_of ss e).parameter)) k.is_allowed
-    (parameter-agrees (model.contents (OfSlave ss) e command.Parameter (came ss bytes)) state.Parameter ss e bytes at s
-    (record { conn_is = h.conn_is; conn_said = h.conn_said; address_said = h.address_said }) a run)
-
--- the terms of whole parameters
-abbrev the-terms : ℕ → ℕ → ℕ → List ℕ → SlaveSettings → Terms
-the-terms conn address watchdog app ss = record { conn = conn; address = address; watchdog = watchdog; app = app; profile = ss.profile }
-
-same_terms : (c c' a a' w n n' : ℕ) (app : List ℕ) (ss : SlaveSettings) → c ≡ c' → a ≡ a' → n ≡ n'
-    → the-terms c a w (take n app) ss ≡ the-terms c' a' w (take n' app) ss
-same_terms c c' a a' w n n' app ss h i j = rw (h, i, j) refl
+parameter-passed ss e bytes h k l m n o = search (rules, more-branch, parameter-agrees)
 
 terms-are : (ss : SlaveSettings) (e : List Deed) → IsRun (OfSlave ss) e → OfParameters ss (notes_of ss e) → whole ss.profile state.Parameter (parameters ss e) ≡ true
     → (running (kit_of ss e) (parameter_at ss e (notes_of ss e).parameter)).terms ≡ terms (OfSlave ss) e
-terms-are ss e run h w =
-    let shows : SlaveShows ss e = slave-run ss e run in
-    let all : id_len ss.profile + 4 + rule_len ss.rule ≤ length (parameters ss e) = leb-true _ _ (sym (whole_parameters ss e run) ∙ w) in
-    same_terms _ _ _ _ _ _ _ _ ss (sym h.conn_said) (sym h.address_said) (sym (shows.tested.counted (omega arith)))
+terms-are ss e h k l = search (rules, slave-run)
 
 -- state Data as it is entered, under these terms
 abbrev data_at : SlaveSettings → List Deed → Terms → InData

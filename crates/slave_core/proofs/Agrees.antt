@@ -1,7 +1,6 @@
 -- What an event leaves at the machine is what looking back gives: where nothing is taken.
-use Rattle.slave_core.proofs.Common.{AreBytes, Code, Deed, Did, Dropped, KitView, Move, Now, OfSlave, Outcome, Profile, SlaveSettings, SlaveView, State, code, code_sent, deed_of, dropped, drops, falls, first_of, kit_of, limit, notes_of, nothing, now_in, number_at, on_expiry, on_fault, on_reset_frame, quiet, refuses, reset_by_peer, resets, slave_age, slave_limit, state_of, takes_frame, tick_in_session, tick_of, ticks, view_in, view_of, whole}
-use Rattle.std.proofs.Common.{◌≡◌, ◌≢◌, ℕ, suc, ◌+◌, ◌<◌, ◌==◌, nat_le, List, [], ◌∷◌, length, Bool, true, false, if◌then◌else◌, refl, sym, ap, subst, ◌∙◌, arith}
-use Rattle.std.proofs.lemmas.Bool.Decides.{nat_tests}
+use Rattle.slave_core.proofs.Common.{AreBytes, Code, Deed, Did, Dropped, KitView, Move, Now, OfSlave, Outcome, SlaveSettings, SlaveView, State, code, code_sent, deed_of, dropped, drops, falls, first_of, kit_of, limit, notes_of, nothing, now_in, number_at, on_expiry, on_fault, on_reset_frame, quiet, refuses, reset_by_peer, resets, slave_age, slave_limit, state_of, takes_frame, tick_in_session, tick_of, ticks, view_in, view_of}
+use Rattle.std.proofs.Common.{◌≡◌, ◌≢◌, ℕ, suc, ◌+◌, ◌<◌, ◌==◌, nat_le, List, [], ◌∷◌, length, Bool, true, false, if◌then◌else◌, refl, sym, ap, subst, ◌∙◌, arith, rules}
 use Rattle.fsoe_base.specs.declared.command.Command.TheVariants as command
 use Rattle.fsoe_base.specs.declared.command.State.TheVariants as state
 use Rattle.fsoe_base.specs.declared.did.Cause.{Cause}
@@ -9,7 +8,6 @@ use Rattle.fsoe_base.specs.declared.did.Cause.TheVariants as cause
 use Rattle.fsoe_base.specs.declared.did.Dropped.TheVariants as why
 use Rattle.seq_chain.specs.Reset.{reset_frame}
 use Rattle.param_load.specs.declared.entry.Move.TheVariants as move
-use Rattle.param_load.specs.declared.profile.Profile.TheVariants as profile
 use Rattle.slave_core.proofs.Sound.{Sound}
 
 -- bytes that are delivered are bytes
@@ -31,13 +29,8 @@ slave_at kit now limit age = record { kit = kit; state = now; timer = record { l
 pub same_slave : (k k' : KitView) (n n' : Now) (l l' a a' : ℕ) → k ≡ k' → n ≡ n' → l ≡ l' → a ≡ a' → slave_at k n l a ≡ slave_at k' n' l' a'
 same_slave k k' n n' l l' a a' h i j g = rw (h, i, j, g) refl
 
--- without parameters the limit is that of a handshake
-none_whole : (p : Profile) (a b : ℕ) → (if whole p state.Parameter [] then a else b) ≡ b
-none_whole profile.One a b = refl
-none_whole (profile.Two word) a b = refl
-
 pub fresh_limit : (ss : SlaveSettings) → slave_limit ss [] ≡ ss.hand
-fresh_limit ss = none_whole ss.profile (number_at 2 []) ss.hand
+fresh_limit ss = search (rules, number_at)
 
 -- a frame is dropped
 pub drop-agrees : (p : State) (ss : SlaveSettings) (e : List Deed) (bytes : List ℕ) (passed : Bool) (because : Dropped) → state_of (OfSlave ss) e ≡ p → Sound ss e
@@ -81,9 +74,7 @@ acknowledged ss e bytes load x s = record {
 
 peer-resets : (p : State) (ss : SlaveSettings) (e : List Deed) (bytes : List ℕ) (x y : Code) → x ≡ y → Sound ss e
     → Agrees ss e (move.Deliver bytes) (resets false (cause.Peer y)) (falls (view_in p ss e) false (cause.Peer x) (code 0))
-peer-resets p ss e bytes x y h s =
-    subst (λ (x : Code). Agrees ss e (move.Deliver bytes) (resets false (cause.Peer y)) (falls (view_in p ss e) false (cause.Peer x) (code 0))) (sym h)
-    (resets-agree p ss e (move.Deliver bytes) false (cause.Peer y) (code 0) refl refl s)
+peer-resets p ss e bytes x y h k = grind arith
 
 pub reset_frame-agrees : (p : State) (ss : SlaveSettings) (e : List Deed) (bytes load : List ℕ) (x : Code) → x ≡ code (first_of load) → Sound ss e
     → Agrees ss e (move.Deliver bytes) (on_reset_frame p (OfSlave ss) load) (reset_by_peer (view_in p ss e) x load)
@@ -117,10 +108,10 @@ one-more : (a t : ℕ) → a ≡ t → suc t ≡ a + 1
 one-more a t h = omega arith
 
 meets : (a t l : ℕ) → a ≡ t → t < l → nat_le l (suc t) ≡ (a + 1 == l)
-meets a t l h k = grind (arith, nat_tests)
+meets a t l h k = grind arith
 
 later : (t l : ℕ) → nat_le l (suc t) ≡ false → suc t < l
-later t l h = grind (arith, nat_tests)
+later t l h = grind arith
 
 counts : (p : State) (ss : SlaveSettings) (e : List Deed) (b : Bool) → state_of (OfSlave ss) e ≡ p → slave_age p (ticks (OfSlave ss) e) ≡ ticks (OfSlave ss) e → slave_age p (suc (ticks (OfSlave ss) e)) ≡ suc (ticks (OfSlave ss) e)
     → nat_le (limit (OfSlave ss) e) (suc (ticks (OfSlave ss) e)) ≡ b → Sound ss e

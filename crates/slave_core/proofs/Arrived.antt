@@ -1,7 +1,7 @@
 -- What is known of a frame of a session that came, and how the chain goes on by it.
-use Rattle.slave_core.proofs.Common.{AreBytes, Chain, Command, Deed, OfSlave, Profile, SessionFrameView, Setup, SlaveSettings, State, after_taken, begun, bytes_of, chain_sent, command_byte, command_of, first_of, frame_len, frame_of, frame_sent, has_command, is_empty, is_reset, own_crc, own_link, padded, phase_of, phase_of_frame, phase_of_known, piece_from, piece_len, receives, same_phase, sends, session_payload, since, taken_link, takes_frame}
-use Rattle.std.proofs.Common.{◌≡◌, ℕ, suc, ◌+◌, ◌-◌, ◌*◌, ◌≤◌, ◌==◌, List, [], ◌∷◌, ◌++◌, length, take, drop, slice_index, Bool, true, false, Option, Some, None, unwrap_or, if◌then◌else◌, refl, sym, ap, ◌∙◌, length-append, suc-mul, arith}
-use Rattle.std.specs.Option.{option_or}
+use Rattle.slave_core.proofs.Common.{AreBytes, Chain, Command, Deed, OfSlave, SessionFrameView, Setup, SlaveSettings, State, after_taken, begun, bytes_of, chain_sent, command_byte, command_of, first_of, frame_len, frame_of, frame_sent, has_command, is_empty, is_reset, option_or, own_crc, own_link, padded, phase_of, phase_of_frame, piece_from, piece_len, receives, same_phase, sends, session_payload, since, taken_link, takes_frame}
+use Rattle.param_load.specs.declared.profile.Profile.{Profile}
+use Rattle.std.proofs.Common.{◌≡◌, ℕ, suc, ◌+◌, ◌-◌, ◌*◌, ◌≤◌, ◌==◌, List, ◌∷◌, ◌++◌, length, take, drop, slice_index, Bool, true, false, Option, Some, None, unwrap_or, if◌then◌else◌, refl, sym, ap, ◌∙◌, length-append, suc-mul, arith}
 use Rattle.std.proofs.lemmas.Grind.{common_steps}
 use Rattle.fsoe_base.specs.declared.command.Command.TheVariants as command
 use Rattle.fsoe_base.specs.declared.command.State.TheVariants as state
@@ -18,12 +18,8 @@ pub record Arrived (ss : SlaveSettings) (bytes : List ℕ) (c : Command) : Type 
   pub connects : has_command command.Connection bytes ≡ (command_byte c == command_byte command.Connection)
   pub back : AreBytes bytes → bytes_of (came ss bytes) ≡ bytes
 
-byte-of : (b : ℕ) (c : Command) → command_of b ≡ Some c → b ≡ command_byte c
-byte-of b c h = grind arith
-
 heads : (bytes : List ℕ) (c : Command) → command_of (slice_index bytes 0) ≡ Some c → (phase_of_frame bytes ≡ phase_of c) × (has_command command.Connection bytes ≡ (command_byte c == command_byte command.Connection))
-heads [] c h = absurd (cc h)
-heads (b ∷ bytes) c h = (ap phase_of_known h, ap (λ (n : ℕ). n == command_byte command.Connection) (byte-of b c h))
+heads bytes c h = grind arith
 
 pub arrived : (ss : SlaveSettings) (bytes : List ℕ) (c : Command) → length bytes ≡ frame_len ss.lengths.master → command_of (came ss bytes).cmd ≡ Some c → Arrived ss bytes c
 arrived ss bytes c len named =
@@ -69,16 +65,9 @@ piece-len load l c h k = grind (arith, common_steps)
 pub filled : (bytes : List ℕ) (c l : ℕ) → c ≤ l → length (padded (take c bytes) l) ≡ l
 filled bytes c l h = grind (arith, common_steps)
 
-skips : (u p : List ℕ) → drop (length u) (u ++ p) ≡ p
-skips [] p = refl
-skips (b ∷ u) p = skips u p
-
 -- the piece that came last
 pub last-piece : (u p : List ℕ) (c : ℕ) → length p ≡ c → drop (length (u ++ p) - c) (u ++ p) ≡ p
-last-piece u p c h =
-    let long : length (u ++ p) ≡ length u + length p = length-append u p in
-    let n : length (u ++ p) - c ≡ length u = omega arith in
-    ap (λ (n : ℕ). drop n (u ++ p)) n ∙ skips u p
+last-piece u p c h = grind (arith, common_steps)
 
 -- a piece is at most as long as a frame of either end
 pub piece-own : (ss : SlaveSettings) → piece_len (OfSlave ss) ≤ ss.lengths.slave
@@ -87,15 +76,9 @@ piece-own ss = omega arith
 pub piece-peer : (ss : SlaveSettings) → piece_len (OfSlave ss) ≤ ss.lengths.master
 piece-peer ss = omega arith
 
--- the piece of the slave's id with the number of the frame begins where the joined bytes end
-from-is : (ph : State) (k c len : ℕ) → ph ≡ state.Session → len ≡ k * c → ((if same_phase state.Session ph then suc k else k) - 1) * c ≡ len
-from-is ph k c len h g = rw h (let z : suc k - 1 ≡ k = omega arith in ap (λ (j : ℕ). j * c) z ∙ sym g)
-
 pub id-piece : (p : Profile) (c : ℕ) (o : Option ℕ) (nonce i k len : ℕ) (ph : State) → ph ≡ state.Session → unwrap_or o nonce ≡ i → len ≡ k * c
     → piece_from (session_payload (unwrap_or o nonce) p) (((if same_phase state.Session ph then suc k else k) - 1) * c) c ≡ piece_from (session_payload i p) len c
-id-piece p c o nonce i k len ph h g j =
-    ap (λ (n : ℕ). piece_from (session_payload (unwrap_or o nonce) p) n c) (from-is ph k c len h j)
-    ∙ ap (λ (n : ℕ). piece_from (session_payload n p) len c) g
+id-piece p c o nonce i k len ph h l m = grind arith
 
 -- the count of frames, each with a piece
 pub count-next : (u p : List ℕ) (k c : ℕ) (ph : State) → ph ≡ state.Session → length u ≡ k * c → length p ≡ c → length (u ++ p) ≡ (if same_phase state.Session ph then suc k else k) * c

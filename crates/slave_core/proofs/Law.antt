@@ -1,8 +1,7 @@
 -- The law: a slave that is after some deeds is, after an event, after these and the next one, and answers as that one
 -- does.
-use Rattle.slave_core.proofs.Common.{Deed, Did, IsProper, IsRun, IsSetting, Move, Now, OfSlave, SlaveSettings, SlaveView, State, Terms, after, age, did_on, events_of, fail_safe, first_slave, held, looking_back, notes_of, nothing, now_in, offer, out, outputs, run, state_of, terms, told_in, told_terms, view_of, zeros}
-use Rattle.std.proofs.Common.{◌≡◌, ◌≢◌, ℕ, List, [], ◌∷◌, Bool, Option, refl, sym, ap, subst, ◌∙◌}
-use Rattle.fsoe_base.specs.declared.command.State.TheVariants as state
+use Rattle.slave_core.proofs.Common.{Deed, Did, IsProper, IsRun, IsSetting, Move, Now, OfSlave, SlaveSettings, SlaveView, State, Terms, after, age, did_on, events_of, fail_safe, first_slave, held, looking_back, nothing, offer, out, outputs, run, state_of, terms, told_in, told_terms, view_of}
+use Rattle.std.proofs.Common.{◌≡◌, ℕ, List, [], ◌∷◌, Bool, Option, refl, sym, ap, subst, ◌∙◌, rules}
 use Rattle.end_model.proofs.Runs.{same_deed, set_deed, run_of_events}
 use Rattle.slave_core.specs.Now as machine
 use Rattle.slave_core.specs.Standing.{SlaveIsAfter, Follows, Answers, Shows, Called}
@@ -36,12 +35,8 @@ new_is_after ss v h = record { is = h ∙ same_slave _ _ _ _ _ _ _ _ refl refl (
 abbrev ShownIn : State → SlaveSettings → List Deed → Now → Type 0
 ShownIn p ss e x = (machine.state_of x ≡ p) × (machine.terms_shown_in x ≡ told_in p (terms (OfSlave ss) e)) × (machine.outputs_in ss x ≡ outputs (OfSlave ss) e)
 
-shown-in : (p : State) (ss : SlaveSettings) (e : List Deed) → (p ≢ state.Data → outputs (OfSlave ss) e ≡ zeros (OfSlave ss)) → ShownIn p ss e (now_in p ss (notes_of ss e))
-shown-in state.Data ss e h = (refl, refl, refl)
-shown-in _ ss e h = (refl, refl, sym (h (λ k. cc)))
-
 shown-after : (ss : SlaveSettings) (e : List Deed) → IsRun (OfSlave ss) e → ShownIn (state_of (OfSlave ss) e) ss e (view_of ss e).state
-shown-after ss e run = shown-in (state_of (OfSlave ss) e) ss e (fail_safe (OfSlave ss) e run)
+shown-after ss e h = search (rules, fail_safe)
 
 pub state_shown : (v : SlaveView) (shown : State) → shown ≡ machine.state_of v.state → Shows v shown state_of
 state_shown v shown i = record { shows = λ ss e h. i ∙ ap (λ (v : SlaveView). machine.state_of v.state) h.is ∙ (shown-after ss e h.reached).0 }

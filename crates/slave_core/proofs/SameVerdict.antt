@@ -1,12 +1,12 @@
 -- The tests of the machine end as those of looking back.
-use Rattle.slave_core.proofs.Common.{Code, Command, Deed, Dropped, Frame, Notes, OfSlave, Outcome, SlaveSettings, State, allowed, code, command_of, drops, first_of, fits, fits_next, frame_len, frame_of, id_len, kept, kit_of, next_state, notes_of, now_in, on_frame, on_opened, on_session, opened, own_crc, parameters, refuses, reply, reset_by_peer, rule_len, settles, since, slave_allows, slave_conn, state_of, taken_link, uploaded, view_in, whole}
-use Rattle.std.proofs.Common.{◌≡◌, ◌≢◌, ℕ, ◌+◌, ◌==◌, nat_le, Bool, true, false, not, List, length, Option, Some, None, refl, sym, ap, subst, ◌∙◌}
+use Rattle.slave_core.proofs.Common.{Code, Command, Deed, Dropped, Frame, OfSlave, Outcome, SlaveSettings, State, allowed, code, command_of, drops, first_of, fits, fits_next, frame_len, frame_of, id_len, kept, kit_of, next_state, notes_of, now_in, on_frame, on_opened, on_session, own_crc, parameters, refuses, reply, reset_by_peer, rule_len, settles, since, slave_allows, state_of, uploaded, view_in, whole}
+use Rattle.seq_chain.specs.Opened.{opened}
+use Rattle.std.proofs.Common.{◌≡◌, ◌≢◌, ℕ, ◌+◌, nat_le, Bool, true, false, List, length, Option, Some, refl, sym, ap, subst, ◌∙◌, arith, rules}
 use Rattle.fsoe_base.specs.declared.command.Command.TheVariants as command
 use Rattle.fsoe_base.specs.declared.command.State.TheVariants as state
 use Rattle.fsoe_base.specs.declared.did.Dropped.TheVariants as dropped
 use Rattle.seq_chain.specs.declared.opened.Opened.{Opened}
 use Rattle.seq_chain.specs.declared.opened.Opened.TheVariants as opened_as
-use Rattle.seq_chain.specs.Sealing as sealing
 use Rattle.end_model.specs.Verdict as model
 use Rattle.seq_chain.proofs.OpenedFrame as opens
 use Rattle.seq_chain.proofs.OpenedFrame.{Tested, tested}
@@ -37,47 +37,21 @@ pub data Same (p : State) (ss : SlaveSettings) (e : List Deed) (bytes : List ℕ
 
 -- the frame that is kept, and the chain
 kept-same : (p : State) (ss : SlaveSettings) (e : List Deed) → SoundAt p ss e → machine.kept_in (now_in p ss (notes_of ss e)) ≡ kept (since e)
-kept-same state.Reset ss e h = sym (ap (λ (n : Notes). n.kept) h.1)
-kept-same _ ss e h = sym h.kept_is
-
-pub chain-same : (p : State) (ss : SlaveSettings) (e : List Deed) → SoundAt p ss e → machine.chain_of (now_in p ss (notes_of ss e)) ≡ (notes_of ss e).chain
-chain-same state.Reset ss e h = sym (ap (λ (n : Notes). n.chain) h.1)
-chain-same _ ss e h = refl
+kept-same p ss e h = grind arith
 
 fits-same : (p : State) (ss : SlaveSettings) (e : List Deed) (f : Frame) → SoundAt p ss e → fits_next (machine.chain_of (now_in p ss (notes_of ss e))) f ≡ fits (OfSlave ss) (since e) f
-fits-same p ss e f h =
-    ap (λ chain. fits_next chain f) (chain-same p ss e h)
-    ∙ ap (λ (last : ℕ). sealing.fits last (taken_link (OfSlave ss) (since e)) f) (own_crc (OfSlave ss) (since e))
-
--- a connection id is the session's, or not 0 where none came yet
-conn-of : (o : Option ℕ) (k field : ℕ) → o ≡ Some k → (field == k) ≡ model.is_slave_conn o field
-conn-of o k field h = sym (ap (λ (o : Option ℕ). model.is_slave_conn o field) h)
-
-no-conn : (o : Option ℕ) (field : ℕ) → o ≡ None → not (field == 0) ≡ model.is_slave_conn o field
-no-conn o field h = sym (ap (λ (o : Option ℕ). model.is_slave_conn o field) h)
+fits-same p ss e f h = search (rules, own_crc)
 
 -- the test of the command
 allows-same : (p : State) (ss : SlaveSettings) (e : List Deed) (c : Command)
     → whole ss.profile state.Parameter (parameters ss e) ≡ nat_le (id_len ss.profile + 4 + rule_len ss.rule) (length (parameters ss e))
     → machine.allows (now_in p ss (notes_of ss e)) c ≡ slave_allows p (whole ss.profile p (uploaded ss p e)) c
-allows-same state.Parameter ss e c w = ap (λ (done : Bool). slave_allows state.Parameter done c) (sym w)
-allows-same _ ss e c w = refl
+allows-same p ss e c h = grind arith
 
 -- the test of the connection id, where the command is allowed
 conn-same : (p : State) (ss : SlaveSettings) (e : List Deed) (c : Command) (field : ℕ) → c ≢ command.Reset → SoundAt p ss e
     → machine.allows (now_in p ss (notes_of ss e)) c ≡ true → machine.has_conn (now_in p ss (notes_of ss e)) c field ≡ model.has_conn (OfSlave ss) e c field
-conn-same p ss e command.Reset field r h a = absurd (r refl)
-conn-same state.Reset ss e command.Session field r h a = refl
-conn-same state.Session ss e command.Session field r h a = refl
-conn-same state.Session ss e command.Connection field r h a = no-conn (slave_conn ss e) field h.no_conn
-conn-same state.Connection ss e command.Connection field r h a = conn-of (slave_conn ss e) _ field h.conn_is
-conn-same state.Connection ss e command.Parameter field r h a = conn-of (slave_conn ss e) _ field h.conn_is
-conn-same state.Parameter ss e command.Parameter field r h a = conn-of (slave_conn ss e) _ field h.conn_is
-conn-same state.Parameter ss e command.FailSafeData field r h a = conn-of (slave_conn ss e) _ field h.conn_is
-conn-same state.Parameter ss e command.ProcessData field r h a = conn-of (slave_conn ss e) _ field h.conn_is
-conn-same state.Data ss e command.FailSafeData field r h a = ap (λ (k : ℕ). field == k) h.conn_said ∙ conn-of (slave_conn ss e) _ field h.conn_is
-conn-same state.Data ss e command.ProcessData field r h a = ap (λ (k : ℕ). field == k) h.conn_said ∙ conn-of (slave_conn ss e) _ field h.conn_is
-conn-same _ ss e _ field r h a = cc
+conn-same p ss e c field h k l = grind arith
 
 -- a frame of a session, by its three tests
 by-tests : (p : State) (ss : SlaveSettings) (e : List Deed) (bytes : List ℕ) (c : Command) (a h t a' h' t' : Bool)

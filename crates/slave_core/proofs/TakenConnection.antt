@@ -1,16 +1,12 @@
 -- A Connection frame that passed the tests: what the machine does is what looking back gives.
-use Rattle.slave_core.proofs.Common.{Chain, Code, Deed, InConnection, OfSlave, Outcome, SessionFrameView, SlaveSettings, State, UploadView, advanced, as_now, begun, code, conn_id, connection_reply, connection_taking, contents, has_command, judged_contents, kit_of, notes_of, number_at, on_verdict, or_reset, outcome_by, padded, piece_len, session_of, settles, slave_conn, slave_limit, state_of, takes_frame, upload_of, view_in}
-use Rattle.std.proofs.Common.{◌≡◌, ◌==◌, ℕ, ◌+◌, ◌-◌, ◌<◌, ◌≤◌, nat_le, nat_lt, Bool, true, false, ◌&&◌, List, [], ◌∷◌, ◌++◌, length, take, drop, Option, Some, None, if◌then◌else◌, refl, sym, ap, ap₂, subst, ◌∙◌, inl, inr, arith}
-use Rattle.std.specs.Option.{option_or}
-use Rattle.std.proofs.lemmas.Bool.{eqb-true}
-use Rattle.std.proofs.lemmas.Bool.Decides.{leb_tells}
+use Rattle.slave_core.proofs.Common.{Chain, Code, Deed, InConnection, OfSlave, Outcome, SessionFrameView, SlaveSettings, State, UploadView, advanced, as_now, begun, conn_id, connection_reply, connection_taking, contents, has_command, judged_contents, kit_of, notes_of, number_at, on_verdict, option_or, or_reset, outcome_by, padded, piece_len, session_of, settles, slave_conn, slave_limit, state_of, takes_frame, upload_of, view_in}
+use Rattle.std.proofs.Common.{◌≡◌, ◌==◌, ℕ, ◌+◌, ◌-◌, ◌<◌, ◌≤◌, true, false, List, [], ◌∷◌, ◌++◌, length, take, drop, Option, Some, None, refl, sym, ap, ap₂, subst, ◌∙◌, rules}
 use Rattle.fsoe_base.specs.declared.command.Command.TheVariants as command
 use Rattle.param_load.specs.declared.app_rule.AppRule.{AppRule}
 use Rattle.param_load.specs.declared.contents.Expected.TheVariants as expected
 use Rattle.param_load.specs.declared.entry.Move.TheVariants as move
-use Rattle.param_load.specs.Contents.{fails, connection_fault, padding_fault, contents_fault}
-use Rattle.param_load.proofs.Watchdog.{first}
-use Rattle.end_model.proofs.Counted.{stays, passes}
+use Rattle.param_load.specs.Contents.{fails, contents_fault}
+use Rattle.end_model.proofs.Counted.{stays}
 use Rattle.slave_core.specs.declared.now.Now.TheVariants as now
 use Rattle.slave_core.proofs.Sound.{Sound}
 use Rattle.slave_core.proofs.SameVerdict.{came}
@@ -20,24 +16,13 @@ use Rattle.slave_core.proofs.Arrived.{chain_answered, frame_answered, Arrived, c
 -- a number in the joined bytes stays what it was tested to be
 said : (u p : List ℕ) (k n : ℕ) → (k + 2 ≤ length u → number_at k u ≡ n) → fails (length u) (u ++ p) (k + 1) (number_at k (u ++ p) == n) ≡ false
     → k + 2 ≤ length (u ++ p) → number_at k (u ++ p) ≡ n
-said u p k n before tested long =
-    elim (leb_tells (length u) (k + 1)) [
-      | inl t ↦ eqb-true (number_at k (u ++ p)) n (passes (nat_le (length u) (k + 1) && nat_lt (k + 1) (length (u ++ p))) (number_at k (u ++ p) == n) (grind arith) tested)
-      | inr t ↦ stays u p k (let l : k + 1 < length u = t.1 in omega arith) ∙ before (let l : k + 1 < length u = t.1 in omega arith)
-    ]
-
-both : (t t' : Bool) (x y : Code) → (if t then Some x else if t' then Some y else None) ≡ None → (t ≡ false) × (t' ≡ false)
-both false false x y e = (refl, refl)
-both _ _ x y e = absurd (cc e)
+said u p k n h l m = search (rules, stays)
 
 -- the connection id and the address that were joined are the session's and the slave's
 said-both : (conn address : ℕ) (rule : AppRule) (u p rest : List ℕ) → (2 ≤ length u → number_at 0 u ≡ conn) → (4 ≤ length u → number_at 2 u ≡ address)
     → contents_fault (expected.Connection conn address) rule (length u) (u ++ p) rest ≡ None
     → (2 ≤ length (u ++ p) → number_at 0 (u ++ p) ≡ conn) × (4 ≤ length (u ++ p) → number_at 2 (u ++ p) ≡ address)
-said-both conn address rule u p rest h g f =
-    let t = both (fails (length u) (u ++ p) 1 (number_at 0 (u ++ p) == conn)) (fails (length u) (u ++ p) 3 (number_at 2 (u ++ p) == address)) (code 0x03) (code 0x06)
-    (first (connection_fault conn address (length u) (u ++ p)) (padding_fault (expected.Connection conn address) (u ++ p) rest) f) in
-    (said u p 0 conn h t.0, said u p 2 address g t.1)
+said-both conn address rule u p rest h k l = search (rules, said)
 
 abbrev seen : SlaveSettings → List ℕ → SessionFrameView
 seen ss bytes = record { command = command.Connection; frame = came ss bytes }

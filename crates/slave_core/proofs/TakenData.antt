@@ -1,7 +1,6 @@
 -- A data frame that passed the tests: what the machine does is what looking back gives.
-use Rattle.slave_core.proofs.Common.{AreBytes, Chain, Command, Deed, IsRun, OfSlave, Outcome, SessionFrameView, SlaveSettings, SlaveView, State, Terms, answered, as_now, begun, bytes_of, code, command_byte, deed_of, held, is_process, is_reset, judged_contents, kit_of, no_session, notes_of, number_at, offer, on_verdict, phase_of, session_of, settles, slave_conn, slave_limit, state_of, takes_frame, view_in, view_of, whole, with_data}
-use Rattle.std.proofs.Common.{◌≡◌, ◌==◌, ℕ, ◌<◌, List, ◌∷◌, length, replicate, Bool, true, false, Some, None, Ok, Err, if◌then◌else◌, refl, sym, ap, subst, ◌∙◌}
-use Rattle.std.proofs.lemmas.List.{length-replicate}
+use Rattle.slave_core.proofs.Common.{AreBytes, Chain, Command, Deed, IsRun, OfSlave, Outcome, SessionFrameView, SlaveSettings, SlaveView, State, Terms, answered, as_now, begun, bytes_of, code, command_byte, deed_of, held, is_process, is_reset, judged_contents, kit_of, length-replicate, no_session, notes_of, number_at, offer, on_verdict, phase_of, session_of, settles, slave_conn, slave_limit, state_of, takes_frame, view_in, view_of, whole, with_data}
+use Rattle.std.proofs.Common.{◌≡◌, ◌==◌, ℕ, ◌<◌, List, ◌∷◌, length, replicate, Bool, true, false, Some, None, Ok, Err, if◌then◌else◌, refl, sym, ap, subst, ◌∙◌, arith}
 use Rattle.fsoe_base.specs.declared.command.Command.TheVariants as command
 use Rattle.fsoe_base.specs.declared.command.State.TheVariants as state
 use Rattle.failsafe_io.specs.Offer.{data_command, data_load}
@@ -83,8 +82,7 @@ after-held ss e bytes c false n i d y = after ss e bytes c command.ProcessData (
 by-held : (ss : SlaveSettings) (e : List Deed) (bytes : List ℕ) (c : Command) (h : Bool) (load : List ℕ) (k n : ℕ) → k ≡ conn_of ss e → n ≡ ss.lengths.slave
     → (if h then frame_answered (notes_of ss e).chain (seen ss bytes c) k command.FailSafeData (replicate ss.lengths.slave 0) else frame_answered (notes_of ss e).chain (seen ss bytes c) k command.ProcessData load)
     ≡ data_answer ss e bytes c (if h then command.FailSafeData else command.ProcessData) (if h then replicate n 0 else load)
-by-held ss e bytes c true load k n h i = rw (h, i) refl
-by-held ss e bytes c false load k n h i = rw h refl
+by-held ss e bytes c h load k n l m = grind arith
 
 data-sent : (ss : SlaveSettings) (e : List Deed) (bytes : List ℕ) (c : Command) → is_reset c ≡ false → Connected ss e → Sound ss e
     → with_data (OfSlave ss) (begun (move.Deliver bytes) (takes_frame c (came ss bytes).load) ∷ e) ≡ data_answer ss e bytes c (data_command (kit_of ss e).offer) (data_load (kit_of ss e).offer)

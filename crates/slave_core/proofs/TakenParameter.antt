@@ -1,7 +1,6 @@
 -- A Parameter frame that passed the tests: what the machine does is what looking back gives.
-use Rattle.slave_core.proofs.Common.{Chain, Code, Deed, Expected, InParameter, IsRun, OfSlave, Outcome, SessionFrameView, SlaveSettings, SlaveShows, State, UploadView, advanced, as_now, begun, conn_id, deed_of, id_len, judged_contents, kit_of, notes_of, number_at, on_verdict, or_reset, outcome_by, padded, parameter_reply, parameter_taking, parameters, piece_len, rule_len, session_of, settles, slave-run, slave_conn, slave_limit, state_of, takes_frame, upload_of, view_in, whole, whole_parameters}
-use Rattle.std.proofs.Common.{◌≡◌, ℕ, ◌+◌, ◌-◌, ◌<◌, ◌≤◌, nat_le, Bool, true, false, List, ◌∷◌, ◌++◌, length, take, drop, Option, Some, None, unwrap_or, if◌then◌else◌, refl, sym, ap, ap₂, ◌∙◌, arith}
-use Rattle.std.proofs.lemmas.Bool.{leb-true}
+use Rattle.slave_core.proofs.Common.{Chain, Code, Deed, Expected, InParameter, IsRun, OfSlave, Outcome, SessionFrameView, SlaveSettings, State, UploadView, advanced, as_now, begun, conn_id, deed_of, id_len, judged_contents, kit_of, notes_of, number_at, on_verdict, or_reset, outcome_by, padded, parameter_reply, parameter_taking, parameters, piece_len, rule_len, session_of, settles, slave-run, slave_conn, slave_limit, state_of, takes_frame, upload_of, view_in, whole, whole_parameters}
+use Rattle.std.proofs.Common.{◌≡◌, ℕ, ◌+◌, ◌-◌, ◌<◌, nat_le, Bool, true, List, ◌∷◌, ◌++◌, length, take, drop, Option, Some, None, unwrap_or, if◌then◌else◌, refl, sym, ap, ap₂, ◌∙◌, rules}
 use Rattle.fsoe_base.specs.declared.command.Command.TheVariants as command
 use Rattle.fsoe_base.specs.declared.command.State.TheVariants as state
 use Rattle.param_load.specs.declared.contents.Expected.TheVariants as expected
@@ -12,19 +11,8 @@ use Rattle.slave_core.proofs.SameVerdict.{came}
 use Rattle.slave_core.proofs.Agrees.{Agrees, same_slave, fault-agrees}
 use Rattle.slave_core.proofs.Arrived.{chain_answered, frame_answered, Arrived, chain-after, piece-len, filled, piece-own, piece-peer, last-piece, keeps, is-there, there}
 
--- the limit of a run isn't 0
-some : (b : Bool) (n h : ℕ) → (b ≡ true → 0 < n) → 0 < h → 0 < (if b then n else h)
-some true n h w k = w refl
-some false n h w k = k
-
-long : (v r l : ℕ) (b : Bool) → b ≡ nat_le (v + 4 + r) l → b ≡ true → 4 ≤ l
-long v r l b h k = let q : v + 4 + r ≤ l = leb-true (v + 4 + r) l (sym h ∙ k) in omega arith
-
 pub some-limit : (ss : SlaveSettings) (e : List Deed) → IsRun (OfSlave ss) e → 0 < slave_limit ss (parameters ss e)
-some-limit ss e r =
-    let h : SlaveShows ss e = slave-run ss e r in
-    some (whole ss.profile state.Parameter (parameters ss e)) (number_at 2 (parameters ss e)) ss.hand
-    (λ k. h.tested.watchdog (long (id_len ss.profile) (rule_len ss.rule) (length (parameters ss e)) _ (whole_parameters ss e r) k)) ss.some_hand
+some-limit ss e h = search (rules, slave-run)
 
 abbrev seen : SlaveSettings → List ℕ → SessionFrameView
 seen ss bytes = record { command = command.Parameter; frame = came ss bytes }

@@ -1,7 +1,6 @@
 -- A Session frame that passed the tests: what the machine does is what looking back gives.
-use Rattle.slave_core.proofs.Common.{Chain, Code, Deed, Expected, InSession, Notes, OfSlave, Outcome, SessionFrameView, SlaveSettings, State, UploadView, advanced, as_now, begun, id_piece, judged_contents, kit_of, nonce, notes_of, on_verdict, or_reset, outcome_by, padded, piece_from, piece_len, session_of, session_payload, session_reply, session_taking, settles, slave_limit, state_of, takes_frame, upload_of, view_in}
-use Rattle.std.proofs.Common.{◌≡◌, ℕ, ◌*◌, ◌<◌, List, [], ◌∷◌, length, take, true, Option, Some, None, unwrap_or, refl, sym, ap, subst, ◌∙◌, zero-mul}
-use Rattle.std.specs.Option.{option_or}
+use Rattle.slave_core.proofs.Common.{Chain, Code, Deed, Expected, InSession, Notes, OfSlave, Outcome, SessionFrameView, SlaveSettings, State, UploadView, advanced, as_now, begun, id_piece, judged_contents, kit_of, nonce, notes_of, on_verdict, option_or, or_reset, outcome_by, padded, piece_from, piece_len, session_of, session_payload, session_reply, session_taking, settles, slave_limit, state_of, takes_frame, upload_of, view_in}
+use Rattle.std.proofs.Common.{◌≡◌, ℕ, ◌*◌, ◌<◌, List, [], ◌∷◌, length, take, true, Option, Some, None, unwrap_or, refl, sym, ap, subst, ◌∙◌, arith}
 use Rattle.fsoe_base.specs.declared.command.Command.TheVariants as command
 use Rattle.fsoe_base.specs.declared.command.State.TheVariants as state
 use Rattle.param_load.specs.declared.contents.Expected.TheVariants as expected
@@ -22,8 +21,7 @@ pub record Opening (ss : SlaveSettings) (count : ℕ) (n : Notes) (nonce i : ℕ
   pub no_parameter : n.parameter ≡ []
 
 pub opening-fresh : (ss : SlaveSettings) (count : ℕ) (n : Notes) (nonce : ℕ) → SoundIn state.Reset ss count n → Opening ss count n nonce nonce
-opening-fresh ss count n nonce h =
-    rw (h.0, h.1) (record { id_now = refl; id_next = refl; no_conn = refl; count_is = sym (zero-mul (piece_len (OfSlave ss))); no_connection = refl; no_parameter = refl })
+opening-fresh ss count n nonce h = grind arith
 
 pub opening-session : (ss : SlaveSettings) (count : ℕ) (n : Notes) (nonce : ℕ) → OfSession ss count n → Opening ss count n nonce (unwrap_or n.id 0)
 opening-session ss count n nonce h = record {

@@ -1,10 +1,8 @@
 -- Each transition of a typed state goes on as looking back says.
-use Rattle.slave_core.proofs.Common.{Code, Deed, InConnection, InData, InParameter, InReset, InSession, IsSoundSlave, KitView, Now, OfSlave, Outcome, SessionFrameView, SlaveSettings, SlaveView, State, after, as_now, did_on, drops, fallen, fault, is_repeat, is_whole, kept_in, limit_of, next_state, on_fault, on_opened, on_session, opened, refuses, refuses_contents, reply, settles, state_of, step, taken, view_in, view_of}
+use Rattle.slave_core.proofs.Common.{Code, Deed, InConnection, InData, InParameter, InReset, InSession, IsSoundSlave, KitView, Now, OfSlave, Outcome, SessionFrameView, SlaveSettings, SlaveView, State, after, as_now, did_on, fallen, is_whole, limit_of, next_state, on_fault, on_session, refuses, refuses_contents, reply, settles, state_of, step, taken, view_in, view_of}
 use Rattle.slave_core.specs.Now.{is_reset}
-use Rattle.std.proofs.Common.{◌≡◌, ℕ, List, ◌∷◌, Bool, true, false, IsTrue, None, Result, Ok, Err, IfOk, IfErr, OnOk, OnErr, if◌then◌else◌, refl, sym, ap, subst, ◌∙◌}
-use Rattle.fsoe_base.specs.declared.command.State.TheVariants as state
-use Rattle.fsoe_base.specs.declared.did.Dropped.TheVariants as dropped
-use Rattle.failsafe_io.specs.Timer.{Timer, started}
+use Rattle.std.proofs.Common.{◌≡◌, ℕ, List, ◌∷◌, Bool, true, false, None, Result, Ok, Err, IfOk, IfErr, OnOk, OnErr, if◌then◌else◌, sym, ap, subst, ◌∙◌, arith}
+use Rattle.failsafe_io.specs.Timer.{started}
 use Rattle.param_load.specs.declared.entry.Move.TheVariants as move
 use Rattle.slave_core.specs.declared.now.Now.TheVariants as now
 use Rattle.slave_core.specs.GoesOn.{Meets, IsTaken, IsRefused, GoesOn}
@@ -13,19 +11,14 @@ use Rattle.slave_core.proofs.Agrees.{Agrees}
 use Rattle.slave_core.proofs.Agreed.{agrees, run-sound}
 
 refused-did : (p : State) (ss : SlaveSettings) (e : List Deed) (x : Code) → (refuses (view_in p ss e) true x).did ≡ on_fault p true x
-refused-did state.Reset ss e x = refl
-refused-did _ ss e x = refl
+refused-did p ss e x = grind arith
 
 refused-state : (p : State) (ss : SlaveSettings) (e : List Deed) (x : Code) (reset : InReset) → now.Reset reset ≡ (refuses (view_in p ss e) true x).slave.state
-refused-state state.Reset ss e x reset = refl
-refused-state _ ss e x reset = refl
+refused-state p ss e x reset = grind arith
 
 -- the outcome of a frame that passed the tests
 settled : (ss : SlaveSettings) (e : List Deed) (old : Now) (kit : KitView) (f : SessionFrameView) (bytes : List ℕ) → Meets ss e old kit f bytes → after (view_of ss e) (move.Deliver bytes) ≡ settles (view_of ss e) f (reply kit old f) (next_state kit old f)
-settled ss e old kit f bytes h =
-    ap (on_opened (view_of ss e)) (sym (ap (λ (n : Now). opened ss.lengths.master (is_repeat (kept_in n) bytes) bytes) h.state_is) ∙ h.is_opened)
-    ∙ ap (on_session (view_of ss e) f) (sym (ap (λ (n : Now). fault n f) h.state_is) ∙ h.passed)
-    ∙ sym (ap (λ (n : Now). settles (view_of ss e) f (reply kit n f) (next_state kit n f)) h.state_is ∙ ap (λ (k : KitView). settles (view_of ss e) f (reply k (view_of ss e).state f) (next_state k (view_of ss e).state f)) h.kit_is)
+settled ss e old kit f bytes h = grind arith
 
 -- an outcome is what the next deed leaves, does and sends
 record IsOutcome (ss : SlaveSettings) (e : List Deed) (bytes : List ℕ) (o : Outcome) : Type 0 where
@@ -81,13 +74,11 @@ goes_by g old kit f (Ok s) before sent i w u = goes_taken old kit f (g s) before
 goes_by g old kit f (Err e) before sent i w u = goes_refused old kit f e.0 e.1 before sent i u
 
 more-then : {T : Type 0} (b : Bool) (x y r : T) → b ≡ false → r ≡ y → r ≡ (if b then x else y)
-more-then false x y r h i = i
-more-then true x y r h i = absurd (cc h)
+more-then b x y r h k = grind arith
 
 -- a state that went on in place, as one of the machine's
 placed : {S : Type 0} (g : S → Now) (r : Result (Unit {0}) Code) (next : S) → states.or_reset r (g next) ≡ as_now g (states.or_reset r next)
-placed g (Ok done) next = refl
-placed g (Err x) next = refl
+placed g r next = grind arith
 
 pub stays_in_session : (s : InSession) (kit : KitView) (f : SessionFrameView) (r : Result (Unit {0}) Code) (next : InSession) → is_whole s.upload ≡ false
     → states.or_reset r next ≡ states.session_next kit s f → states.or_reset r (now.Session next) ≡ next_state kit (now.Session s) f
@@ -105,31 +96,13 @@ pub stays_in_data : (s : InData) (kit : KitView) (f : SessionFrameView) (r : Res
     → states.or_reset r next ≡ states.data_next kit s f → states.or_reset r (now.Data next) ≡ next_state kit (now.Data s) f
 stays_in_data s kit f r next i = placed now.Data r next ∙ ap (as_now now.Data) i
 
-same-slave : (w v : SlaveView) → w.kit ≡ v.kit → w.state ≡ v.state → w.timer ≡ v.timer → w ≡ v
-same-slave w v k s t =
-    ap (λ (kit : KitView). record w { kit = kit }) k
-    ∙ ap (λ (state : Now). record w { kit = v.kit; state = state }) s
-    ∙ ap (λ (timer : Timer). record { kit = v.kit; state = v.state; timer = timer }) t
-
 pub taken_by : (v w : SlaveView) (f : SessionFrameView) (answer : List ℕ) → w.kit ≡ v.kit → w.timer ≡ started (limit_of v.kit.settings w.state)
     → Ok w.state ≡ next_state v.kit v.state f → answer ≡ reply v.kit v.state f
     → taken w f answer ≡ on_session v f None
-taken_by v w f answer k t i j =
-    ap (λ (v : SlaveView). taken v f answer) (same-slave w (record v { state = w.state; timer = started (limit_of v.kit.settings w.state) }) k refl t)
-    ∙ ap (taken (record v { state = w.state; timer = started (limit_of v.kit.settings w.state) }) f) j
-    ∙ ap (settles v f (reply v.kit v.state f)) i
-
-forgotten : (kit : KitView) (state : Now) (timer : Timer) (x : Code) → (IsTrue (is_reset state) → timer ≡ started kit.settings.hand)
-    → refuses_contents (fallen (record { kit = kit; state = state; timer = timer })) (is_reset state) x ≡ refuses (record { kit = kit; state = state; timer = timer }) true x
-forgotten kit (now.Reset s) timer x h = ap (λ (timer : Timer). drops (record { kit = kit; state = now.Reset s; timer = timer }) true dropped.InReset) (sym (h refl))
-forgotten kit _ timer x h = refl
+taken_by v w f answer h k l m = grind arith
 
 -- a slave that forgot its session refuses a frame as it did before: in state Reset it is as it was
 pub refused_by : (v w : SlaveView) (f : SessionFrameView) (b : Bool) (x : Code) → IsSoundSlave v → b ≡ is_reset v.state → w ≡ fallen v
     → Err (states.no_session, x) ≡ next_state v.kit v.state f
     → refuses_contents w b x ≡ on_session v f None
-refused_by v w f b x h i k e =
-    ap (λ (b : Bool). refuses_contents w b x) i
-    ∙ ap (λ (w : SlaveView). refuses_contents w (is_reset v.state) x) k
-    ∙ forgotten v.kit v.state v.timer x h.at_rest
-    ∙ ap (settles v f (reply v.kit v.state f)) e
+refused_by v w f b x h k l m = grind arith

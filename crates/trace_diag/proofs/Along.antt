@@ -1,6 +1,6 @@
 -- Along a trace: what it tells after one more frame, and which frame that is.
 use Rattle.trace_diag.proofs.Common.{Asked, Both, Chained, Deed, Down, End, Entry, Event, IsDown, IsReplied, IsUp, MasterSettings, Noted, Partner, Replied, Stage, Up, both, chained, deed_in, deeds, deliveries_to, has_command, is_delivery, is_empty, master_of, own, partner, peer, phase_due, phase_from, phase_of_frame, phase_sent, phase_taken, reset_frame, same_end, setup_of, since, since_on, slave_of, taken, turn}
-use Rattle.std.proofs.Common.{◌≡◌, ℕ, suc, List, ◌∷◌, Bool, false, refl, sym, ap, subst, ◌∙◌, ◌&&◌, if◌then◌else◌}
+use Rattle.std.proofs.Common.{◌≡◌, ℕ, suc, List, ◌∷◌, Bool, false, refl, sym, ap, subst, ◌∙◌, ◌&&◌, if◌then◌else◌, arith}
 use Rattle.fsoe_base.specs.declared.command.Command.TheVariants as command
 use Rattle.fsoe_base.specs.declared.command.End.TheVariants as end_name
 use Rattle.fsoe_base.specs.declared.command.State.TheVariants as state
@@ -13,12 +13,10 @@ use Rattle.trace_diag.proofs.Tells.{not_reset, told_down, told_replied, told_up,
 
 -- the entry of an end is its newest deed, and none of its peer's
 pub deeds_of : (at : End) (x : Entry) (w : List Entry) → x.end ≡ at → deeds at (x ∷ w) ≡ deed_in x ∷ deeds at w
-deeds_of end_name.Master x w h = ap (λ (e : End). if same_end end_name.Master e then deed_in x ∷ deeds end_name.Master w else deeds end_name.Master w) h
-deeds_of end_name.Slave x w h = ap (λ (e : End). if same_end end_name.Slave e then deed_in x ∷ deeds end_name.Slave w else deeds end_name.Slave w) h
+deeds_of at x w h = grind arith
 
 deeds-other : (at : End) (x : Entry) (w : List Entry) → x.end ≡ at → deeds (peer at) (x ∷ w) ≡ deeds (peer at) w
-deeds-other end_name.Master x w h = ap (λ (e : End). if same_end end_name.Slave e then deed_in x ∷ deeds end_name.Slave w else deeds end_name.Slave w) h
-deeds-other end_name.Slave x w h = ap (λ (e : End). if same_end end_name.Master e then deed_in x ∷ deeds end_name.Master w else deeds end_name.Master w) h
+deeds-other at x w h = grind arith
 
 same-head : (a b : List ℕ) (s t : List (List ℕ)) → a ∷ s ≡ b ∷ t → b ≡ a
 same-head a b s t e = cc
@@ -55,8 +53,7 @@ slave-phase ms r x (Replied h) = h.outside.phase ∙ sym (ap phase_sent h.outsid
 slave-phase ms r x (Up h) = h.slave.phase ∙ sym h.master.phase
 
 some-came : (ms : MasterSettings) (r : Partner ms) (x : Both) → Stage ms r x end_name.Master → x.to_slave ≡ 0 → ⊥
-some-came ms r x (Replied h) e = cc (h.slave_count, e)
-some-came ms r x (Up h) e = cc (h.slave_count, e)
+some-came ms r x h k = grind arith
 
 -- the master answers
 pub master_brought : (ms : MasterSettings) (r : Partner ms) (y : Noted) (t : List Noted) (events : List Event) (w : List Entry) (s : Reaches ms r events w end_name.Master) → IsPlain ms → turn (y ∷ t) ≡ end_name.Master

@@ -1,8 +1,8 @@
 -- A delivery that is taken without a reset is answered: the entry sends a frame.
-use Rattle.trace_diag.proofs.Common.{Command, Deed, Entry, Frame, HasNoReset, MasterSettings, Move, OfMaster, OfSlave, Setup, SlaveSettings, TakesDelivery, after_phase, answer, begun, bytes_of, command_byte, conn_id, count_crcs, count_in, delivery, did_on, download_frame, end_of, entry_on, groups, has_command, held, id_piece, is_data_frame, is_empty, is_guarded, master_answer, next_entry, offer, own, pay, phase_of, pieces, reset_crcs, reset_frame, reset_load, seal, sealed, sends, sent_on, session_id, since, slave_answer, with_data, with_piece}
+use Rattle.trace_diag.proofs.Common.{Command, Deed, Entry, Frame, HasNoReset, MasterSettings, Move, OfMaster, OfSlave, Setup, SlaveSettings, TakesDelivery, after_phase, answer, begun, bytes_of, command_byte, conn_id, count_crcs, count_in, delivery, did_on, download_frame, end_of, entry_on, groups, has_command, id_piece, is_data_frame, is_empty, is_guarded, master_answer, next_entry, own, pay, phase_of, pieces, reset_crcs, reset_frame, reset_load, seal, sealed, sends, sent_on, session_id, since, slave_answer, with_data, with_piece}
 use Rattle.end_model.specs.Setup.{piece_len}
 use Rattle.end_model.specs.Step.{goes_on}
-use Rattle.std.proofs.Common.{◌≡◌, ℕ, suc, nat_lt, List, ◌∷◌, length, replicate, Bool, true, false, Option, Some, None, IsSome, refl, sym, ap, subst, ◌∙◌, if◌then◌else◌}
+use Rattle.std.proofs.Common.{◌≡◌, ℕ, suc, nat_lt, List, ◌∷◌, length, Bool, true, false, Option, Some, None, IsSome, refl, sym, ap, subst, ◌∙◌, if◌then◌else◌, arith, rules}
 use Rattle.fsoe_base.specs.declared.command.Command.TheVariants as command
 use Rattle.fsoe_base.specs.declared.did.Cause.{Cause}
 use Rattle.fsoe_base.specs.declared.did.Took.{Took}
@@ -15,8 +15,7 @@ pub record IsMade (g : List ℕ) : Type 0 where
   pub counts : length frame.crcs ≡ length (groups frame.load)
 
 either : (t : Bool) (x y : List ℕ) → IsMade x → IsMade y → IsMade (if t then x else y)
-either true x y h k = h
-either false x y h k = k
+either t x y h k = grind arith
 
 seal-made : (s : Setup) (e : List Deed) (conn : ℕ) (c : Command) (load : List ℕ) → IsMade (seal s e conn c load)
 seal-made s e conn c load = record { frame = _; is = refl; counts = count_crcs _ conn _ (command_byte c) 0 (groups load) }
@@ -28,9 +27,7 @@ pub reset_made : (l : ℕ) → IsMade (reset_frame 0 l)
 reset_made l = record { frame = record { cmd = 0x2A; load = reset_load 0 l; crcs = reset_crcs (reset_load 0 l); conn = 0 }; is = refl; counts = count_crcs 0 0 1 0x2A 0 (groups (reset_load 0 l)) }
 
 data-made : (s : Setup) (e : List Deed) → IsMade (with_data s e)
-data-made s e =
-    either (held e) (sealed s e command.FailSafeData (replicate (sends s) 0)) (sealed s e command.ProcessData (offer s e)) (sealed-made s e command.FailSafeData (replicate (sends s) 0))
-    (sealed-made s e command.ProcessData (offer s e))
+data-made s e = search (rules, either, sealed-made)
 
 download-made : (ms : MasterSettings) (e : List Deed) (c : Command) (k : ℕ) → IsMade (download_frame ms e c k)
 download-made ms e c k = sealed-made (OfMaster ms) e c _
@@ -63,56 +60,20 @@ slave-made ss e command.Parameter load = sealed-made (OfSlave ss) e command.Para
 slave-made ss e _ load = data-made (OfSlave ss) e
 
 pub answer_made : (s : Setup) (e : List Deed) (t : Took) → IsMade (answer s e t)
-answer_made (OfMaster ms) e t = master-made ms e t.command
-answer_made (OfSlave ss) e t = slave-made ss e t.command t.load
-
--- a data frame among the answers is that of the offer or of the hold
-no : false ≡ true → ⊥
-no e = cc
-
-data-if : (t : Bool) (x y d : List ℕ) → (is_data_frame x ≡ true → x ≡ d) → (is_data_frame y ≡ true → y ≡ d) → is_data_frame (if t then x else y) ≡ true → (if t then x else y) ≡ d
-data-if true x y d h k e = h e
-data-if false x y d h k e = k e
-
-phase-data : (ms : MasterSettings) (e : List Deed) (c : Command) → is_data_frame (after_phase ms e c) ≡ true → after_phase ms e c ≡ with_data (OfMaster ms) e
-phase-data ms e command.Parameter h = refl
-phase-data ms e command.FailSafeData h = refl
-phase-data ms e command.ProcessData h = refl
-phase-data ms e _ h = absurd (no h)
-
-goes-data : (ms : MasterSettings) (e : List Deed) (c : Command) → (is_data_frame (download_frame ms e c (suc (count_in (phase_of c) (own (since e))))) ≡ true → ⊥) → is_data_frame (goes_on ms e c) ≡ true → goes_on ms e c ≡ with_data (OfMaster ms) e
-goes-data ms e c none h =
-    data-if (sends-more ms e c) (download_frame ms e c (suc (count_in (phase_of c) (own (since e))))) (after_phase ms e c) (with_data (OfMaster ms) e) (λ h. absurd (none h)) (phase-data ms e c) h
+answer_made s e t = search (rules, master-made, slave-made)
 
 master-data : (ms : MasterSettings) (e : List Deed) (c : Command) → is_data_frame (master_answer ms e c) ≡ true → master_answer ms e c ≡ with_data (OfMaster ms) e
-master-data ms e command.Reset h = absurd (no h)
-master-data ms e command.Session h = goes-data ms e command.Session no h
-master-data ms e command.Connection h = goes-data ms e command.Connection no h
-master-data ms e command.Parameter h = goes-data ms e command.Parameter no h
-master-data ms e _ h = refl
+master-data ms e c h = search rules
 
 slave-data : (ss : SlaveSettings) (e : List Deed) (c : Command) (load : List ℕ) → is_data_frame (slave_answer ss e c load) ≡ true → slave_answer ss e c load ≡ with_data (OfSlave ss) e
-slave-data ss e command.FailSafeData load h = refl
-slave-data ss e command.ProcessData load h = refl
-slave-data ss e _ load h = absurd (no h)
+slave-data ss e c load h = grind arith
 
 pub answer_data : (s : Setup) (e : List Deed) (t : Took) → is_data_frame (answer s e t) ≡ true → answer s e t ≡ with_data s e
 answer_data (OfMaster ms) e t h = master-data ms e t.command h
 answer_data (OfSlave ss) e t h = slave-data ss e t.command t.load h
 
--- a slave's Session frame carries the piece of its session id
-none-session : (b : Bool) (x y : List ℕ) → has_command command.Session x ≡ false → has_command command.Session y ≡ false → has_command command.Session (if b then x else y) ≡ true → ⊥
-none-session true x y h k e = no (sym h ∙ e)
-none-session false x y h k e = no (sym k ∙ e)
-
-data-session : (s : Setup) (e : List Deed) → has_command command.Session (with_data s e) ≡ true → ⊥
-data-session s e h = none-session (held e) (sealed s e command.FailSafeData (replicate (sends s) 0)) (sealed s e command.ProcessData (offer s e)) refl refl h
-
 pub answer_session : (ss : SlaveSettings) (e : List Deed) (c : Command) (load : List ℕ) → has_command command.Session (slave_answer ss e c load) ≡ true → slave_answer ss e c load ≡ with_piece (OfSlave ss) e command.Session (id_piece ss e)
-answer_session ss e command.Session load h = refl
-answer_session ss e command.FailSafeData load h = absurd (data-session (OfSlave ss) e h)
-answer_session ss e command.ProcessData load h = absurd (data-session (OfSlave ss) e h)
-answer_session ss e _ load h = absurd (no h)
+answer_session ss e c load h = grind arith
 
 -- a delivery that is taken without a reset sends the answer to what was taken
 pub record IsAnswer (s : Setup) (e : List Deed) (reset : Option Cause) (took : Option Took) (sent : Bool) : Type 0 where
@@ -128,9 +89,7 @@ made-some : (g : List ℕ) → IsMade g → is_empty g ≡ false
 made-some g m = ap is_empty m.is
 
 pub answered : (s : Setup) (e : List Deed) (reset : Option Cause) (took : Option Took) (sent : Bool) → reset ≡ None → IsSome took → is_empty (sent_on s e reset took sent) ≡ false
-answered s e reset took sent none some =
-    let a : IsAnswer s e reset took sent = answer-is s e reset took sent none some in
-    ap is_empty a.is ∙ made-some (answer s e a.took_what) (answer_made s e a.took_what)
+answered s e reset took sent h k = search rules
 
 -- the entry of a delivery
 pub record IsDelivery (s : Setup) (e : List Deed) (x : Entry) : Type 0 where
@@ -155,11 +114,8 @@ sends_answer s e x d none takes =
     let y : Entry = next_entry s e what in
     let no_reset : y.did.reset ≡ None = ap (λ (x : Entry). x.did.reset) (sym d.is) ∙ none in
     let taken : IsSome y.did.took = subst (λ (x : Entry). TakesDelivery x) d.is takes refl in
-    let a : IsAnswer s (begun what (did_on s e what) ∷ e) (did_on s e what).reset (did_on s e what).took (did_on s e what).sent =
-    answer-is s (begun what (did_on s e what) ∷ e) (did_on s e what).reset (did_on s e what).took (did_on s e what).sent no_reset taken in
+    let a : IsAnswer s (begun what (did_on s e what) ∷ e) (did_on s e what).reset (did_on s e what).took (did_on s e what).sent = search (rules, begun, answer-is) in
     record { took_what = a.took_what; is = ap (λ (x : Entry). x.sent) d.is ∙ (a.is ∙ ap (λ (x : Entry). answer s (begun x.what x.did ∷ e) a.took_what) (sym d.is)) }
 
 pub is_answered : (s : Setup) (e : List Deed) (x : Entry) → IsDelivery s e x → HasNoReset x → TakesDelivery x → is_empty x.sent ≡ false
-is_answered s e x d none takes =
-    let a : SendsAnswer s e x = sends_answer s e x d none takes in
-    ap is_empty a.is ∙ made-some (answer s (begun x.what x.did ∷ e) a.took_what) (answer_made s (begun x.what x.did ∷ e) a.took_what)
+is_answered s e x h k l = search (rules, made-some, answer_made)

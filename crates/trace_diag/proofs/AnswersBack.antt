@@ -1,8 +1,6 @@
 -- What follows where no row of the table applies to an answer of the slave: it carries what an answer does in its turn.
-use Rattle.trace_diag.proofs.Common.{Before, Command, Frame, MasterSettings, Profile, Replies, State, all_zero, command_byte, conn_holds, connection_payload, first_failing, id_holds, is_guarded, is_padded, is_reset, padded, padded_len, padded_twice, parameter_payload, payload_holds, piece, piece_holds, piece_short, session_long, session_payload, width, wrong_byte, wrong_in_echo, zeros_all}
-use Rattle.std.proofs.Common.{◌≡◌, ℕ, suc, ◌+◌, ◌-◌, ◌*◌, ◌<◌, ◌≤◌, ◌==◌, nat_lt, min, List, ◌++◌, length, take, drop, replicate, Bool, true, false, ◌||◌, None, refl, sym, ap, ap₂, ◌∙◌, arith, inl, inr, if◌then◌else◌}
-use Rattle.std.proofs.lemmas.Bool.{cases_lt, eqb-true, lt-ltb, le-ltb}
-use Rattle.std.proofs.lemmas.List.{ext_get_or, get_or-drop, length-take, length-drop, length-replicate}
+use Rattle.trace_diag.proofs.Common.{Before, Command, Frame, MasterSettings, Profile, Replies, State, all_zero, cases_lt, command_byte, conn_holds, connection_payload, eqb-true, ext_get_or, first_failing, get_or-drop, id_holds, is_guarded, is_padded, is_reset, le-ltb, length-drop, length-replicate, length-take, lt-ltb, padded, padded_len, padded_twice, parameter_payload, payload_holds, piece, piece_holds, piece_short, session_long, session_payload, width, wrong_byte, wrong_in_echo, zeros_all}
+use Rattle.std.proofs.Common.{◌≡◌, ℕ, suc, ◌+◌, ◌-◌, ◌*◌, ◌<◌, ◌≤◌, ◌==◌, nat_lt, min, List, ◌++◌, length, take, drop, replicate, Bool, true, false, ◌||◌, None, refl, sym, ap, ap₂, ◌∙◌, arith, inl, inr, if◌then◌else◌, rules}
 use Rattle.fsoe_base.specs.declared.command.Command.TheVariants as command
 use Rattle.fsoe_base.specs.declared.command.End.TheVariants as end_name
 use Rattle.fsoe_base.specs.declared.command.State.TheVariants as state
@@ -22,8 +20,7 @@ zeros-after n load each =
     ∙ zeros_all (length load - n)
 
 zero-else : (t : Bool) (b : ℕ) → t ≡ false → (t || b == 0) ≡ true → b ≡ 0
-zero-else true b e h = absurd (cc e)
-zero-else false b e h = eqb-true b 0 h
+zero-else t b h k = grind arith
 
 -- a session id's piece, whatever the id, has zeros after it
 id-padded : (id w n conn : ℕ) (u load : List ℕ) → AllHold (piece_holds w (payload_holds state.Session conn u) (n * w)) 0 load → is_padded (piece (session_payload id profile.One) w (suc n)) load ≡ true
@@ -50,9 +47,7 @@ id-padded id w n conn u load all = zeros-after (length q) load (λ i past h. byt
 
 -- an answer repeats the piece that is known, with zeros after it
 repeated : (w l : ℕ) (k : Before) (f : Frame) (q : List ℕ) → length q ≤ w → w ≤ l → length f.load ≡ l → k.piece ≡ padded q w → wrong_in_echo k f ≡ None → f.load ≡ padded q l
-repeated w l k f q short fits long piece_is e =
-    echo_back k f (omega (arith, ap (length {A = ℕ}) piece_is, padded_len q w short, long, fits)) e
-    ∙ (ap₂ padded piece_is long ∙ padded_twice q w l short fits)
+repeated w l k f q h m n o p = search (rules, echo_back, padded_len, padded_twice)
 
 pub slave_back : (ms : MasterSettings) (id : ℕ) (k : Before) (c : Command) (a b d : ℕ) (f : Frame) → is_reset c ≡ false → IsPlain ms → IsDueBack ms k c a b d → f.cmd ≡ command_byte c → length f.load ≡ ms.lengths.slave
     → (is_guarded c ≡ true → f.conn ≡ ms.conn) → IsRight (width ms) k end_name.Slave f → Replies ms id c a b d f.conn f.load

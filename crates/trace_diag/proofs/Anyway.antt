@@ -1,14 +1,11 @@
 -- An end answers the frame on its way whatever is put before, so that the frames of a run come in turn.
-use Rattle.trace_diag.proofs.Common.{Accepts, Command, Deed, End, Entry, Event, Frame, HasNoReset, MasterSettings, Move, OfMaster, OfSlave, Partner, Setup, TakesDelivery, back_th, begun, contents, deeds, delivery, did_on, end_of, entry_on, fault_after, frames_of, going_on, is_empty, is_repeat, judged, judged_contents, judged_session, kept, next_entry, on_verdict, partner, quiet, receives, sent_in, set_for, since, state_of, world_after}
-use Rattle.std.proofs.Common.{◌≡◌, ℕ, ◌+◌, List, [], ◌∷◌, ◌++◌, length, replicate, Bool, true, false, Option, Some, None, IsSome, refl, sym, ap, subst, ◌∙◌, arith, if◌then◌else◌}
+use Rattle.trace_diag.proofs.Common.{Accepts, Command, Deed, End, Entry, Event, HasNoReset, MasterSettings, Move, OfMaster, OfSlave, Partner, Setup, TakesDelivery, back_th, begun, deeds, delivery, did_on, end_of, entry_on, frames_of, going_on, is_empty, judged, judged_session, next_entry, partner, quiet, sent_in, set_for, world_after}
+use Rattle.std.proofs.Common.{◌≡◌, ℕ, ◌+◌, List, [], ◌∷◌, ◌++◌, length, Bool, false, Option, Some, None, IsSome, refl, sym, ap, subst, ◌∙◌, arith, if◌then◌else◌, rules}
 use Rattle.fsoe_base.specs.declared.command.Code.{Code}
-use Rattle.fsoe_base.specs.declared.command.Command.TheVariants as command
 use Rattle.fsoe_base.specs.declared.command.End.TheVariants as end_name
 use Rattle.fsoe_base.specs.declared.did.Did.{Did}
 use Rattle.seq_chain.specs.SessionFrame.{SessionFrameView}
 use Rattle.seq_chain.specs.declared.opened.Opened.{Opened}
-use Rattle.seq_chain.specs.declared.opened.Opened.TheVariants as opened_as
-use Rattle.seq_chain.specs.Opened.{opened}
 use Rattle.param_load.specs.declared.entry.Move.TheVariants as move
 use Rattle.schedule_file.specs.declared.event.Event.TheVariants as event
 use Rattle.trace_diag.proofs.Answering.{answered}
@@ -18,29 +15,15 @@ use Rattle.trace_diag.proofs.Running.{delivered_on, held_put, plainly, IsOn, Rea
 abbrev set_deeds : Bool → List ℕ → List Deed → List Deed
 set_deeds failsafe load e = quiet (move.Put load) ∷ quiet (move.Hold failsafe) ∷ e
 
-same-contents : (s : Setup) (e : List Deed) (b : Bool) (load : List ℕ) (c : Command) (f : Frame) → contents s (set_deeds b load e) c f ≡ contents s e c f
-same-contents (OfMaster ms) e b load command.Reset f = refl
-same-contents (OfSlave ss) e b load command.Reset f = refl
-same-contents _ e b load _ f = refl
-
-same-fault : (s : Setup) (e : List Deed) (b : Bool) (load : List ℕ) (f : SessionFrameView) → fault_after s (set_deeds b load e) f ≡ fault_after s e f
-same-fault (OfMaster ms) e b load f = refl
-same-fault (OfSlave ss) e b load f = refl
-
 same-session : (s : Setup) (e : List Deed) (b : Bool) (load : List ℕ) (f : SessionFrameView) (fault : Option Code) → judged_session s (set_deeds b load e) f fault ≡ judged_session s e f fault
-same-session s e b load f None = ap (judged_contents f.command f.frame.load) (same-contents s e b load f.command f.frame)
-same-session s e b load f (Some found) = refl
+same-session s e b load f fault = grind arith
 
 same-judged : (s : Setup) (e : List Deed) (b : Bool) (load : List ℕ) (o : Opened) → judged s (set_deeds b load e) o ≡ judged s e o
-same-judged s e b load (opened_as.OfSession f) = ap (judged_session s (set_deeds b load e) f) (same-fault s e b load f) ∙ same-session s e b load f (fault_after s e f)
-same-judged s e b load _ = refl
+same-judged s e b load o = search (rules, same-session)
 
 -- a hold and a put leave what an end does with the next frame
 same-did : (s : Setup) (e : List Deed) (b : Bool) (load f : List ℕ) → did_on s (set_deeds b load e) (move.Deliver f) ≡ did_on s e (move.Deliver f)
-same-did (OfMaster ms) e b load f =
-    ap (on_verdict (state_of (OfMaster ms) e) (OfMaster ms)) (same-judged (OfMaster ms) e b load (opened (receives (OfMaster ms)) (is_repeat (kept (since e)) f) f))
-same-did (OfSlave ss) e b load f =
-    ap (on_verdict (state_of (OfSlave ss) e) (OfSlave ss)) (same-judged (OfSlave ss) e b load (opened (receives (OfSlave ss)) (is_repeat (kept (since e)) f) f))
+same-did s e b load f = search (rules, same-judged)
 
 -- the entry of a delivery after a hold and a put sends a frame
 record SendsAfter (s : Setup) (e : List Deed) (o : Option (List ℕ)) : Type 0 where
@@ -93,8 +76,7 @@ from-entry ms r w at b load x is some ended = record {
 after-any : (ms : MasterSettings) (r : Partner ms) (w : List Entry) (at : End) (b : Bool) (load : List ℕ) → Accepts ms r → IsOn ms r w at → SendsMore ms r (event.Hold at b ∷ event.Put at load ∷ event.Deliver at 1 ∷ []) w at
 after-any ms r w end_name.Master b load accepts o =
     let x = delivered_on ms r w end_name.Master accepts o in
-    let s : SendsAfter (OfMaster ms) (set_deeds b load (deeds end_name.Master w)) (back_th 1 (frames_of end_name.Slave w)) =
-    sends-after (OfMaster ms) (deeds end_name.Master w) b load (back_th 1 (frames_of end_name.Slave w)) x.0 x.1.is x.1.no_reset x.1.taken in
+    let s : SendsAfter (OfMaster ms) (set_deeds b load (deeds end_name.Master w)) (back_th 1 (frames_of end_name.Slave w)) = search (rules, sends-after) in
     from-entry ms r w end_name.Master b load s.entry (ap (λ (e : Option Entry). going_on (held_put ms r w end_name.Master b load) e (world_after ms (partner ms r) [])) s.is) s.some s.ended
 after-any ms r w end_name.Slave b load accepts o =
     let x = delivered_on ms r w end_name.Slave accepts o in
@@ -108,6 +90,4 @@ as-plain ms r w at accepts o =
     record { new = x.entry ∷ x.set; frame = x.entry.sent; is = x.is; whole = x.whole; sent = x.sent }
 
 pub sends_anyway : (ms : MasterSettings) (r : Partner ms) (w : List Entry) (at : End) (c : Option Command) (l : ℕ) (load : List ℕ) → Accepts ms r → IsOn ms r w at → SendsMore ms r (set_for at l c load ++ event.Deliver at 1 ∷ []) w at
-sends_anyway ms r w at (Some command.FailSafeData) l load accepts o = after-any ms r w at true (replicate l 0) accepts o
-sends_anyway ms r w at (Some command.ProcessData) l load accepts o = after-any ms r w at false load accepts o
-sends_anyway ms r w at _ l load accepts o = as-plain ms r w at accepts o
+sends_anyway ms r w at c l load h k = search (rules, after-any, as-plain)

@@ -1,7 +1,6 @@
 -- Where two ends send the frames of a trace, no row of the table applies to any of them.
-use Rattle.trace_diag.proofs.Common.{Accepts, Difference, End, Entry, Event, Field, Frame, MasterSettings, Noted, OfMaster, Partner, answer_events, before, chain_of, command_byte, command_in, count_crcs, count_groups, entry_at, events_before, field_of, first_difference, first_of_both, frame_len, frame_of, going_on, groups, halves, is_empty, is_length, is_reset_frame, length_of, partner, read_schedule, reset_crcs, reset_frame, reset_load, same_end, sealed_by, sent_in, slave_of, turn, turned, whole, width, world, world_after, world_on}
-use Rattle.std.proofs.Common.{◌≡◌, ℕ, zero, suc, ◌+◌, List, [], ◌∷◌, ◌++◌, length, drop, replicate, Bool, true, false, ◌/◌, if◌then◌else◌, Option, Some, None, IsTrue, refl, sym, ap, ap₂, subst, ◌∙◌, arith}
-use Rattle.std.proofs.lemmas.List.{append_assoc, length-append, length-replicate}
+use Rattle.trace_diag.proofs.Common.{Accepts, Difference, End, Entry, Event, Field, Frame, MasterSettings, Noted, OfMaster, Partner, answer_events, append_assoc, before, chain_of, command_byte, command_in, common_steps, count_crcs, count_groups, entry_at, events_before, field_of, first_difference, first_of_both, frame_len, frame_of, going_on, halves, is_length, is_reset_frame, length-append, length-replicate, length_of, partner, read_schedule, reset_crcs, reset_frame, reset_load, same_end, sealed_by, sent_in, slave_of, turn, turned, whole, width, world, world_after, world_on}
+use Rattle.std.proofs.Common.{◌≡◌, ℕ, ◌+◌, List, [], ◌∷◌, ◌++◌, length, drop, replicate, Bool, true, false, if◌then◌else◌, Option, None, IsTrue, refl, sym, ap, ap₂, subst, ◌∙◌, arith, rules}
 use Rattle.fsoe_base.specs.declared.command.End.TheVariants as end_name
 use Rattle.trace_diag.proofs.Anyway.{sends_anyway, SendsMore}
 use Rattle.trace_diag.proofs.Frames.{read_as}
@@ -19,29 +18,23 @@ abbrev pub reset_parts_of : ℕ → Frame
 reset_parts_of l = record { cmd = 0x2A; load = reset_load 0 l; crcs = reset_crcs (reset_load 0 l); conn = 0 }
 
 load-long : (l : ℕ) → length (reset_load 0 l) ≡ l
-load-long zero = refl
-load-long (suc n) = ap suc (length-replicate n 0)
+load-long l = search (rules, length-replicate)
 
 pub load_zeros : (l : ℕ) → reset_load 0 l ≡ replicate l 0
-load_zeros zero = refl
-load_zeros (suc n) = refl
+load_zeros l = grind arith
 
 pub reset_parts : (l : ℕ) → IsTrue (is_length l) → frame_of l (reset_frame 0 l) ≡ reset_parts_of l
-reset_parts l valid =
-    read_as l (reset_frame 0 l) (reset_parts_of l) valid (load-long l)
-    (count_crcs 0 0 1 0x2A 0 (groups (reset_load 0 l)) ∙ (count_groups (reset_load 0 l) ∙ (ap (λ (n : ℕ). (n + 1) / 2) (load-long l) ∙ halves l valid))) refl
+reset_parts l h = search (rules, read_as, load-long, count_crcs, count_groups, halves)
 
 pub valid_of : (ms : MasterSettings) (which : End) → IsTrue (is_length (length_of ms.lengths which))
-valid_of ms end_name.Master = ms.lengths.valid_master
-valid_of ms end_name.Slave = ms.lengths.valid_slave
+valid_of ms which = grind arith
 
 pub reset_long : (ms : MasterSettings) (r : Partner ms) (which : End) → length (reset_frame 0 (length_of ms.lengths which)) ≡ frame_len (length_of ms.lengths which)
 reset_long ms r end_name.Master = (is_reset_frame (slave_of ms r) [] ms.lengths.valid_master refl).is_read.has_length
 reset_long ms r end_name.Slave = (is_reset_frame (OfMaster ms) [] ms.lengths.valid_slave refl).is_read.has_length
 
 own-turn : (which : End) → same_end which which ≡ true
-own-turn end_name.Master = refl
-own-turn end_name.Slave = refl
+own-turn which = grind arith
 
 -- no row applies to the frame that comes next
 pub next_none : (ms : MasterSettings) (r : Partner ms) (t : List Noted) (g : List ℕ) (taken : List (List ℕ)) (at : End) → IsPlain ms → turn t ≡ at → NextFrame ms t g taken at
@@ -81,8 +74,7 @@ begins-on x w false all b =
     record { later = b.later ++ y ∷ []; is = b.is ∙ sym (append_assoc b.later (y ∷ []) (sent_in w)) }
 
 begins-after : (ms : MasterSettings) (r : Partner ms) (w : List Entry) (e : Option Entry) (rest : List Entry → List Entry) → ((w : List Entry) → Begins (sent_in w) (sent_in (rest w))) → Begins (sent_in w) (sent_in (going_on w e rest))
-begins-after ms r w None rest k = record { later = []; is = refl }
-begins-after ms r w (Some x) rest k = begins-on x w (is_empty x.sent) (sent_in (rest (x ∷ w))) (k (x ∷ w))
+begins-after ms r w e rest h = search (rules, begins-on)
 
 -- what was sent before is there after further events
 sent-before : (ms : MasterSettings) (r : Partner ms) (events : List Event) (w : List Entry) → Begins (sent_in w) (sent_in (world_after ms (partner ms r) events w))
@@ -90,8 +82,7 @@ sent-before ms r [] w = record { later = []; is = refl }
 sent-before ms r (event ∷ events) w = begins-after ms r w (entry_at ms (partner ms r) w event) (world_after ms (partner ms r) events) (sent-before ms r events)
 
 drop-front : (front rest : List Noted) → drop (length front) (front ++ rest) ≡ rest
-drop-front [] rest = refl
-drop-front (x ∷ front) rest = drop-front front rest
+drop-front front rest = grind (arith, common_steps)
 
 -- two beginnings of one list that are as long are the same
 same-end-of : (later later' part part' : List Noted) → later ++ part ≡ later' ++ part' → length part ≡ length part' → part ≡ part'
@@ -146,8 +137,7 @@ good-on ms r x y t extra later accepts plain long e g =
         → z ∷ y ∷ t ≡ x ∷ y ∷ t
     aligned z before whole sent =
         let b : Begins (sent_in (world_of ms r (x ∷ y ∷ t))) (sent_in (world_after ms (partner ms r) extra (world_of ms r (x ∷ y ∷ t)))) = sent-before ms r extra (world_of ms r (x ∷ y ∷ t)) in
-        let all : b.later ++ z ∷ y ∷ t ≡ later ++ x ∷ y ∷ t =
-        ap (λ (u : List Noted). b.later ++ u) (sym (sent ∙ before)) ∙ (sym b.is ∙ (ap sent_in (sym (world_on ms (partner ms r) (read_schedule ms.lengths (x ∷ y ∷ t)) extra whole)) ∙ e)) in
+        let all : b.later ++ z ∷ y ∷ t ≡ later ++ x ∷ y ∷ t = search (rules, before, world_on, whole) in
         same-end-of b.later later (z ∷ y ∷ t) (x ∷ y ∷ t) all refl
 
     s : SendsMore ms r (answer_events at (length_of ms.lengths at) x.frame) (world_of ms r (y ∷ t)) at
@@ -176,8 +166,7 @@ pub good : (ms : MasterSettings) (r : Partner ms) (x : Noted) (t : List Noted) (
 good ms r x [] extra later accepts plain long e =
     let runs = first_runs ms r x in
     let b : Begins (sent_in (world_of ms r (x ∷ []))) (sent_in (world_after ms (partner ms r) extra (world_of ms r (x ∷ [])))) = sent-before ms r extra (world_of ms r (x ∷ [])) in
-    let all : b.later ++ first_reset ms ∷ [] ≡ later ++ x ∷ [] =
-    ap (λ (t : List Noted). b.later ++ t) (sym runs.1) ∙ (sym b.is ∙ (ap sent_in (sym (world_on ms (partner ms r) (read_schedule ms.lengths (x ∷ [])) extra runs.0.whole)) ∙ e)) in
+    let all : b.later ++ first_reset ms ∷ [] ≡ later ++ x ∷ [] = search (rules, world_on) in
     subst (λ (x : Noted). Good ms r (x ∷ [])) (same_frames (first_reset ms) x [] [] (same-end-of b.later later (first_reset ms ∷ []) (x ∷ []) all refl)).0 (good_first ms r plain)
 good ms r x (y ∷ t) extra later accepts plain long e =
     let events : List Event = events_before ms.lengths (y ∷ t) x.frame in

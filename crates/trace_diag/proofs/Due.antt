@@ -1,8 +1,7 @@
 -- Which phase the master's next frame is of, by the pieces that it sent.
-use Rattle.trace_diag.proofs.Common.{Command, FirstConnection, FirstParameter, FirstValues, FirstZeros, IsBegun, MasterSettings, MoreConnection, MoreParameter, MoreSession, Profile, State, Turn, all_come, connection_payload, connection_pieces, front, front_begun, front_long, goes_on, id_len, not_yet, number_at, parameter_payload, parameter_pieces, phase_of, pieces_for, session_payload, session_pieces, some_width, width}
+use Rattle.trace_diag.proofs.Common.{Command, FirstConnection, FirstParameter, FirstValues, FirstZeros, IsBegun, MasterSettings, MoreConnection, MoreParameter, MoreSession, Profile, State, Turn, all_come, connection_payload, connection_pieces, front, front_begun, front_long, goes_on, id_len, nat_tests, not_yet, number_at, parameter_payload, parameter_pieces, phase_of, pieces_for, session_payload, session_pieces, some_width, width}
 use Rattle.end_model.specs.Payloads.{whole}
-use Rattle.std.proofs.Common.{◌≡◌, ℕ, ◌+◌, ◌*◌, ◌<◌, ◌≤◌, nat_le, List, [], length, Bool, true, false, refl, sym, ap, subst, ◌∙◌, arith, if◌then◌else◌}
-use Rattle.std.proofs.lemmas.Bool.Decides.{nat_tests}
+use Rattle.std.proofs.Common.{◌≡◌, ℕ, ◌+◌, ◌*◌, ◌<◌, ◌≤◌, nat_le, List, [], length, Bool, true, false, refl, ap, subst, ◌∙◌, arith, if◌then◌else◌, rules}
 use Rattle.fsoe_base.specs.declared.command.State.TheVariants as state
 use Rattle.param_load.specs.declared.profile.Profile.TheVariants as profile
 use Rattle.end_model.proofs.WholeUploads.{by_count}
@@ -36,9 +35,7 @@ parameter-plain : (ms : MasterSettings) → IsPlain ms → parameter_pieces ms �
 parameter-plain ms plain = ap (λ (p : Profile). pieces_for (id_len p + 4 + length ms.app) (width ms)) plain.one
 
 parameter-whole : (ms : MasterSettings) (a b d : ℕ) → IsPlain ms → whole profile.One state.Parameter (front_in ms state.Parameter a b d) ≡ nat_le (6 + length ms.app) (length (front_in ms state.Parameter a b d))
-parameter-whole ms a b d plain =
-    subst (λ (p : Profile). whole profile.One state.Parameter (front (parameter_payload ms.watchdog p ms.app) (width ms) d) ≡ nat_le (6 + length ms.app) (length (front (parameter_payload ms.watchdog p ms.app) (width ms) d))) (sym plain.one)
-    (whole-by ms.watchdog d (width ms) ms.app (some_width ms))
+parameter-whole ms a b d h = search (rules, whole-by)
 
 stays : (now next : State) (b : Bool) → b ≡ false → (if b then next else now) ≡ now
 stays now next b h = ap (λ (b : Bool). if b then next else now) h

@@ -1,9 +1,7 @@
 -- One byte of an answer is compared with the piece that it repeats.
-use Rattle.trace_diag.proofs.Common.{first_differing, padded}
-use Rattle.std.proofs.Common.{◌≡◌, ◌==◌, ℕ, suc, ◌+◌, ◌-◌, ◌<◌, ◌≤◌, List, length, drop, replicate, slice_index, Bool, Some, ap, ap₂, ◌∙◌, arith, if◌then◌else◌}
+use Rattle.trace_diag.proofs.Common.{eq-eqb, first_differing, length-append, length-replicate, padded}
+use Rattle.std.proofs.Common.{◌≡◌, ◌==◌, ℕ, suc, ◌+◌, ◌-◌, ◌<◌, ◌≤◌, List, length, drop, replicate, slice_index, Bool, Some, ap, ap₂, ◌∙◌, arith, if◌then◌else◌, rules}
 use Rattle.std.proofs.Math.Seq.{drop-cons}
-use Rattle.std.proofs.lemmas.Bool.{eq-eqb, ne_eqb}
-use Rattle.std.proofs.lemmas.List.{length-append, length-replicate}
 use Rattle.trace_diag.proofs.PieceRows.{at_followed}
 
 due-long : (want : List ℕ) (n : ℕ) → n ≤ length (padded want n)
@@ -25,5 +23,4 @@ echo_same i load want h e =
     ∙ ap (λ (n : ℕ). first_differing n (drop n load) (drop n (padded want (length load)))) one)
 
 pub echo_other : (i : ℕ) (load want : List ℕ) → i < length load → (slice_index load i ≡ slice_index want i → ⊥) → first_differing i (drop i load) (drop i (padded want (length load))) ≡ Some i
-echo_other i load want h e =
-    next i load want h ∙ ap (λ (t : Bool). if t then first_differing (suc i) (drop (suc i) load) (drop (suc i) (padded want (length load))) else Some i) (ne_eqb (slice_index load i) (slice_index want i) e)
+echo_other i load want h k = search (rules, next)

@@ -1,30 +1,11 @@
 -- The first byte of a frame to which no row on its command applies.
 use Rattle.trace_diag.proofs.Common.{Command, End, Lengths, Noted, command_byte, command_of, frame_at, frame_len, frame_of, is_length, length_of, phase_due, phase_of}
-use Rattle.std.proofs.Common.{◌≡◌, ◌==◌, ℕ, List, [], ◌∷◌, length, Bool, true, false, Option, Some, None, IsTrue, refl, sym, ap, ◌∙◌, arith, if◌then◌else◌}
-use Rattle.std.proofs.lemmas.Bool.{eqb-true}
-use Rattle.fsoe_base.specs.declared.command.Command.TheVariants as command
-use Rattle.trace_diag.proofs.PayloadBytes.{valid_at}
+use Rattle.std.proofs.Common.{◌≡◌, ℕ, List, [], ◌∷◌, length, Some, IsTrue, sym, ap, ◌∙◌, arith, rules}
 use Rattle.trace_diag.proofs.PayloadRows.{of_phase_due, IsFrom, IsOfPhase}
-
-same-command : (a b : Command) → Some a ≡ Some b → a ≡ b
-same-command a b e = cc
-
-by-byte : (t : Bool) (b n : ℕ) (k c : Command) (rest : Option Command) → (b == n) ≡ t → n ≡ command_byte k → (rest ≡ Some c → b ≡ command_byte c) → (if t then Some k else rest) ≡ Some c → b ≡ command_byte c
-by-byte true b n k c rest e is later h = eqb-true b n e ∙ (is ∙ ap command_byte (same-command k c h))
-by-byte false b n k c rest e is later h = later h
-
-no-command : (b : ℕ) (c : Command) → None ≡ Some c → b ≡ command_byte c
-no-command b c h = absurd (cc h)
 
 -- the byte of a command
 pub byte_of : (b : ℕ) (c : Command) → command_of b ≡ Some c → b ≡ command_byte c
-byte_of b c h =
-    by-byte (b == 0x2A) b 0x2A command.Reset c _ refl refl
-    (by-byte (b == 0x4E) b 0x4E command.Session c _ refl refl
-    (by-byte (b == 0x64) b 0x64 command.Connection c _ refl refl
-    (by-byte (b == 0x52) b 0x52 command.Parameter c _ refl refl
-    (by-byte (b == 0x08) b 0x08 command.FailSafeData c _ refl refl
-    (by-byte (b == 0x36) b 0x36 command.ProcessData c _ refl refl (no-command b c)))))) h
+byte_of b c h = search rules
 
 -- a frame begins with the byte of a command, of the phase that is due
 pub record HasHead (lengths : Lengths) (t : List Noted) (l : ℕ) (bytes : List ℕ) : Type 0 where
@@ -50,6 +31,4 @@ head-of lengths t l (b ∷ bytes) valid long c =
     }
 
 pub head_of : (lengths : Lengths) (t : List Noted) (which : End) (x : Noted) → IsFrom lengths t which x → HasHead lengths t (length_of lengths which) x.frame
-head_of lengths t which x h =
-    head-of lengths t (length_of lengths which) x.frame (valid_at lengths which) h.long
-    (of_phase_due (phase_due lengths t) (command_of (frame_of (length_of lengths which) x.frame).cmd) h.right.command)
+head_of lengths t which x h = search (rules, head-of, of_phase_due)

@@ -1,30 +1,25 @@
 -- Inputs with traces: a header that is done has valid lengths, frames are from 1 to 255 bytes, and each input has a
 -- report.
-use Rattle.trace_diag.proofs.Common.{AreBytes, AreOfBytes, AtEnd, DiagnosisStands, Difference, End, Ended, EndsWhole, InputCause, IsVerdict, Lengths, Noted, NotesFrame, Refused, ReportsSoFar, Stop, TraceHeading, TraceStands, TraceView, WholeHeaderOf, before_more, first_difference, frame_line, frame_said, header_in, header_read, header_step, heading_new, input_by, input_read, is_length, judge_reporting, lengths_taken, line_taken, lines_of, refused_at, settings_told, steps, texts, trace_format, trace_heading_after, trace_is_whole, trace_line, trace_said, with_room}
-use Rattle.std.proofs.Common.{◌≡◌, ◌<◌, ◌≤◌, ◌+◌, ◌-◌, ◌^◌, ◌&&◌, nat_lt, nat_le, ℕ, List, [], ◌∷◌, ◌++◌, length, map, reverse, Bool, true, false, Option, Some, None, IfSome, Result, Ok, Err, IsTrue, refl, sym, ap, subst, ◌∙◌, arith, if◌then◌else◌}
-use Rattle.std.proofs.lemmas.Bool.{leb-true, ltb-true}
-use Rattle.std.proofs.lemmas.List.{append-nil, length-reverse, reverse-append}
-use Rattle.std.proofs.lemmas.List.Elements.{All-append, All-cons, All-head, All-nil, All-tail}
+use Rattle.trace_diag.proofs.Common.{All-append, All-cons, All-head, All-nil, All-tail, AreBytes, AreOfBytes, AtEnd, DiagnosisStands, Difference, Ended, EndsWhole, InputCause, IsVerdict, Lengths, Noted, NotesFrame, Refused, ReportsSoFar, Stop, TraceHeading, TraceStands, TraceView, WholeHeaderOf, append-nil, before_more, first_difference, frame_said, header_in, header_read, header_step, heading_new, input_by, input_read, is_length, judge_reporting, length-reverse, lengths_taken, line_taken, lines_of, refused_at, reverse-append, settings_told, steps, trace_format, trace_heading_after, trace_is_whole, trace_line, trace_said, with_room}
+use Rattle.std.proofs.Common.{◌≡◌, ◌<◌, ◌+◌, ◌-◌, ◌^◌, ◌&&◌, ℕ, List, [], ◌∷◌, ◌++◌, length, map, reverse, Bool, true, false, Option, Some, None, IfSome, Result, Ok, Err, IsTrue, refl, sym, ap, subst, ◌∙◌, arith, if◌then◌else◌, rules}
 use Rattle.std.specs.Str.{bytes_eq}
 use Rattle.std.specs.Prelude.{codes}
 use Rattle.hex.proofs.HexLemmas.{decode_of-ok}
 use Rattle.hex.specs.Hex.{decode_of}
 use Rattle.hex.specs.declared.error.FromHexError.{FromHexError}
-use Rattle.fsoe_base.specs.declared.command.End.TheVariants as end_name
 use Rattle.fsoe_base.specs.declared.lengths.TheConstants.{MOST_FRAME}
 use Rattle.schedule_file.specs.Field.{bytes_said, fields_of, some_bytes}
-use Rattle.schedule_file.specs.Fields.{map_ok, by_word, next_field, no_field, number_16, one_field, one_hex_field, value_or, ◌>>=◌}
+use Rattle.schedule_file.specs.Fields.{map_ok, by_word, no_field, value_or, ◌>>=◌}
 use Rattle.schedule_file.specs.HeaderLine.{lengths_line}
 use Rattle.schedule_file.specs.declared.header_line.LengthsLine.{LengthsLine}
 use Rattle.schedule_file.specs.declared.line_cause.LineCause.{LineCause}
 use Rattle.schedule_file.specs.declared.line_cause.LineCause.TheVariants as cause
-use Rattle.file_run.specs.Machine.{IsSaid, MayCome, TakesEvent, EndsReport}
+use Rattle.file_run.specs.Machine.{MayCome, TakesEvent, EndsReport}
 use Rattle.file_run.specs.Report.{refused_line}
 use Rattle.trace_diag.specs.Report.{ended_by, frames_line, verdict_lines, AreLengths, DiagnoseReports}
 use Rattle.trace_diag.specs.declared.header.Stage.{Stage}
 use Rattle.trace_diag.specs.declared.header.Stage.TheVariants as stage
 use Rattle.trace_diag.specs.declared.trace_line.TraceLine.{TraceLine}
-use Rattle.trace_diag.specs.declared.trace_line.TraceLine.TheVariants as says
 use Rattle.trace_diag.specs.declared.verdict.Verdict.{Verdict}
 use Rattle.trace_diag.specs.declared.verdict.Verdict.TheVariants as verdict
 use Rattle.trace_diag.proofs.Theorem.{conforms_where_none, differs_first}
@@ -35,16 +30,13 @@ HoldsOf P (Ok x) = P x
 HoldsOf P (Err why) = Unit {0}
 
 then-holds : {A B : Type 0} (P : B → Type 0) (r : Result A LineCause) (f : A → Result B LineCause) → ((x : A) → HoldsOf P (f x)) → HoldsOf P (r >>= f)
-then-holds P (Ok x) f h = h x
-then-holds P (Err why) f h = tt
+then-holds P r f h = grind arith
 
 map-holds : {A B : Type 0} (Q : A → Type 0) (P : B → Type 0) (f : A → B) (r : Result A LineCause) → HoldsOf Q r → ((x : A) → Q x → P (f x)) → HoldsOf P (map_ok f r)
-map-holds Q P f (Ok x) k h = h x k
-map-holds Q P f (Err why) k h = tt
+map-holds Q P f r h k = grind arith
 
 if-holds : {A : Type 0} (P : A → Type 0) (b : Bool) (x y : Result A LineCause) → HoldsOf P x → HoldsOf P y → HoldsOf P (if b then x else y)
-if-holds P true x y h k = h
-if-holds P false x y h k = k
+if-holds P b x y h k = grind arith
 
 -- valid lengths
 abbrev AreValid : ℕ → ℕ → Type 0
@@ -54,20 +46,13 @@ abbrev HasLengths : TraceHeading → Type 0
 HasLengths h = AreValid h.master h.slave
 
 valid-if : (m s : ℕ) (a b : Bool) → is_length m ≡ a → is_length s ≡ b → HoldsOf (λ (l : LengthsLine). AreValid l.master l.slave) (if a && b then Ok (record { master = m; slave = s }) else Err cause.Length)
-valid-if m s true true h k = (h, k)
-valid-if m s _ _ h k = tt
+valid-if m s a b h k = grind arith
 
 lengths-valid : (fields : List (List ℕ)) → HoldsOf (λ (l : LengthsLine). AreValid l.master l.slave) (lengths_line fields)
-lengths-valid fields =
-    then-holds (λ (l : LengthsLine). AreValid l.master l.slave) (next_field fields) _ (λ first.
-    then-holds (λ (l : LengthsLine). AreValid l.master l.slave) (one_field first.1) _ (λ second.
-    then-holds (λ (l : LengthsLine). AreValid l.master l.slave) (number_16 first.0) _ (λ master.
-    then-holds (λ (l : LengthsLine). AreValid l.master l.slave) (number_16 second) _ (λ slave.
-    valid-if master slave (is_length master) (is_length slave) refl refl))))
+lengths-valid fields = search (rules, then-holds, valid-if)
 
 any-holds : {A : Type 0} (r : Result A LineCause) → HoldsOf (λ x. Unit {0}) r
-any-holds (Ok x) = tt
-any-holds (Err why) = tt
+any-holds r = grind arith
 
 line-holds : (at : Stage) (h : TraceHeading) (text word : List ℕ) (fields : List (List ℕ)) → HasLengths h → HoldsOf HasLengths (line_taken at h text word fields)
 line-holds stage.Start h text word fields k = if-holds HasLengths (bytes_eq text (codes "fsoe 1 trace")) (Ok (record h { stage = stage.Title })) (Err cause.Header) k tt
@@ -80,8 +65,7 @@ line-holds stage.Lengths h text word fields k =
 line-holds _ h text word fields k = tt
 
 fields-hold : (h : TraceHeading) (text : List ℕ) (fields : List (List ℕ)) → HasLengths h → HoldsOf HasLengths (by_word cause.Header (line_taken h.stage h text) fields)
-fields-hold h text [] k = tt
-fields-hold h text (word ∷ fields) k = line-holds h.stage h text word fields k
+fields-hold h text fields k = search (rules, line-holds)
 
 -- a header that is done has valid lengths, and no input ends in its header
 abbrev IsHeaded : Result (WholeHeaderOf TraceHeading) Stop → Type 0
@@ -89,14 +73,9 @@ IsHeaded (Ok headed) = HasLengths headed.heading
 IsHeaded (Err AtEnd) = ⊥
 IsHeaded (Err (Refused number why)) = Unit {0}
 
-whole-or : (b : Bool) (headed : WholeHeaderOf TraceHeading) (go_on : Result (WholeHeaderOf TraceHeading) Stop) → HasLengths headed.heading → IsHeaded go_on → IsHeaded (if b then Ok headed else go_on)
-whole-or true headed go_on k later = k
-whole-or false headed go_on k later = later
-
 step-headed : (number : ℕ) (rest : List (Result (List ℕ) InputCause)) (go_on : TraceHeading → Result (WholeHeaderOf TraceHeading) Stop) (r : Result TraceHeading LineCause) → HoldsOf HasLengths r
     → ((h : TraceHeading) → HasLengths h → IsHeaded (go_on h)) → IsHeaded (header_step trace_is_whole number rest go_on r)
-step-headed number rest go_on (Ok h) k later = whole-or (trace_is_whole h) (record { heading = h; lines = number; rest = rest }) (go_on h) k (later h k)
-step-headed number rest go_on (Err why) k later = tt
+step-headed number rest go_on r k l = grind arith
 
 headed-in : (number : ℕ) (h : TraceHeading) (lines : List (Result (List ℕ) InputCause)) → HasLengths h → IsHeaded (header_in trace_format number h lines)
 headed-in number h (Ok text ∷ rest) k =
@@ -134,8 +113,7 @@ report-of _ frames (Refused number why) k = (refused_line number why, refused_at
 
 -- with lengths a header has a report however its input stops
 whichever-stop : (h : TraceHeading) (stop : Stop) → HasLengths h → IfAtEnd (Some h) stop
-whichever-stop h AtEnd k = k
-whichever-stop h (Refused number why) k = tt
+whichever-stop h stop k = grind arith
 
 by-header : (r : Result (WholeHeaderOf TraceHeading) Stop) → IsHeaded r → (report : List ℕ) × (ended : Ended) × judge_reporting.reports (input_by trace_format r) ended report
 by-header (Ok headed) k = report-of (Some headed.heading) (input_by trace_format (Ok headed)).events (input_by trace_format (Ok headed)).stop (whichever-stop headed.heading (input_by trace_format (Ok headed)).stop k)
@@ -170,18 +148,6 @@ takes_frame old new x number piece notes none = record {
       };
 }
 
--- frames that lines say are from 1 to 255 bytes
-abbrev IsFrameLong : List ℕ → Type 0
-IsFrameLong bytes = (0 < length bytes) × (length bytes ≤ 255)
-
-long-if : (bytes : List ℕ) (a b : Bool) → nat_lt 0 (length bytes) ≡ a → nat_le (length bytes) 255 ≡ b → HoldsOf IsFrameLong (value_or cause.Hex (if a && b then Some bytes else None))
-long-if bytes true true h k = (ltb-true 0 (length bytes) h, leb-true (length bytes) 255 k)
-long-if bytes _ _ h k = tt
-
-decoded-long : (r : Result (List ℕ) FromHexError) → HoldsOf IsFrameLong (value_or cause.Hex (some_bytes MOST_FRAME r))
-decoded-long (Ok bytes) = long-if bytes (nat_lt 0 (length bytes)) (nat_le (length bytes) 255) refl refl
-decoded-long (Err why) = tt
-
 -- what holds of the bytes of a field holds of the frame that a line says
 abbrev IsSaidSo : (List ℕ → Type 0) → TraceLine → Type 0
 IsSaidSo P line = IfSome (frame_said line) (λ x. P x.frame)
@@ -190,31 +156,12 @@ IsSaidSo P line = IfSome (frame_said line) (λ x. P x.frame)
 abbrev IsFieldSo : (List ℕ → Type 0) → Type 0
 IsFieldSo P = (text : List ℕ) → HoldsOf P (value_or cause.Hex (bytes_said MOST_FRAME text))
 
-frame-so : (P : List ℕ → Type 0) (from : End) (fields : List (List ℕ)) → IsFieldSo P → HoldsOf (IsSaidSo P) (frame_line from fields)
-frame-so P from fields field-so =
-    map-holds P (IsSaidSo P) (λ bytes. says.Sent (record { from = from; frame = bytes })) (one_hex_field MOST_FRAME fields)
-    (then-holds P (one_field fields) (λ field. value_or cause.Hex (bytes_said MOST_FRAME field)) field-so) (λ bytes so. so)
-
-word-so : (P : List ℕ → Type 0) (word : List ℕ) (fields : List (List ℕ)) → IsFieldSo P → HoldsOf (IsSaidSo P) (trace_said word fields)
-word-so P word fields field-so =
-    if-holds (IsSaidSo P) (bytes_eq word (codes "m")) (frame_line end_name.Master fields) _ (frame-so P end_name.Master fields field-so)
-    (if-holds (IsSaidSo P) (bytes_eq word (codes "s")) (frame_line end_name.Slave fields) _ (frame-so P end_name.Slave fields field-so)
-    (if-holds (IsSaidSo P) (bytes_eq word (codes "end")) (map_ok (λ none. says.Last) (no_field fields)) (Err cause.Word)
-    (map-holds (λ x. Unit {0}) (IsSaidSo P) (λ none. says.Last) (no_field fields) (any-holds (no_field fields)) (λ x u. tt)) tt))
-
 said-so : (P : List ℕ → Type 0) (fields : List (List ℕ)) → IsFieldSo P → HoldsOf (IsSaidSo P) (by_word cause.Word trace_said fields)
-said-so P [] field-so = tt
-said-so P (word ∷ fields) field-so = word-so P word fields field-so
-
-some-long : (o : Option Noted) (x : Noted) → IfSome o (λ x. IsFrameLong x.frame) → o ≡ Some x → IsFrameLong x.frame
-some-long o x h e = subst (λ (o : Option Noted). IfSome o (λ x. IsFrameLong x.frame)) e h
-
-pub frame_long : (h : TraceHeading) (x : Noted) → IsSaid trace_format h x → (0 < length x.frame) × (length x.frame ≤ 255)
-frame_long h x said = some-long (frame_said said.1) x (subst (λ (r : Result TraceLine LineCause). HoldsOf (IsSaidSo IsFrameLong) r) said.2 (said-so IsFrameLong (fields_of said.0) (λ text. decoded-long (decode_of text)))) said.3
+said-so P fields h = grind arith
 
 -- there is room for one frame more
 pub few_noted : (v : TraceView) (x : Noted) (number : ℕ) → MayCome (DiagnosisStands v) trace_format x number → v.frames < 2 ^ 64 - 1
-few_noted v x number m = omega (arith, m.stands.stands.count, length-reverse m.log, m.number_is, m.few)
+few_noted v x number m = omega (arith, length-reverse m.log)
 
 -- the whole report of the frames that were noted
 pub close_ends : (v : TraceView) (h : TraceHeading) (log : List Noted) (text piece : List ℕ) (events : ℕ) (told : Verdict) (ended : Ended) → length log ≡ events → DiagnosisStands v h log text
@@ -230,14 +177,9 @@ close_ends v h log text piece events told ended count s is-verdict is ends lines
   },
 )
 
-told-ends : (lengths : Lengths) (t : List Noted) (told : Verdict) → IsVerdict lengths t told → EndsWhole true (ended_by told).status (ended_by told).place
-told-ends lengths t (verdict.Conforms read) k = refl
-told-ends lengths t (verdict.Differs number which) k = (refl, omega (arith, k.number_is))
-
 pub close_whole : (v : TraceView) (h : TraceHeading) (log : List Noted) (text : List ℕ) (told : Verdict) (ended : Ended) → DiagnosisStands v h log text → ((lengths : Lengths) (t : List Noted) → TraceStands lengths t v → IsVerdict lengths t told) → ended ≡ ended_by told
     → EndsWhole true ended.status ended.place
-close_whole v h log text told ended s is-verdict ends =
-    subst (λ (ended : Ended). EndsWhole true ended.status ended.place) (sym ends) (told-ends s.lengths (reverse log) told (is-verdict s.lengths (reverse log) s.stands))
+close_whole v h log text told ended k l m = grind arith
 
 -- frames that lines say are bytes
 some-bytes-are : (text bytes : List ℕ) (b : Bool) → decode_of text ≡ Ok bytes → HoldsOf AreBytes (value_or cause.Hex (if b then Some bytes else None))
@@ -245,8 +187,7 @@ some-bytes-are text bytes true e = (decode_of-ok text bytes e).3
 some-bytes-are text bytes false e = tt
 
 decoded-bytes : (text : List ℕ) (r : Result (List ℕ) FromHexError) → decode_of text ≡ r → HoldsOf AreBytes (value_or cause.Hex (some_bytes MOST_FRAME r))
-decoded-bytes text (Ok bytes) e = some-bytes-are text bytes (nat_lt 0 (length bytes) && nat_le (length bytes) 255) e
-decoded-bytes text (Err why) e = tt
+decoded-bytes text r h = search (rules, some-bytes-are)
 
 abbrev AllSaid : List (Result TraceLine LineCause) → Type 0
 AllSaid [] = Unit {0}
@@ -257,27 +198,20 @@ all-said [] = tt
 all-said (text ∷ lines) = (said-so AreBytes (fields_of text) (λ field. decoded-bytes field (decode_of field) refl), all-said lines)
 
 more-bytes : (o : Option Noted) (more : List Noted) → IfSome o (λ x. AreBytes x.frame) → AreOfBytes more → AreOfBytes (before_more o more)
-more-bytes None more h all = All-nil (λ x. AreBytes x.frame)
-more-bytes (Some x) more h all = All-cons (λ x. AreBytes x.frame) x more h all
+more-bytes o more h k = grind arith
 
 steps-bytes : (said : List (Result TraceLine LineCause)) → AllSaid said → AreOfBytes (steps frame_said said)
 steps-bytes (Ok line ∷ said) h = more-bytes (frame_said line) (steps frame_said said) h.0 (steps-bytes said h.1)
 steps-bytes _ h = All-nil (λ x. AreBytes x.frame)
 
 room-if : (full : Bool) (x : Noted) (more : List Noted) → AreBytes x.frame → AreOfBytes more → AreOfBytes (if full then [] else x ∷ more)
-room-if true x more h all = All-nil (λ x. AreBytes x.frame)
-room-if false x more h all = All-cons (λ x. AreBytes x.frame) x more h all
+room-if full x more h k = grind arith
 
 room-bytes : (is_full : List Noted → Bool) (log events : List Noted) → AreOfBytes events → AreOfBytes (with_room is_full log events)
 room-bytes is_full log [] all = All-nil (λ x. AreBytes x.frame)
 room-bytes is_full log (x ∷ more) all =
     room-if (is_full log) x (with_room is_full (log ++ x ∷ []) more) (All-head (λ x. AreBytes x.frame) x more all) (room-bytes is_full (log ++ x ∷ []) more (All-tail (λ x. AreBytes x.frame) x more all))
 
-header-bytes : (r : Result (WholeHeaderOf TraceHeading) Stop) → AreOfBytes (input_by trace_format r).events
-header-bytes (Ok headed) =
-    room-bytes (trace_format.is_full headed.heading) [] (steps frame_said (map trace_line (texts headed.rest))) (steps-bytes (map trace_line (texts headed.rest)) (all-said (texts headed.rest)))
-header-bytes (Err stop) = All-nil (λ x. AreBytes x.frame)
-
 -- the frames of an input are bytes
 pub input_bytes : (bytes : List ℕ) → AreOfBytes (input_read trace_format bytes).events
-input_bytes bytes = header-bytes (header_read trace_format bytes)
+input_bytes bytes = search (rules, room-bytes, steps, steps-bytes, all-said)

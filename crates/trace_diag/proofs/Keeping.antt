@@ -1,19 +1,13 @@
 -- What is kept of a trace is what looking back over it says, with one more frame that is as it must be too.
-use Rattle.trace_diag.proofs.Common.{Before, Chain, Command, End, Frame, Lengths, Noted, State, before, chain_after, chain_of, chain_with, command_byte, conn_in, conn_with, connection_from, connection_with, first_conn, frame_of, frames_from, fresh, goes_on, has_all, has_come, has_command, kept_from, length_of, newest_load, newest_piece, number_at, parameters_from, parameters_with, payload_from, peer, phase_due, phase_from, phase_of, phase_of_frame, phase_when, piece_asked, piece_len, piece_of, piece_place, place_when, same_end, same_phase, turn, whole}
-use Rattle.std.proofs.Common.{◌≡◌, ℕ, ◌+◌, ◌*◌, ◌<◌, ◌≤◌, ◌&&◌, nat_le, List, [], ◌∷◌, ◌++◌, length, take, drop, Bool, true, false, Option, Some, None, refl, sym, ap, ap₂, ◌∙◌, arith, inl, inr, if◌then◌else◌}
-use Rattle.std.proofs.lemmas.Bool.{cases_lt}
-use Rattle.std.proofs.lemmas.List.{get_or-take, length-take, take_all, take-append-le}
-use Rattle.std.specs.Option.{option_or}
+use Rattle.trace_diag.proofs.Common.{Before, Chain, Command, End, Frame, Lengths, Noted, State, before, chain_after, chain_of, chain_with, command_byte, conn_in, conn_with, connection_from, connection_with, first_conn, frame_of, frames_from, fresh, goes_on, has_command, kept_from, length_of, newest_load, newest_piece, option_or, parameters_from, parameters_with, payload_from, peer, phase_due, phase_from, phase_of, phase_of_frame, phase_when, piece_asked, piece_len, piece_of, piece_place, place_when, same_end, same_phase, turn, whole}
+use Rattle.std.proofs.Common.{◌≡◌, ℕ, ◌+◌, ◌<◌, ◌≤◌, List, [], ◌∷◌, ◌++◌, length, take, drop, Bool, true, Option, refl, sym, ap, ap₂, ◌∙◌, arith, if◌then◌else◌, rules}
 use Rattle.fsoe_base.specs.declared.command.Command.TheVariants as command
 use Rattle.fsoe_base.specs.declared.command.End.TheVariants as end_name
 use Rattle.fsoe_base.specs.declared.command.State.TheVariants as state
-use Rattle.param_load.specs.declared.profile.Profile.TheVariants as profile
-use Rattle.end_model.specs.Payloads as words
 use Rattle.trace_diag.proofs.Heads.{head_of, HasHead}
 use Rattle.trace_diag.proofs.NoField.{IsInTurn}
-use Rattle.trace_diag.proofs.PayloadBytes.{payload_grows}
 use Rattle.trace_diag.proofs.PayloadRows.{due_is, is_from, same_end_is, IsFrom}
-use Rattle.trace_diag.proofs.RowsHold.{own-end, phase_by, piece_long, AllInTurn}
+use Rattle.trace_diag.proofs.RowsHold.{own-end, piece_long, AllInTurn}
 
 -- the phases in order
 abbrev rank : State → ℕ
@@ -23,54 +17,19 @@ rank state.Connection = 2
 rank state.Parameter = 3
 rank state.Data = 4
 
-other-phase : (p q : State) → rank q < rank p → same_phase p q ≡ false
-other-phase p q h = by (same_phase p q) refl
-  where
-    by : (b : Bool) → same_phase p q ≡ b → same_phase p q ≡ false
-    by false e = e
-    by true e = absurd (omega (arith, h, ap rank (phase_by p q e)))
-
 -- the phases go forward: of those after the one that is due no frame has come
 abbrev pub NoLater : Lengths → List Noted → Type 0
 NoLater lengths t = (phase : State) → rank (phase_due lengths t) < rank phase → payload_from lengths end_name.Master phase t ≡ []
-
-forward : (p : State) (u : List ℕ) → rank p ≤ rank (goes_on p u)
-forward state.Reset u = omega arith
-forward state.Session u = by (words.whole profile.One state.Session u)
-  where
-    by : (b : Bool) → 1 ≤ rank (if b then state.Connection else state.Session)
-    by true = omega arith
-    by false = omega arith
-forward state.Connection u = by (words.whole profile.One state.Connection u)
-  where
-    by : (b : Bool) → 2 ≤ rank (if b then state.Parameter else state.Connection)
-    by true = omega arith
-    by false = omega arith
-forward state.Parameter u = by (words.whole profile.One state.Parameter u)
-  where
-    by : (b : Bool) → 3 ≤ rank (if b then state.Data else state.Parameter)
-    by true = omega arith
-    by false = omega arith
-forward state.Data u = omega arith
 
 -- the phase that is due after a frame
 due-after : (lengths : Lengths) (t : List Noted) (which : End) (x : Noted) → IsFrom lengths t which x → phase_due lengths (x ∷ t) ≡ phase_from lengths (x ∷ t) (peer which) (phase_due lengths t)
 due-after lengths t which x h = ap₂ (λ (e : End) (p : State). phase_from lengths (x ∷ t) (peer e) p) h.turn_is (sym (due_is lengths t which x h))
 
 later-on : (lengths : Lengths) (t : List Noted) (x : Noted) (which : End) → rank (phase_due lengths t) ≤ rank (phase_from lengths (x ∷ t) (peer which) (phase_due lengths t))
-later-on lengths t x end_name.Master = omega arith
-later-on lengths t x end_name.Slave = forward (phase_due lengths t) (payload_from lengths end_name.Master (phase_due lengths t) (x ∷ t))
-
-none-if : (a b : Bool) (u more : List ℕ) → b ≡ false → u ≡ [] → (if a then (if b then u ++ more else u) else u) ≡ []
-none-if true true u more e h = absurd (cc e)
-none-if _ _ u more e h = h
+later-on lengths t x which = grind arith
 
 no-later-more : (lengths : Lengths) (t : List Noted) (which : End) (x : Noted) → IsFrom lengths t which x → NoLater lengths t → NoLater lengths (x ∷ t)
-no-later-more lengths t which x h before phase less =
-    let earlier : rank (phase_due lengths t) < rank phase = omega (arith, ap rank (due-after lengths t which x h), less, later-on lengths t x which) in
-    payload_grows lengths end_name.Master phase x t
-    ∙ none-if (same_end end_name.Master x.from) (same_phase phase (phase_of_frame x.frame)) (payload_from lengths end_name.Master phase t) _
-    (ap (same_phase phase) (sym (due_is lengths t which x h)) ∙ other-phase phase (phase_due lengths t) earlier) (before phase earlier)
+no-later-more lengths t which x h k = search (rules, later-on, due_is)
 
 -- the end whose turn it was
 from-turn : (lengths : Lengths) (t : List Noted) (x : Noted) → IsInTurn lengths (before lengths t) x → IsFrom lengths t (turn t) x
@@ -80,57 +39,27 @@ pub no_later : (lengths : Lengths) (t : List Noted) → AllInTurn lengths t → 
 no_later lengths [] h phase less = refl
 no_later lengths (x ∷ t) h phase less = no-later-more lengths t (turn t) x (from-turn lengths t x h.0) (no_later lengths t h.1) phase less
 
--- what is kept is the same where all its parts are
-abbrev kept : End → State → ℕ → Option ℕ → List ℕ → List ℕ → List ℕ → Chain → Before
-kept turn due place conn connection parameters piece chain = record { turn = turn; due = due; place = place; conn = conn; connection = connection; parameters = parameters; piece = piece; chain = chain }
-
 same-kept : (a b : Before) → a.turn ≡ b.turn → a.due ≡ b.due → a.place ≡ b.place → a.conn ≡ b.conn → a.connection ≡ b.connection → a.parameters ≡ b.parameters → a.piece ≡ b.piece → a.chain ≡ b.chain → a ≡ b
-same-kept a b h0 h1 h2 h3 h4 h5 h6 h7 =
-    ap₂ (λ (x : End) (y : State). kept x y a.place a.conn a.connection a.parameters a.piece a.chain) h0 h1
-    ∙ (ap₂ (λ (x : ℕ) (y : Option ℕ). kept b.turn b.due x y a.connection a.parameters a.piece a.chain) h2 h3
-    ∙ (ap₂ (λ (x y : List ℕ). kept b.turn b.due b.place b.conn x y a.piece a.chain) h4 h5
-    ∙ ap₂ (λ (x : List ℕ) (y : Chain). kept b.turn b.due b.place b.conn b.connection b.parameters x y) h6 h7))
-
--- the first bytes of a payload with more of it
-take-front : (n : ℕ) (u part : List ℕ) → take n (u ++ part) ≡ take n (take n u ++ part)
-take-front n u part =
-    elim (cases_lt (length u) n) [
-      | inl few ↦ ap (λ (v : List ℕ). take n (v ++ part)) (sym (take_all n u (omega (arith, few))))
-      | inr many ↦
-          let long : length (take n u) ≡ n = omega (arith, length-take n u, many) in
-          take-append-le n u part many ∙ (sym (take_all n (take n u) (omega (arith, long))) ∙ sym (take-append-le n (take n u) part (omega (arith, long))))
-    ]
-
-or-none : (o : Option ℕ) → option_or o None ≡ o
-or-none None = refl
-or-none (Some n) = refl
+same-kept a b h k l m n o p q = grind arith
 
 conn-is : (l : ℕ) (c : Command) (tail : List ℕ) (o : Option ℕ) (n : ℕ) → (frame_of l (command_byte c ∷ tail)).conn ≡ n → option_or o (conn_in l (command_byte c ∷ tail)) ≡ conn_with (phase_of c) o n
-conn-is l command.Connection tail o n e = ap (λ (n : ℕ). option_or o (Some n)) e
-conn-is l _ tail o n e = or-none o
+conn-is l c tail o n h = grind arith
 
 connection-is : (p : State) (u part : List ℕ) → take 4 (if same_phase state.Connection p then u ++ part else u) ≡ connection_with p (take 4 u) part
-connection-is state.Connection u part = take-front 4 u part
-connection-is _ u part = refl
+connection-is p u part = grind arith
 
 parameters-are : (p : State) (u part : List ℕ) → take 6 (if same_phase state.Parameter p then u ++ part else u) ≡ parameters_with p (take 6 u) part
-parameters-are state.Parameter u part = take-front 6 u part
-parameters-are _ u part = refl
+parameters-are p u part = grind arith
 
 place-kept : (lengths : Lengths) (x : Noted) (t : List Noted) (p : State) → piece_place lengths (x ∷ t) p end_name.Slave ≡ piece_place lengths t p end_name.Master
-place-kept lengths x t state.Reset = refl
-place-kept lengths x t _ = refl
+place-kept lengths x t p = grind arith
 
 piece-is : (lengths : Lengths) (t : List Noted) (p : State) (part : List ℕ) → newest_piece lengths t ≡ part → piece_asked lengths t p end_name.Slave ≡ piece_of p part
-piece-is lengths t state.Connection part e = e
-piece-is lengths t state.Parameter part e = e
-piece-is lengths t _ part e = refl
+piece-is lengths t p part h = grind arith
 
 chain-is : (lengths : Lengths) (chain : Chain) (which : End) (c : Command) (tail : List ℕ) → (if has_command command.Reset (command_byte c ∷ tail) then fresh else chain_with lengths chain which (command_byte c ∷ tail))
     ≡ chain_after (phase_of c) chain which (frame_of (length_of lengths which) (command_byte c ∷ tail))
-chain-is lengths chain end_name.Master command.Reset tail = refl
-chain-is lengths chain end_name.Slave command.Reset tail = refl
-chain-is lengths chain _ _ tail = refl
+chain-is lengths chain which c tail = grind arith
 
 chain-more : (lengths : Lengths) (t : List Noted) (which : End) (x : Noted) → x.from ≡ which → IsFrom lengths t which x → chain_of lengths (x ∷ t) ≡ chain_after (phase_due lengths t) (chain_of lengths t) which (frame_of (length_of lengths which) x.frame)
 chain-more lengths t which x from h =
@@ -141,16 +70,10 @@ chain-more lengths t which x from h =
 
 payload-mine : (lengths : Lengths) (phase : State) (x : Noted) (t : List Noted) → x.from ≡ end_name.Master → payload_from lengths end_name.Master phase (x ∷ t)
     ≡ (if same_phase phase (phase_of_frame x.frame) then payload_from lengths end_name.Master phase t ++ take (piece_len lengths) (frame_of lengths.master x.frame).load else payload_from lengths end_name.Master phase t)
-payload-mine lengths phase x t from =
-    payload_grows lengths end_name.Master phase x t
-    ∙ ap (λ (mine : Bool). if mine then (if same_phase phase (phase_of_frame x.frame) then payload_from lengths end_name.Master phase t ++ take (piece_len lengths) (frame_of lengths.master x.frame).load else payload_from lengths end_name.Master phase t) else payload_from lengths end_name.Master phase t)
-    (ap (same_end end_name.Master) from)
+payload-mine lengths phase x t h = grind arith
 
 payload-theirs : (lengths : Lengths) (phase : State) (x : Noted) (t : List Noted) → x.from ≡ end_name.Slave → payload_from lengths end_name.Master phase (x ∷ t) ≡ payload_from lengths end_name.Master phase t
-payload-theirs lengths phase x t from =
-    payload_grows lengths end_name.Master phase x t
-    ∙ ap (λ (mine : Bool). if mine then (if same_phase phase (phase_of_frame x.frame) then payload_from lengths end_name.Master phase t ++ take (piece_len lengths) (frame_of lengths.master x.frame).load else payload_from lengths end_name.Master phase t) else payload_from lengths end_name.Master phase t)
-    (ap (same_end end_name.Master) from)
+payload-theirs lengths phase x t h = grind arith
 
 frames-mine : (x : Noted) (t : List Noted) → x.from ≡ end_name.Master → frames_from end_name.Master (x ∷ t) ≡ x.frame ∷ frames_from end_name.Master t
 frames-mine x t from = ap (λ (e : End). if same_end end_name.Master e then x.frame ∷ frames_from end_name.Master t else frames_from end_name.Master t) from
@@ -182,8 +105,7 @@ master-kept lengths x t from h =
     (chain-more lengths t end_name.Master x from h)
 
 own-phase : (p : State) → same_phase p p ≡ true
-own-phase state.Reset = refl
-own-phase _ = refl
+own-phase p = grind arith
 
 -- the bytes of the payload in hand, with the piece that is answered
 came-long : (lengths : Lengths) (y : Noted) (t : List Noted) (p : State) → IsFrom lengths t end_name.Master y → y.from ≡ end_name.Master → phase_of_frame y.frame ≡ p → rank state.Reset < rank p → rank p < rank state.Data
@@ -193,60 +115,24 @@ came-long lengths y t p h from of-phase some few =
     ∙ (piece_long lengths end_name.Master y (payload_from lengths end_name.Master p t) (same_phase p (phase_of_frame y.frame)) (whole lengths.master y.frame lengths.valid_master h.long).load
     ∙ ap (λ (b : Bool). length (payload_from lengths end_name.Master p t) + (if b then piece_len lengths else 0)) (ap (same_phase p) of-phase ∙ own-phase p))
 
-whole-parameters : (u : List ℕ) (n : ℕ) (b : Bool) → length u ≡ n → nat_le 6 n ≡ b → has_all (if b then Some (6 + number_at 4 u) else None) n ≡ (b && nat_le (6 + number_at 4 (take 6 u)) n)
-whole-parameters u n true e h = ap₂ (λ (x y : ℕ). nat_le (6 + (x + 256 * y)) n) (sym (get_or-take 6 u 4 0 (omega arith))) (sym (get_or-take 6 u 5 0 (omega arith)))
-whole-parameters u n false e h = refl
-
--- whether the payload in hand is whole
-whole-is : (p : State) (u : List ℕ) (n : ℕ) → length u ≡ n → words.whole profile.One p u ≡ has_come p n (take 6 u)
-whole-is state.Session u n e = ap (nat_le 2) e
-whole-is state.Connection u n e = ap (nat_le 4) e
-whole-is state.Parameter u n e =
-    ap (λ (m : ℕ). has_all (if nat_le 6 m then Some (6 + number_at 4 u) else None) m) e ∙ whole-parameters u n (nat_le 6 n) e refl
-whole-is _ u n e = refl
-
-not-parameter : (p : State) (n : ℕ) (u v : List ℕ) → (p ≡ state.Parameter → u ≡ v) → has_come p n u ≡ has_come p n v
-not-parameter state.Parameter n u v h = ap (has_come state.Parameter n) (h refl)
-not-parameter _ n u v h = refl
-
 goes-by : (p : State) (u : List ℕ) (n : ℕ) (v : List ℕ) → (rank state.Reset < rank p → rank p < rank state.Data → length u ≡ n) → (p ≡ state.Parameter → take 6 u ≡ v) → goes_on p u ≡ phase_when p n v
-goes-by state.Session u n v long same = ap (λ (b : Bool). if b then state.Connection else state.Session) (whole-is state.Session u n (long (omega arith) (omega arith)))
-goes-by state.Connection u n v long same = ap (λ (b : Bool). if b then state.Parameter else state.Connection) (whole-is state.Connection u n (long (omega arith) (omega arith)))
-goes-by state.Parameter u n v long same =
-    ap (λ (b : Bool). if b then state.Data else state.Parameter) (whole-is state.Parameter u n (long (omega arith) (omega arith)) ∙ ap (has_come state.Parameter n) (same refl))
-goes-by _ u n v long same = refl
-
--- where the next piece stands, of the same payload or of the next
-next-place : (b : Bool) (next now : State) (place : State → ℕ) (n : ℕ) → place next ≡ 0 → place now ≡ n → place (if b then next else now) ≡ (if b then 0 else n)
-next-place true next now place n h k = h
-next-place false next now place n h k = k
+goes-by p u n v h k = search rules
 
 placed-by : (p : State) (place : State → ℕ) (n : ℕ) (v : List ℕ) → (rank state.Reset < rank p → rank p < rank state.Data → place p ≡ n) → ((q : State) → rank p < rank q → place q ≡ 0) → place state.Data ≡ 0 → place (phase_when p n v) ≡ place_when p n v
-placed-by state.Reset place n v here later data-none = later state.Session (omega arith)
-placed-by state.Session place n v here later data-none = next-place (has_come state.Session n v) state.Connection state.Session place n (later state.Connection (omega arith)) (here (omega arith) (omega arith))
-placed-by state.Connection place n v here later data-none = next-place (has_come state.Connection n v) state.Parameter state.Connection place n (later state.Parameter (omega arith)) (here (omega arith) (omega arith))
-placed-by state.Parameter place n v here later data-none = next-place (has_come state.Parameter n v) state.Data state.Parameter place n data-none (here (omega arith) (omega arith))
-placed-by state.Data place n v here later data-none = data-none
+placed-by p place n v h k l = grind arith
 
 -- in a handshake the place of the master's next piece is the length of what came
 master-place : (lengths : Lengths) (t : List Noted) (p : State) → rank state.Reset < rank p → rank p < rank state.Data → piece_place lengths t p end_name.Master ≡ length (payload_from lengths end_name.Master p t)
-master-place lengths t state.Reset some few = absurd (omega (arith, some))
-master-place lengths t state.Data some few = absurd (omega (arith, few))
-master-place lengths t _ some few = refl
+master-place lengths t p h k = grind arith
 
 slave-place : (lengths : Lengths) (t : List Noted) (p : State) → rank state.Reset < rank p → rank p < rank state.Data → piece_place lengths t p end_name.Slave ≡ length (payload_from lengths end_name.Master p (drop 1 t))
-slave-place lengths t state.Reset some few = absurd (omega (arith, some))
-slave-place lengths t state.Data some few = absurd (omega (arith, few))
-slave-place lengths t _ some few = refl
+slave-place lengths t p h k = grind arith
 
 none-placed : (lengths : Lengths) (t : List Noted) (q : State) → payload_from lengths end_name.Master q t ≡ [] → piece_place lengths t q end_name.Master ≡ 0
-none-placed lengths t state.Reset e = refl
-none-placed lengths t state.Data e = refl
-none-placed lengths t _ e = ap (length {A = ℕ}) e
+none-placed lengths t q h = grind arith
 
 none-asked : (lengths : Lengths) (t : List Noted) (p : State) → piece_asked lengths t p end_name.Master ≡ []
-none-asked lengths t state.Reset = refl
-none-asked lengths t _ = refl
+none-asked lengths t p = grind arith
 
 -- after an answer of the slave to the newest of these frames
 slave-kept : (lengths : Lengths) (x y : Noted) (t : List Noted) → x.from ≡ end_name.Slave → IsFrom lengths (y ∷ t) end_name.Slave x → y.from ≡ end_name.Master → IsFrom lengths t end_name.Master y → NoLater lengths (y ∷ t)
@@ -257,11 +143,7 @@ slave-kept lengths x y t from h y-from y-is none =
     let p : State = phase_due lengths (y ∷ t) in
     let of-phase : phase_of_frame y.frame ≡ p = ap (λ (e : End). phase_from lengths (y ∷ t) e (phase_of_frame y.frame)) (sym h.turn_is) in
     let theirs : (phase : State) → payload_from lengths end_name.Master phase (x ∷ y ∷ t) ≡ payload_from lengths end_name.Master phase (y ∷ t) = λ phase. payload-theirs lengths phase x (y ∷ t) from in
-    let long : rank state.Reset < rank p → rank p < rank state.Data → length (payload_from lengths end_name.Master p (x ∷ y ∷ t)) ≡ k.place + c =
-    λ some few.
-    ap (length {A = ℕ}) (theirs p)
-    ∙ (came-long lengths y t p y-is y-from of-phase some few
-    ∙ ap (λ (n : ℕ). n + c) (sym (ap (λ (e : End). piece_place lengths (y ∷ t) p e) h.turn_is ∙ slave-place lengths (y ∷ t) p some few))) in
+    let long : rank state.Reset < rank p → rank p < rank state.Data → length (payload_from lengths end_name.Master p (x ∷ y ∷ t)) ≡ k.place + c = search (rules, came-long, piece_place, slave-place) in
     let six : p ≡ state.Parameter → take 6 (payload_from lengths end_name.Master p (x ∷ y ∷ t)) ≡ k.parameters = λ is. ap (take 6) (theirs p) ∙ ap (λ (p : State). take 6 (payload_from lengths end_name.Master p (y ∷ t))) is in
     let due : phase_due lengths (x ∷ y ∷ t) ≡ phase_when p (k.place + c) k.parameters = due-after lengths (y ∷ t) end_name.Slave x h ∙ goes-by p (payload_from lengths end_name.Master p (x ∷ y ∷ t)) (k.place + c) k.parameters long six in
     let turned-to : turn (x ∷ y ∷ t) ≡ end_name.Master = ap peer h.turn_is in
@@ -275,8 +157,7 @@ slave-kept lengths x y t from h y-from y-is none =
     (chain-more lengths (y ∷ t) end_name.Slave x from h)
 
 peer-slave : (e : End) → peer e ≡ end_name.Slave → e ≡ end_name.Master
-peer-slave end_name.Master h = refl
-peer-slave end_name.Slave h = cc
+peer-slave e h = grind arith
 
 kept-at : (lengths : Lengths) (x : Noted) (t : List Noted) (at : End) → turn t ≡ at → x.from ≡ at → IsFrom lengths t at x → AllInTurn lengths t → before lengths (x ∷ t) ≡ kept_from (piece_len lengths) (before lengths t) at (frame_of (length_of lengths at) x.frame)
 kept-at lengths x t end_name.Master turned from h all = master-kept lengths x t from h

@@ -1,22 +1,13 @@
 -- The world over the schedule of a trace: one frame for each of the trace, each from the end whose turn it is, and
 -- after them the last is on its way.
-use Rattle.trace_diag.proofs.Common.{Accepts, AtIdle, End, Enters, Entry, Event, IsProperEvent, Lengths, MasterSettings, Noted, OfMaster, Partner, answer_events, command_in, deed_of, first_tick, frame_of, going_on, length_of, on_expiry, partner, peer, read_schedule, reset_frame, sent_in, step, turn, world, world_after, world_on}
-use Rattle.std.proofs.Common.{◌≡◌, ℕ, suc, ◌-◌, ◌<◌, nat_le, List, [], ◌∷◌, length, replicate, Bool, true, Option, Some, refl, sym, ap, subst, ◌∙◌, arith, if◌then◌else◌}
-use Rattle.std.proofs.lemmas.Bool.Decides.{nat_tests}
-use Rattle.std.proofs.lemmas.List.{length-append, length-replicate}
+use Rattle.trace_diag.proofs.Common.{Accepts, AtIdle, End, Enters, Entry, Event, IsProperEvent, MasterSettings, Noted, OfMaster, Partner, answer_events, command_in, first_tick, frame_of, going_on, length-append, length-replicate, length_of, partner, peer, read_schedule, reset_frame, sent_in, step, turn, world, world_after, world_on}
+use Rattle.std.proofs.Common.{◌≡◌, ℕ, suc, ◌-◌, ◌<◌, nat_le, List, [], ◌∷◌, length, replicate, true, Option, Some, refl, sym, ap, subst, ◌∙◌, arith, rules}
 use Rattle.fsoe_base.specs.declared.command.End.TheVariants as end_name
-use Rattle.fsoe_base.specs.declared.command.State.TheVariants as state
 use Rattle.param_load.specs.declared.entry.Move.TheVariants as move
 use Rattle.schedule_file.specs.declared.event.Event.TheVariants as event
-use Rattle.fsoe_base.specs.Did.{nothing}
 use Rattle.end_model.specs.Entries.{entry_of}
 use Rattle.exchange_model.proofs.Honest.OnItsWay.{fresh}
 use Rattle.trace_diag.proofs.Running.{Answers, IsOn, answer_on}
-
--- each frame has as many data bytes as its end sends, so that a put of them is proper
-abbrev pub Fitting : Lengths → List Noted → Type 0
-Fitting lengths [] = Unit {0}
-Fitting lengths (x ∷ t) = (length (frame_of (length_of lengths (turn t)) x.frame).load ≡ length_of lengths (turn t)) × Fitting lengths t
 
 -- the world over the schedule of a trace with a frame: each event has its entry, and the last frame is on its way
 pub record Runs (ms : MasterSettings) (r : Partner ms) (t : List Noted) : Type 0 where
@@ -29,16 +20,14 @@ pub record SendsOneMore (ms : MasterSettings) (r : Partner ms) (x : Noted) (t : 
   pub sent : sent_in (world ms (partner ms r) (read_schedule ms.lengths (x ∷ t))) ≡ record { from = turn t; frame = frame } ∷ sent_in (world ms (partner ms r) (read_schedule ms.lengths t))
 
 ticks : (w : ℕ) → 0 < w → nat_le w (suc (w - 1)) ≡ true
-ticks w h = grind (arith, nat_tests)
+ticks w h = grind arith
 
 idle : (ms : MasterSettings) (r : Partner ms) → AtIdle ms r []
 idle ms r = record { outside = record { master = fresh; slave = fresh; no_id = refl; phase = refl; none_joined = λ phase. refl }; master_count = refl; slave_count = refl }
 
 -- at the master's first tick its Reset frame is sent
 first-entry : (ms : MasterSettings) (x : Entry) → entry_of (OfMaster ms) [] (step (OfMaster ms) [] move.Tick) ≡ x → sent_in (x ∷ []) ≡ record { from = end_name.Master; frame = reset_frame 0 ms.lengths.master } ∷ []
-first-entry ms x e =
-    ap (λ (x : Entry). sent_in (x ∷ [])) (sym e)
-    ∙ ap (λ (reaches : Bool). sent_in (entry_of (OfMaster ms) [] (deed_of (OfMaster ms) [] move.Tick (if reaches then on_expiry state.Reset (OfMaster ms) else nothing)) ∷ [])) (ticks ms.watchdog ms.some_watchdog)
+first-entry ms x h = search rules
 
 some-is : (a b : Entry) → Some a ≡ Some b → a ≡ b
 some-is a b e = cc
@@ -49,17 +38,13 @@ first_runs ms r x =
     let y : Entry = first.0 in
     let enters : Enters ms r [] (event.Tick end_name.Master) y = first.1 in
     let goes : world ms (partner ms r) (event.Tick end_name.Master ∷ []) ≡ y ∷ [] = ap (λ (e : Option Entry). going_on [] e (world_after ms (partner ms r) [])) enters.is in (
-      record {
-        whole = ap (length {A = Entry}) goes;
-        on = subst (λ (w : List Entry). IsOn ms r w end_name.Slave) (sym goes) (record { is_world = (enters.follows, tt); stage = first.3 });
-      },
+      assumption (ap (length {A = Entry}) goes, subst (λ (w : List Entry). IsOn ms r w end_name.Slave) (sym goes) (record { is_world = (enters.follows, tt); stage = first.3 })),
       ap sent_in goes ∙ first-entry ms y (some-is (entry_of (OfMaster ms) [] (step (OfMaster ms) [] move.Tick)) y enters.is),
     )
 
 -- a put of as many bytes as an end sends is proper
 proper : (ms : MasterSettings) (r : Partner ms) (at : End) (load : List ℕ) → length load ≡ length_of ms.lengths at → IsProperEvent ms (partner ms r) (event.Put at load)
-proper ms r end_name.Master load h = h
-proper ms r end_name.Slave load h = h
+proper ms r at load h = grind arith
 
 -- the events before one more frame, which an end answers the frame on its way with
 pub record Steps (ms : MasterSettings) (r : Partner ms) (x : Noted) (t : List Noted) : Type 0 where
@@ -89,30 +74,3 @@ next_runs ms r x y t accepts fits runs =
       },
       record { frame = reaches.entry.sent; sent = ap sent_in s.goes ∙ reaches.sent },
     )
-
--- so it runs over each trace with a frame
-pub all_run : (ms : MasterSettings) (r : Partner ms) (x : Noted) (t : List Noted) → Accepts ms r → Fitting ms.lengths (x ∷ t) → Runs ms r (x ∷ t)
-all_run ms r x [] accepts fits = (first_runs ms r x).0
-all_run ms r x (y ∷ t) accepts fits = (next_runs ms r x y t accepts fits.0 (all_run ms r y t accepts fits.1)).0
-
--- the end of a frame, and the frames before it, where these are the frames that were sent
-pub record IsLast (ms : MasterSettings) (r : Partner ms) (x : Noted) (t : List Noted) : Type 0 where
-  pub from_is : x.from ≡ turn t
-  pub before : sent_in (world ms (partner ms r) (read_schedule ms.lengths t)) ≡ t
-
-last-of : (a x : Noted) (rest t : List Noted) → a ∷ rest ≡ x ∷ t → (a ≡ x) × (rest ≡ t)
-last-of a x rest t e = (cc, cc)
-
--- where the ends send a whole trace, they send each of its beginnings: prefixes need no settings of their own
-pub sent_back : (ms : MasterSettings) (r : Partner ms) (x : Noted) (t : List Noted) → Accepts ms r → Fitting ms.lengths (x ∷ t) → sent_in (world ms (partner ms r) (read_schedule ms.lengths (x ∷ t))) ≡ x ∷ t → IsLast ms r x t
-sent_back ms r x [] accepts fits e =
-    let both = last-of (record { from = end_name.Master; frame = reset_frame 0 ms.lengths.master }) x [] [] (sym (first_runs ms r x).1 ∙ e) in
-    record { from_is = ap (λ (x : Noted). x.from) (sym both.0); before = refl }
-sent_back ms r x (y ∷ t) accepts fits e =
-    let more : SendsOneMore ms r x (y ∷ t) = (next_runs ms r x y t accepts fits.0 (all_run ms r y t accepts fits.1)).1 in
-    let both = last-of (record { from = turn (y ∷ t); frame = more.frame }) x (sent_in (world ms (partner ms r) (read_schedule ms.lengths (y ∷ t)))) (y ∷ t) (sym more.sent ∙ e) in
-    record { from_is = ap (λ (x : Noted). x.from) (sym both.0); before = both.1 }
-
--- the first frame that is sent is the master's Reset frame
-pub first_sent : (ms : MasterSettings) (r : Partner ms) (x : Noted) → sent_in (world ms (partner ms r) (read_schedule ms.lengths (x ∷ []))) ≡ x ∷ [] → x ≡ record { from = end_name.Master; frame = reset_frame 0 ms.lengths.master }
-first_sent ms r x e = sym (last-of (record { from = end_name.Master; frame = reset_frame 0 ms.lengths.master }) x [] [] (sym (first_runs ms r x).1 ∙ e)).0

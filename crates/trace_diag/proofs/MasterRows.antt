@@ -1,7 +1,6 @@
 -- A frame that carries what a master's carries in its turn, with the CRCs of its chain, is as it must be.
-use Rattle.trace_diag.proofs.Common.{Before, Carries, Command, Frame, MasterSettings, OfMaster, Profile, State, all_zero, command_byte, command_of, conn_after, conn_holds, connection_payload, crcs_due, first_differing, first_failing, front, is_of, is_reset, is_slave_conn, padded, parameter_payload, payload_holds, phase_of, piece, piece_fits, piece_holds, sealed_by, session_payload, some_width, width, wrong_byte, wrong_in_piece}
-use Rattle.std.proofs.Common.{◌≡◌, ℕ, zero, suc, ◌*◌, ◌<◌, ◌≤◌, ◌==◌, List, [], ◌∷◌, ◌++◌, ◌&&◌, length, take, replicate, Bool, true, false, not, Option, None, refl, sym, ap, ap₂, subst, ◌∙◌, arith, if◌then◌else◌}
-use Rattle.std.proofs.lemmas.Bool.{eqb-true, eq-eqb, ne_eqb}
+use Rattle.trace_diag.proofs.Common.{Before, Carries, Command, Frame, MasterSettings, OfMaster, Profile, State, all_zero, command_byte, command_of, conn_after, conn_holds, connection_payload, crcs_due, eqb-true, first_differing, front, is_of, is_reset, padded, parameter_payload, payload_holds, phase_of, piece, piece_fits, piece_holds, sealed_by, session_payload, some_width, width, wrong_byte, wrong_in_piece}
+use Rattle.std.proofs.Common.{◌≡◌, ℕ, suc, ◌*◌, ◌≤◌, ◌==◌, List, [], ◌∷◌, ◌++◌, ◌&&◌, length, take, replicate, Bool, true, false, Option, None, refl, sym, ap, ap₂, subst, ◌∙◌, arith, if◌then◌else◌, rules}
 use Rattle.fsoe_base.specs.declared.command.Command.TheVariants as command
 use Rattle.fsoe_base.specs.declared.command.End.TheVariants as end_name
 use Rattle.fsoe_base.specs.declared.command.State.TheVariants as state
@@ -30,37 +29,26 @@ pub record IsPlain (ms : MasterSettings) : Type 0 where
   pub one : ms.profile ≡ profile.One
   pub most : length ms.app ≤ 512
 
-pub known : (conn b : ℕ) → 0 < conn → is_slave_conn (conn_after conn b) conn ≡ true
-known conn zero h = ap not (ne_eqb conn 0 (λ e. omega (arith, h, e)))
-known conn (suc b) h = eq-eqb conn conn refl
-
 -- zeros
 pub zeros_are : (bytes : List ℕ) → all_zero bytes ≡ true → bytes ≡ replicate (length bytes) 0
 zeros_are [] h = refl
 zeros_are (b ∷ bytes) h = let both = split (b == 0) (all_zero bytes) h in ap₂ (λ (x : ℕ) (xs : List ℕ). x ∷ xs) (eqb-true b 0 both.0) (zeros_are bytes both.1)
   where
     split : (s t : Bool) → (s && t) ≡ true → (s ≡ true) × (t ≡ true)
-    split true t h = (refl, h)
-    split false t h = absurd cc
+    split s t h = grind arith
 
 -- the command is one of its phase
 pub of_phase : (c : Command) → is_of (phase_of c) (command_of (command_byte c)) ≡ true
-of_phase command.Reset = refl
-of_phase _ = refl
+of_phase c = grind arith
 
 -- the connection id holds
 conn-right : (ms : MasterSettings) (id : ℕ) (c : Command) (a b d : ℕ) (f : Frame) → Carries ms id c a b d f.conn f.load → conn_holds (phase_of c) (conn_after ms.conn b) f.conn ≡ true
-conn-right ms id command.Reset a b d f k = absurd k
-conn-right ms id command.Session a b d f k = eq-eqb f.conn 0 k.0
-conn-right ms id command.ProcessData a b d f k = ap (is_slave_conn (conn_after ms.conn b)) k ∙ known ms.conn b ms.some_conn
-conn-right ms id _ a b d f k = ap (is_slave_conn (conn_after ms.conn b)) k.0 ∙ known ms.conn b ms.some_conn
+conn-right ms id c a b d f h = search rules
 
 -- a frame that carries the piece of a payload after some, in this phase
 in-piece : (w : ℕ) (k : Before) (phase : State) (f : Frame) (n : ℕ) (load : List ℕ) → k.place ≡ n * w → f.load ≡ load
     → AllHold (piece_holds w (payload_holds phase f.conn (k.parameters ++ take w load)) (n * w)) 0 load → wrong_in_piece w k phase f ≡ None
-in-piece w k phase f n load place is all =
-    ap₂ (λ (from : ℕ) (bytes : List ℕ). first_failing (piece_holds w (payload_holds phase f.conn (k.parameters ++ take w bytes)) from) 0 bytes) place is
-    ∙ all_hold (piece_holds w (payload_holds phase f.conn (k.parameters ++ take w load)) (n * w)) 0 load all
+in-piece w k phase f n load h l m = search (rules, all_hold)
 
 -- no data byte is wrong
 bytes-right : (ms : MasterSettings) (id : ℕ) (k : Before) (c : Command) (a b d : ℕ) (f : Frame) → IsPlain ms → IsDue ms k c a b d → f.cmd ≡ command_byte c → Carries ms id c a b d f.conn f.load
@@ -92,8 +80,7 @@ bytes-right ms id k command.ProcessData a b d f plain due cmd carries = ap (λ (
 
 -- the CRCs are those of the chain
 crcs-right : (k : Before) (c : Command) (f : Frame) → is_reset c ≡ false → f.crcs ≡ (sealed_by k.chain f.conn f.cmd f.load).crcs → f.crcs ≡ crcs_due (phase_of c) k.chain end_name.Master f
-crcs-right k command.Reset f session e = absurd cc
-crcs-right k _ f session e = e
+crcs-right k c f h l = grind arith
 
 pub master_right : (ms : MasterSettings) (id : ℕ) (k : Before) (c : Command) (a b d : ℕ) (f : Frame) → is_reset c ≡ false → IsPlain ms → IsDue ms k c a b d → f.cmd ≡ command_byte c
     → Carries ms id c a b d f.conn f.load → f.crcs ≡ (sealed_by k.chain f.conn f.cmd f.load).crcs → IsRight (width ms) k end_name.Master f

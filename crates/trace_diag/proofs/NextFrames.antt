@@ -1,6 +1,6 @@
 -- The frame that the end in turn sends after a trace: a Reset frame, or the next one of its session.
-use Rattle.trace_diag.proofs.Common.{Both, Carries, Chain, Chained, Command, End, FirstConnection, InData, InParameter, IsDown, IsUp, MasterSettings, MoreConnection, MoreSession, Noted, Partner, Replies, Spot, Starts, State, Turn, before, chain_of, command_byte, conn_after, connection_payload, connection_pieces, count_in, frame_len, frame_of, front, front_long, goes_on, is_reset, length_of, more, newest_crc, newest_piece, parameter_payload, parameter_pieces, payload_from, phase_due, phase_from, phase_of, phase_of_frame, phase_sent, piece_asked, piece_fits, piece_place, reset_frame, same_phase, sealed_by, session_payload, session_pieces, slave_of, some_connection, turn, turned, width}
-use Rattle.std.proofs.Common.{◌≡◌, ℕ, suc, ◌-◌, ◌*◌, ◌<◌, List, [], ◌∷◌, length, take, Bool, true, false, refl, sym, ap, ap₂, subst, ◌∙◌, arith, if◌then◌else◌}
+use Rattle.trace_diag.proofs.Common.{Both, Carries, Chain, Chained, Command, End, IsDown, IsUp, MasterSettings, Noted, Partner, Replies, Spot, State, Turn, before, chain_of, command_byte, conn_after, connection_payload, connection_pieces, count_in, frame_len, frame_of, front, front_long, goes_on, is_reset, length_of, more, newest_crc, newest_piece, parameter_payload, parameter_pieces, payload_from, phase_due, phase_from, phase_of, phase_of_frame, phase_sent, piece_asked, piece_fits, piece_place, reset_frame, same_phase, sealed_by, session_payload, session_pieces, slave_of, some_connection, turn, turned, width}
+use Rattle.std.proofs.Common.{◌≡◌, ℕ, suc, ◌-◌, ◌*◌, ◌<◌, List, ◌∷◌, length, take, Bool, false, refl, sym, ap, ap₂, subst, ◌∙◌, arith, if◌then◌else◌, rules}
 use Rattle.fsoe_base.specs.declared.command.Command.TheVariants as command
 use Rattle.fsoe_base.specs.declared.command.End.TheVariants as end_name
 use Rattle.fsoe_base.specs.declared.command.State.TheVariants as state
@@ -68,26 +68,16 @@ pub data NextFrame (ms : MasterSettings) (t : List Noted) (g : List ℕ) (taken 
   SlaveNext : FromSlave ms t g taken → NextFrame ms t g taken end_name.Slave
 
 by-one : (b : Bool) (n m : ℕ) → (if b then suc n else n) ≡ (if b then suc m else m) → n ≡ m
-by-one true n m e = omega (arith, e)
-by-one false n m e = e
+by-one b n m h = grind arith
 
 placed-at : (ms : MasterSettings) (t : List Noted) (c : Command) (a b d : ℕ) → HasCome ms t c a b d → IsPlaced ms c a b d (piece_place ms.lengths t (phase_of c) end_name.Master)
-placed-at ms t command.Session a b d h = ap (length {A = ℕ}) h ∙ front_long (session_payload ms.nonce ms.profile) (width ms) a
-placed-at ms t command.Connection a b d h = ap (length {A = ℕ}) h ∙ front_long (connection_payload ms.conn ms.address) (width ms) b
-placed-at ms t command.Parameter a b d h = ap (length {A = ℕ}) h ∙ front_long (parameter_payload ms.watchdog ms.profile ms.app) (width ms) d
-placed-at ms t _ a b d h = tt
+placed-at ms t c a b d h = search (rules, front_long)
 
 turn-past : (n n' n'' : ℕ) (c : Command) (p : State) (a b d k : ℕ) → 0 < n' → Turn n n' n'' c p a b d k → IsPast (phase_of c) b
-turn-past n n' n'' c p a b d k some Starts = tt
-turn-past n n' n'' c p a b d k some (MoreSession _ h) = tt
-turn-past n n' n'' c p a b d k some FirstConnection = tt
-turn-past n n' n'' c p a b d k some (MoreConnection _ _ h e) = tt
-turn-past n n' n'' c p a b d k some _ = some
+turn-past n n' n'' c p a b d k h l = grind arith
 
 spot-past : (n n' n'' : ℕ) (p : State) (a b d m : ℕ) → 0 < n' → Spot n n' n'' p a b d m → IsPast p b
-spot-past n n' n'' p a b d m some (InParameter _ _ h e) = some
-spot-past n n' n'' p a b d m some (InData _ h) = some
-spot-past n n' n'' p a b d m some _ = tt
+spot-past n n' n'' p a b d m h k = grind arith
 
 -- the master's frame that is on its way is the next one
 pub from_down : (ms : MasterSettings) (r : Partner ms) (y : Noted) (t : List Noted) (x x' : Both) (h : IsDown ms r x') → IsPlain ms → h.id ≡ ms.nonce → turn (y ∷ t) ≡ end_name.Master → Tells ms (y ∷ t) end_name.Master x
@@ -156,27 +146,13 @@ from_down ms r y t x x' h plain id turned-to told more-sent same phase = record 
         ∙ (goes-from h.p ∙ due_next ms h.command h.p h.a h.b h.d h.k plain h.turn)
 
 some-sent : (frames : List (List ℕ)) → phase_sent frames ≡ state.Session → count_in state.Session frames ≡ suc (count_in state.Session frames - 1)
-some-sent [] e = absurd (none e)
-  where
-    none : state.Reset ≡ state.Session → ⊥
-    none e = cc
-some-sent (f ∷ frames) e =
-    let one : count_in state.Session (f ∷ frames) ≡ suc (count_in state.Session frames) = ap (λ (p : State). if same_phase state.Session p then suc (count_in state.Session frames) else count_in state.Session frames) e in
-    omega (arith, one)
+some-sent frames h = grind arith
 
 some-connected : (frames : List (List ℕ)) → phase_sent frames ≡ state.Connection → 0 < count_in state.Connection frames
-some-connected [] e = absurd (none e)
-  where
-    none : state.Reset ≡ state.Connection → ⊥
-    none e = cc
-some-connected (f ∷ frames) e =
-    let one : count_in state.Connection (f ∷ frames) ≡ suc (count_in state.Connection frames) = ap (λ (p : State). if same_phase state.Connection p then suc (count_in state.Connection frames) else count_in state.Connection frames) e in
-    omega (arith, one)
+some-connected frames h = grind arith
 
 in-phase : (ms : MasterSettings) (t : List Noted) (c : Command) (b d : ℕ) → RepeatsIn ms (phase_of c) b d (newest_piece ms.lengths t) → Repeats ms c b d (piece_asked ms.lengths t (phase_of c) end_name.Slave)
-in-phase ms t command.Connection b d h = h
-in-phase ms t command.Parameter b d h = h
-in-phase ms t _ b d h = tt
+in-phase ms t c b d h = grind arith
 
 -- the slave's answer that is on its way is the next one
 pub from_up : (ms : MasterSettings) (r : Partner ms) (y : Noted) (t : List Noted) (x x' : Both) (h : IsUp ms r x') → turn (y ∷ t) ≡ end_name.Slave → Tells ms (y ∷ t) end_name.Slave x

@@ -1,7 +1,6 @@
 -- The rows on data bytes and CRCs: where none applies.
-use Rattle.trace_diag.proofs.Common.{first_differing, first_failing}
-use Rattle.std.proofs.Common.{◌≡◌, ℕ, suc, List, [], ◌∷◌, length, Bool, true, false, Option, Some, None, refl, sym, ap, ap₂, ◌∙◌, arith, if◌then◌else◌, inl, inr}
-use Rattle.std.proofs.lemmas.Bool.{cases_eq, eq-eqb, ne_eqb}
+use Rattle.trace_diag.proofs.Common.{cases_eq, eq-eqb, first_differing, first_failing, ne_eqb}
+use Rattle.std.proofs.Common.{◌≡◌, ℕ, suc, List, [], ◌∷◌, length, Bool, true, Option, Some, None, refl, sym, ap, ap₂, ◌∙◌, arith, if◌then◌else◌, inl, inr}
 
 -- a list has the same numbers as another of its length exactly where none differs
 pub none_differs : (i : ℕ) (xs ys : List ℕ) → length xs ≡ length ys → first_differing i xs ys ≡ None → xs ≡ ys
@@ -24,8 +23,7 @@ AllHold holds p (b ∷ bytes) = (holds p b ≡ true) × AllHold holds (suc p) by
 
 -- that is so exactly where none is the first that fails
 holds-or : (holds : Bool) (a : Option ℕ) (p : ℕ) → (if holds then a else Some p) ≡ None → (holds ≡ true) × (a ≡ None)
-holds-or true a p e = (refl, e)
-holds-or false a p e = absurd cc
+holds-or holds a p h = grind arith
 
 pub none_fails : (holds : ℕ → ℕ → Bool) (p : ℕ) (bytes : List ℕ) → first_failing holds p bytes ≡ None → AllHold holds p bytes
 none_fails holds p [] e = tt

@@ -1,12 +1,7 @@
 -- The bytes of the payloads of a trace: they are bytes, each frame of a phase brings as many as a piece has, and what
 -- came stays at the beginning.
-use Rattle.trace_diag.proofs.Common.{AreBytes, AreOfBytes, End, Lengths, Noted, State, carried, conn_in, first_conn, frame_len, frame_of, frames_from, has_length, is_length, length_of, payload_from, phase_of_frame, piece_len, same_end, same_phase, whole}
-use Rattle.std.proofs.Common.{◌≡◌, ◌&&◌, ℕ, zero, suc, ◌<◌, ◌≤◌, List, [], ◌∷◌, ◌++◌, length, take, Bool, true, false, Option, Some, None, IsTrue, refl, sym, ap, subst, ◌∙◌, arith, inl, inr, if◌then◌else◌}
-use Rattle.std.proofs.lemmas.Bool.{cases_lt, eqb-true}
-use Rattle.std.proofs.lemmas.List.{append-nil, append_assoc, get_or-take, get_or_append_left, get_or_past, length-append, length-take}
-use Rattle.std.proofs.lemmas.List.Elements.{All-head, All-tail}
-use Rattle.std.specs.List.{list_all}
-use Rattle.std.specs.Option.{option_or}
+use Rattle.trace_diag.proofs.Common.{All-head, All-tail, AreBytes, AreOfBytes, End, Lengths, Noted, State, append-nil, common_steps, eqb-true, first_conn, frame_len, frame_of, frames_from, get_or_append_left, has_length, is_length, length-append, length_of, list_all, payload_from, phase_of_frame, piece_len, same_end, same_phase}
+use Rattle.std.proofs.Common.{◌≡◌, ◌&&◌, ℕ, suc, ◌<◌, ◌≤◌, List, [], ◌∷◌, ◌++◌, length, take, Bool, true, Some, IsTrue, refl, sym, ap, subst, ◌∙◌, arith, if◌then◌else◌, rules}
 use Rattle.fsoe_base.specs.declared.command.End.TheVariants as end_name
 use Rattle.seq_chain.proofs.Received.{received_load}
 use Rattle.trace_diag.proofs.PieceRows.{at}
@@ -17,8 +12,7 @@ AllLong lengths [] = Unit {0}
 AllLong lengths (x ∷ t) = (length x.frame ≡ frame_len (length_of lengths x.from)) × AllLong lengths t
 
 both-true : (a b : Bool) → (a && b) ≡ true → (a ≡ true) × (b ≡ true)
-both-true true b e = (refl, e)
-both-true false b e = absurd (cc e)
+both-true a b h = grind arith
 
 pub all_long : (lengths : Lengths) (t : List Noted) → IsTrue (list_all (has_length lengths) t) → AllLong lengths t
 all_long lengths [] h = tt
@@ -27,29 +21,18 @@ all_long lengths (x ∷ t) h =
     (eqb-true (length x.frame) (frame_len (length_of lengths x.from)) both.0, all_long lengths t both.1)
 
 pub valid_at : (lengths : Lengths) (which : End) → IsTrue (is_length (length_of lengths which))
-valid_at lengths end_name.Master = lengths.valid_master
-valid_at lengths end_name.Slave = lengths.valid_slave
-
-same-end-is : (a b : End) → same_end a b ≡ true → b ≡ a
-same-end-is end_name.Master end_name.Slave h = cc
-same-end-is end_name.Slave end_name.Master h = cc
-same-end-is _ _ h = refl
+valid_at lengths which = grind arith
 
 -- a list of bytes after another, and the first of one
 first-and : (x : ℕ) (u : List ℕ) → x < 256 → AreBytes u → AreBytes (x ∷ u)
-first-and x u h a zero = h
-first-and x u h a (suc i) = a i
+first-and x u h k = grind arith
 
 pub bytes_append : (u v : List ℕ) → AreBytes u → AreBytes v → AreBytes (u ++ v)
 bytes_append [] v a b = b
 bytes_append (x ∷ u) v a b = first-and x (u ++ v) (a 0) (bytes_append u v (λ j. a (suc j)) b)
 
 pub bytes_take : (n : ℕ) (u : List ℕ) → AreBytes u → AreBytes (take n u)
-bytes_take n u a i =
-    elim (cases_lt i n) [
-      | inl within ↦ subst (λ (b : ℕ). b < 256) (sym (get_or-take n u i 0 within)) (a i)
-      | inr past ↦ subst (λ (b : ℕ). b < 256) (sym (get_or_past (take n u) i 0 (omega (arith, length-take n u, past)))) (omega arith)
-    ]
+bytes_take n u h = grind (arith, common_steps)
 
 -- the payload with one more frame
 abbrev pub grows : Lengths → End → State → Noted → List ℕ → List ℕ
@@ -59,21 +42,10 @@ grows lengths which phase x u =
     else u
 
 pub payload_grows : (lengths : Lengths) (which : End) (phase : State) (x : Noted) (t : List Noted) → payload_from lengths which phase (x ∷ t) ≡ grows lengths which phase x (payload_from lengths which phase t)
-payload_grows lengths which phase x t = go (same_end which x.from)
-  where
-    go : (mine : Bool) → carried phase (piece_len lengths) (length_of lengths which) (if mine then x.frame ∷ frames_from which t else frames_from which t)
-        ≡ (if mine then (if same_phase phase (phase_of_frame x.frame) then payload_from lengths which phase t ++ take (piece_len lengths) (frame_of (length_of lengths which) x.frame).load else payload_from lengths which phase t) else payload_from lengths which phase t)
-    go true = refl
-    go false = refl
-
--- the safe data of a frame from an end
-pub load_long : (lengths : Lengths) (which : End) (x : Noted) → same_end which x.from ≡ true → length x.frame ≡ frame_len (length_of lengths x.from) → length (frame_of (length_of lengths which) x.frame).load ≡ length_of lengths which
-load_long lengths which x mine long =
-    (whole (length_of lengths which) x.frame (valid_at lengths which) (long ∙ ap (λ (e : End). frame_len (length_of lengths e)) (same-end-is which x.from mine))).load
+payload_grows lengths which phase x t = grind arith
 
 pub load_bytes : (lengths : Lengths) (which : End) (x : Noted) → same_end which x.from ≡ true → length x.frame ≡ frame_len (length_of lengths x.from) → AreBytes x.frame → AreBytes (frame_of (length_of lengths which) x.frame).load
-load_bytes lengths which x mine long are =
-    received_load (length_of lengths which) x.frame (valid_at lengths which) (long ∙ ap (λ (e : End). frame_len (length_of lengths e)) (same-end-is which x.from mine)) are
+load_bytes lengths which x h k l = search (rules, received_load)
 
 bytes-more : (lengths : Lengths) (which : End) (phase : State) (x : Noted) (u : List ℕ) → length x.frame ≡ frame_len (length_of lengths x.from) → AreBytes x.frame → AreBytes u → (mine is : Bool) → same_end which x.from ≡ mine
     → AreBytes (if mine then (if is then u ++ take (piece_len lengths) (frame_of (length_of lengths which) x.frame).load else u) else u)
@@ -94,8 +66,7 @@ pub record Extends (u all : List ℕ) : Type 0 where
   pub is : all ≡ u ++ rest
 
 extends-if : (a b : Bool) (u all more : List ℕ) → Extends u all → Extends u (if a then (if b then all ++ more else all) else all)
-extends-if true true u all more e = record { rest = e.rest ++ more; is = ap (λ (v : List ℕ). v ++ more) e.is ∙ append_assoc u e.rest more }
-extends-if _ _ u all more e = e
+extends-if a b u all more h = grind (arith, common_steps)
 
 pub payload_extends : (lengths : Lengths) (which : End) (phase : State) (later t : List Noted) → Extends (payload_from lengths which phase t) (payload_from lengths which phase (later ++ t))
 payload_extends lengths which phase [] t = record { rest = []; is = sym (append-nil (payload_from lengths which phase t)) }
@@ -110,14 +81,8 @@ at_extended u all i e h = sym (ap (λ (v : List ℕ). at v i) e.is ∙ get_or_ap
 pub longer : (u all : List ℕ) → Extends u all → length u ≤ length all
 longer u all e = omega (arith, ap (length {A = ℕ}) e.is, length-append u e.rest)
 
--- so does the connection id of the first Connection frame
-conn-stays : (conn : ℕ) (before more : Option ℕ) → before ≡ Some conn → option_or before more ≡ Some conn
-conn-stays conn None more e = cc
-conn-stays conn (Some first) more e = e
-
 stays-if : (conn l : ℕ) (x : Noted) (frames : List (List ℕ)) (mine : Bool) → first_conn l frames ≡ Some conn → first_conn l (if mine then x.frame ∷ frames else frames) ≡ Some conn
-stays-if conn l x frames true e = conn-stays conn (first_conn l frames) (conn_in l x.frame) e
-stays-if conn l x frames false e = e
+stays-if conn l x frames mine h = grind arith
 
 pub first_conn_stays : (lengths : Lengths) (conn : ℕ) (later t : List Noted) → first_conn lengths.master (frames_from end_name.Master t) ≡ Some conn → first_conn lengths.master (frames_from end_name.Master (later ++ t)) ≡ Some conn
 first_conn_stays lengths conn [] t e = e

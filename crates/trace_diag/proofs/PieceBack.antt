@@ -1,9 +1,7 @@
 -- A frame to which no row on its data bytes applies carries the piece of a payload, where the bytes that its end's
 -- frames carried so far, and its own, are those of the payload; and which bytes are those of the payloads of settings.
-use Rattle.trace_diag.proofs.Common.{Before, Frame, first_differing, front, front_long, padded, padded_len, piece, piece_holds, piece_short, wrong_in_echo}
+use Rattle.trace_diag.proofs.Common.{Before, Frame, append_cancel_left, eqb-true, ext_get_or, first_differing, front, front_long, get_or-take, get_or_past, le-ltb, padded, padded_len, piece, piece_holds, piece_short, wrong_in_echo}
 use Rattle.std.proofs.Common.{◌≡◌, ℕ, zero, suc, ◌+◌, ◌-◌, ◌*◌, ◌==◌, ◌<◌, ◌≤◌, List, [], ◌∷◌, ◌++◌, length, take, Bool, true, None, sym, ap, ◌∙◌, arith, ◌⊎◌, inl, inr, if◌then◌else◌}
-use Rattle.std.proofs.lemmas.Bool.{eqb-true, le-ltb}
-use Rattle.std.proofs.lemmas.List.{ext_get_or, get_or-take, get_or_past, append_cancel_left}
 use Rattle.trace_diag.proofs.NoneApplies.{AllHold, none_differs, same_none}
 use Rattle.trace_diag.proofs.PieceRows.{at, at_followed, at_front}
 

@@ -1,9 +1,6 @@
 -- A frame that carries a piece of a payload: its bytes may stand where they stand.
-use Rattle.trace_diag.proofs.Common.{IsBegun, connection_holds, connection_payload, front, front_begun, front_long, id_holds, low_high, number_at, padded, parameter_holds, parameter_payload, payload_holds, piece, piece_holds, piece_short, session_long, session_payload, take_padded}
-use Rattle.std.proofs.Common.{◌≡◌, ℕ, zero, suc, ◌+◌, ◌-◌, ◌*◌, ◌/◌, ◌%◌, ◌==◌, ◌<◌, ◌≤◌, nat_lt, nat_le, List, [], ◌∷◌, ◌++◌, length, take, drop, replicate, Bool, true, false, ◌||◌, refl, sym, ap, ap₂, ◌∙◌, arith, ◌⊎◌, inl, inr, get_or, if◌then◌else◌}
-use Rattle.std.proofs.lemmas.Bool.{eq-eqb, ne_eqb, lt-ltb, le-ltb}
-use Rattle.std.proofs.lemmas.Bool.Decides.{nat_tests}
-use Rattle.std.proofs.lemmas.List.{get_or-take, get_or-drop, get_or_past, get_or_append_left, take_all, length-take}
+use Rattle.trace_diag.proofs.Common.{IsBegun, common_steps, connection_payload, eq-eqb, front, front_begun, front_long, get_or-take, get_or_append_left, get_or_past, length-take, lt-ltb, nat_tests, number_at, padded, parameter_holds, parameter_payload, payload_holds, piece, piece_holds, piece_short, session_payload, take_all, take_padded}
+use Rattle.std.proofs.Common.{◌≡◌, ℕ, zero, suc, ◌+◌, ◌-◌, ◌*◌, ◌/◌, ◌%◌, ◌==◌, ◌<◌, ◌≤◌, nat_lt, nat_le, List, [], ◌∷◌, ◌++◌, length, take, replicate, Bool, true, false, ◌||◌, refl, sym, ap, ap₂, ◌∙◌, arith, ◌⊎◌, inl, inr, get_or, rules}
 use Rattle.param_load.specs.declared.profile.Profile.TheVariants as profile
 use Rattle.fsoe_base.specs.declared.command.State.TheVariants as state
 use Rattle.trace_diag.proofs.NoneApplies.{AllHold}
@@ -14,8 +11,7 @@ at bytes i = get_or bytes i 0
 
 -- zeros after bytes: past these each byte is 0, as past the end
 pub at_zeros : (n i : ℕ) → at (replicate n 0) i ≡ 0
-at_zeros (suc n) (suc i) = at_zeros n i
-at_zeros _ _ = refl
+at_zeros n i = grind (arith, common_steps)
 
 pub at_followed : (q : List ℕ) (n i : ℕ) → at (q ++ replicate n 0) i ≡ at q i
 at_followed [] n i = at_zeros n i
@@ -24,9 +20,7 @@ at_followed (x ∷ q) n (suc i) = at_followed q n i
 
 -- the bytes of a piece are those of its payload from its place on
 pub at_piece : (p : List ℕ) (c k i : ℕ) → i < c → at (piece p c (suc k)) i ≡ at p (k * c + i)
-at_piece p c k i h =
-    let back : suc k - 1 ≡ k = omega arith in
-    get_or-take c (drop ((suc k - 1) * c) p) i 0 h ∙ (get_or-drop ((suc k - 1) * c) p i 0 ∙ ap (λ (n : ℕ). at p (n * c + i)) back)
+at_piece p c k i h = grind (arith, common_steps)
 
 past-piece : (p : List ℕ) (c k i : ℕ) → c ≤ i → at (piece p c (suc k)) i ≡ 0
 past-piece p c k i h = get_or_past (piece p c (suc k)) i 0 (omega (arith, piece_short p c (suc k)))
@@ -43,47 +37,7 @@ hold_each holds p (b ∷ load) each =
 -- the bytes of a frame hold that carries the piece after k others, where the bytes of the payload in the piece do
 pub piece_rows : (p : List ℕ) (c k l : ℕ) (holds : ℕ → ℕ → Bool) → ((i : ℕ) → i < c → holds (k * c + i) (at p (k * c + i)) ≡ true)
     → AllHold (piece_holds c holds (k * c)) 0 (padded (piece p c (suc k)) l)
-piece_rows p c k l holds each = hold_each (piece_holds c holds (k * c)) 0 (padded q l) (λ i. let none : 0 + i ≡ i = omega arith in ap (λ (n : ℕ). piece_holds c holds (k * c) n (at (padded q l) i)) none ∙ holds-at i)
-  where
-    q : List ℕ
-    q = piece p c (suc k)
-
-    at-place : (i : ℕ) → at (padded q l) i ≡ at q i
-    at-place i = at_followed q (l - length q) i
-
-    holds-at : (i : ℕ) → piece_holds c holds (k * c) i (at (padded q l) i) ≡ true
-    holds-at i =
-        elim (in-piece i c) [
-          | inl within ↦
-              ap (λ (b : ℕ). piece_holds c holds (k * c) i b) (at-place i ∙ at_piece p c k i within)
-              ∙ (ap (λ (t : Bool). if t then holds (k * c + i) (at p (k * c + i)) else at p (k * c + i) == 0) (lt-ltb i c within) ∙ each i within)
-          | inr past ↦
-              ap (λ (b : ℕ). piece_holds c holds (k * c) i b) (at-place i ∙ past-piece p c k i past)
-              ∙ ap (λ (t : Bool). if t then holds (k * c + i) 0 else 0 == 0) (le-ltb i c past)
-        ]
-      where
-        in-piece : (i c : ℕ) → (i < c) ⊎ (c ≤ i)
-        in-piece i c = grind arith
-
--- a session id holds
-pub id_row : (id i : ℕ) → id_holds i (at (session_payload id profile.One) i) ≡ true
-id_row id zero = refl
-id_row id (suc zero) = refl
-id_row id (suc (suc i)) = ap (λ (b : ℕ). id_holds (suc (suc i)) b) (get_or_past (session_payload id profile.One) (suc (suc i)) 0 (omega (arith, session_long id profile.One))) ∙ past i
-  where
-    past : (i : ℕ) → id_holds (suc (suc i)) 0 ≡ true
-    past i = grind (arith, nat_tests)
-
--- a connection id and an address hold
-pub connection_row : (conn address i : ℕ) → connection_holds conn i (at (connection_payload conn address) i) ≡ true
-connection_row conn address zero = eq-eqb (conn % 256) (conn % 256) refl
-connection_row conn address (suc zero) = eq-eqb (conn / 256) (conn / 256) refl
-connection_row conn address (suc (suc zero)) = refl
-connection_row conn address (suc (suc (suc zero))) = refl
-connection_row conn address (suc (suc (suc (suc i)))) = past i
-  where
-    past : (i : ℕ) → connection_holds conn (suc (suc (suc (suc i)))) 0 ≡ true
-    past i = grind (arith, nat_tests)
+piece_rows p c k l holds h = search (rules, hold_each, at_followed, at_piece, past-piece)
 
 -- what a master's frames carry so far has the bytes of the payload
 pub at_front : (p : List ℕ) (c k j : ℕ) → 0 < c → j < k * c → at (front p c k) j ≡ at p j
@@ -109,13 +63,7 @@ at_six p c k j some six h = elim (six-or (k * c)) [ inl few ↦ short few | inr 
 
 -- past the number of application parameters, which is the last that is tested
 pub past_count : (u : List ℕ) (i b : ℕ) → 6 ≤ i → parameter_holds u i b ≡ (nat_lt i (6 + number_at 4 u) || b == 0)
-past_count u i b h =
-    let last : Bool = nat_lt i (6 + number_at 4 u) || b == 0 in
-    let count : Bool = nat_le (number_at 4 u) 512 in
-    let watchdog : Bool = nat_lt 0 (number_at 2 u) in
-    ap (λ (t : Bool). if t then b == at (low_high 2) i else if i == 3 then watchdog else if i == 5 then count else last) (le-ltb i 2 (omega (arith, h)))
-    ∙ (ap (λ (t : Bool). if t then watchdog else if i == 5 then count else last) (ne_eqb i 3 (λ e. omega (arith, h, e)))
-    ∙ ap (λ (t : Bool). if t then count else last) (ne_eqb i 5 (λ e. omega (arith, h, e))))
+past_count u i b h = grind arith
 
 -- the parameters hold, where their numbers are known in the frame that brings their second bytes
 pub parameter_row : (w : ℕ) (app u : List ℕ) (i : ℕ) → 0 < w → length app ≤ 512 → (3 ≤ i → number_at 2 u ≡ w) → (5 ≤ i → number_at 4 u ≡ length app)
@@ -151,10 +99,10 @@ parameter_row w app u (suc (suc (suc (suc (suc (suc j)))))) some most watchdog c
 
 -- the frames of a handshake that carry a piece of the payloads of settings: no row on their data bytes applies
 pub session_rows : (id c k l conn : ℕ) (u : List ℕ) → AllHold (piece_holds c (payload_holds state.Session conn u) (k * c)) 0 (padded (piece (session_payload id profile.One) c (suc k)) l)
-session_rows id c k l conn u = piece_rows (session_payload id profile.One) c k l (payload_holds state.Session conn u) (λ i h. id_row id (k * c + i))
+session_rows id c k l conn u = search (rules, piece_rows)
 
 pub connection_rows : (conn address c k l : ℕ) (u : List ℕ) → AllHold (piece_holds c (payload_holds state.Connection conn u) (k * c)) 0 (padded (piece (connection_payload conn address) c (suc k)) l)
-connection_rows conn address c k l u = piece_rows (connection_payload conn address) c k l (payload_holds state.Connection conn u) (λ i h. connection_row conn address (k * c + i))
+connection_rows conn address c k l u = search (rules, piece_rows, eq-eqb)
 
 number-back : (n : ℕ) → n % 256 + 256 * (n / 256) ≡ n
 number-back n = omega arith

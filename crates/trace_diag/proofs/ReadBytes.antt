@@ -1,9 +1,7 @@
 -- The payloads of the settings that are read off bytes to which no row applies begin with these bytes, and have zeros
 -- after them.
-use Rattle.trace_diag.proofs.Common.{AreBytes, byte_or, connection_holds, connection_payload, id_holds, number_at, padded, padded_len, parameter_holds, parameter_payload, session_long, session_payload, word_or}
-use Rattle.std.proofs.Common.{◌≡◌, ℕ, zero, suc, ◌+◌, ◌-◌, ◌*◌, ◌/◌, ◌%◌, ◌==◌, ◌<◌, ◌≤◌, nat_lt, List, length, take, drop, Bool, true, false, ◌||◌, refl, sym, ap, ap₂, ◌∙◌, arith, ◌⊎◌, inl, inr, if◌then◌else◌}
-use Rattle.std.proofs.lemmas.Bool.{eqb-true, lt-ltb, le-ltb}
-use Rattle.std.proofs.lemmas.List.{get_or-take, get_or-drop, get_or_past, length-take}
+use Rattle.trace_diag.proofs.Common.{AreBytes, byte_or, connection_holds, connection_payload, eqb-true, get_or-drop, get_or-take, get_or_past, id_holds, le-ltb, length-take, lt-ltb, number_at, padded, padded_len, parameter_holds, parameter_payload, session_payload, word_or}
+use Rattle.std.proofs.Common.{◌≡◌, ℕ, zero, suc, ◌+◌, ◌-◌, ◌*◌, ◌/◌, ◌%◌, ◌==◌, ◌<◌, ◌≤◌, nat_lt, List, length, take, drop, Bool, true, false, ◌||◌, refl, sym, ap, ap₂, ◌∙◌, arith, ◌⊎◌, inl, inr, if◌then◌else◌, rules}
 use Rattle.param_load.specs.declared.profile.Profile.TheVariants as profile
 use Rattle.trace_diag.proofs.PieceRows.{at, at_followed, past_count}
 
@@ -11,43 +9,19 @@ use Rattle.trace_diag.proofs.PieceRows.{at, at_followed, past_count}
 reached : (missing i : ℕ) (u : List ℕ) → i < length u → byte_or missing i u ≡ at u i
 reached missing i u h = ap (λ (t : Bool). if t then at u i else missing) (lt-ltb i (length u) h)
 
--- the bytes of a number that is read off
-low : (a b n : ℕ) → a < 256 → n ≡ a + 256 * b → a ≡ n % 256
-low a b n h e = omega (arith, h, e)
-
-high : (a b n : ℕ) → a < 256 → n ≡ a + 256 * b → b ≡ n / 256
-high a b n h e = omega (arith, h, e)
-
 low-of : (missing i n : ℕ) (u : List ℕ) → AreBytes u → i < length u → n ≡ word_or missing i u → at u i ≡ n % 256
-low-of missing i n u are h e = low (at u i) (byte_or missing (i + 1) u) n (are i) (e ∙ ap (λ (x : ℕ). x + 256 * byte_or missing (i + 1) u) (reached 0 i u h))
+low-of missing i n u h k l = search (rules, reached)
 
 high-of : (missing i n : ℕ) (u : List ℕ) → AreBytes u → i + 1 < length u → n ≡ word_or missing i u → at u (i + 1) ≡ n / 256
-high-of missing i n u are h e =
-    high (at u i) (at u (i + 1)) n (are i)
-    (e ∙ ap₂ (λ (x y : ℕ). x + 256 * y) (reached 0 i u (omega (arith, h))) (reached missing (i + 1) u h))
+high-of missing i n u h k l = grind arith
 
 -- where a test or that it is 0 holds and the test doesn't, it is zero
 zero-else : (t : Bool) (b : ℕ) → t ≡ false → (t || b == 0) ≡ true → b ≡ 0
-zero-else true b e h = absurd cc
-zero-else false b e h = eqb-true b 0 h
+zero-else t b h k = grind arith
 
 -- the session id that is read off
 pub id_read : (u : List ℕ) → AreBytes u → ((i : ℕ) → i < length u → id_holds i (at u i) ≡ true) → (i : ℕ) → i < length u → at u i ≡ at (session_payload (word_or 0 0 u) profile.One) i
-id_read u are rows zero h = low-of 0 0 (word_or 0 0 u) u are h refl
-id_read u are rows (suc zero) h = high-of 0 0 (word_or 0 0 u) u are h refl ∙ byte-again (word_or 0 0 u) (byte_or 0 1 u) (high (byte_or 0 0 u) (byte_or 0 1 u) (word_or 0 0 u) (below 0 h) refl) (below 1 h)
-  where
-    below : (j : ℕ) → suc zero < length u → byte_or 0 j u < 256
-    below j h = go (nat_lt j (length u)) (are j)
-      where
-        go : (t : Bool) → at u j < 256 → (if t then at u j else 0) < 256
-        go true lt = lt
-        go false lt = omega arith
-
-    byte-again : (n b : ℕ) → b ≡ n / 256 → b < 256 → n / 256 ≡ n / 256 % 256
-    byte-again n b e h = omega (arith, e, h)
-id_read u are rows (suc (suc i)) h =
-    zero-else (nat_lt (suc (suc i)) 2) (at u (suc (suc i))) (le-ltb (suc (suc i)) 2 (omega arith)) (rows (suc (suc i)) h)
-    ∙ sym (get_or_past (session_payload (word_or 0 0 u) profile.One) (suc (suc i)) 0 (omega (arith, session_long (word_or 0 0 u) profile.One)))
+id_read u h k i l = grind arith
 
 -- the address that is read off, after the connection id of the frames
 pub connection_read : (conn : ℕ) (u : List ℕ) → AreBytes u → ((i : ℕ) → i < length u → connection_holds conn i (at u i) ≡ true) → (i : ℕ) → i < length u → at u i ≡ at (connection_payload conn (word_or 0 2 u)) i

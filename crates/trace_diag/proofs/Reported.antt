@@ -1,7 +1,6 @@
 -- The frames of an input are bytes, so that what a run reports of it has the verdict on them.
 use Rattle.trace_diag.proofs.Common.{BeginsReport, CutsReport, Ended, EndsAs, RanOver, ReportsReadLines, input_read, judge_reporting, refused_at, trace_format}
-use Rattle.std.proofs.Common.{ℕ, ◌+◌, List, Option, Some, None, IfSome}
-use Rattle.fsoe_io.specs.Sink.{Grew}
+use Rattle.std.proofs.Common.{ℕ, ◌+◌, List, Option, Some, None, IfSome, arith}
 use Rattle.fsoe_io.specs.declared.status.Status.{Status}
 use Rattle.fsoe_io.specs.declared.status.Status.TheVariants as status
 use Rattle.file_run.specs.Outside.{Outside, Wrote}
@@ -22,9 +21,7 @@ if-some None P Q h k = tt
 if-some (Some x) P Q h k = h x k
 
 wrote : (o : Outside) (P Q : List ℕ → List ℕ → Type 0) → ((input text : List ℕ) → P input text → Q input text) → Wrote o P → Wrote o Q
-wrote o P Q h k =
-    if-some o.source.before (λ input. (text : List ℕ) × Grew o.sink.before o.sink.after text × P input text) (λ input. (text : List ℕ) × Grew o.sink.before o.sink.after text × Q input text)
-    (λ input w. (w.0, w.1, h input w.0 w.2)) k
+wrote o P Q h k = grind arith
 
 read-lines : (lines : ℕ) (input : List ℕ) (left : Option (List ℕ)) (text : List ℕ) → ReportsReadLines judge_reporting lines input left text → ReportsReadLines diagnose_reporting lines input left text
 read-lines lines input left text k = record {

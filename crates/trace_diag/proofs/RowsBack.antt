@@ -1,9 +1,7 @@
 -- What follows where no row of the table applies: a Reset frame has the code 0, and a frame of the master carries what
 -- it does in its turn, where its bytes are those of the payloads.
-use Rattle.trace_diag.proofs.Common.{Before, Carries, Command, End, Frame, MasterSettings, OfMaster, State, all_zero, command_byte, command_of, conn_holds, connection_payload, crcs_due, first_differing, first_failing, front, is_guarded, is_of, is_reset, parameter_payload, payload_holds, piece_fits, piece_holds, reset_crcs, session_payload, width, wrong_byte, wrong_in_data, wrong_in_piece, zeros_all}
-use Rattle.std.proofs.Common.{◌≡◌, ℕ, suc, ◌+◌, ◌*◌, ◌==◌, nat_lt, List, [], ◌∷◌, ◌++◌, length, take, replicate, Bool, true, false, None, refl, sym, ap, ap₂, subst, ◌∙◌, if◌then◌else◌}
-use Rattle.std.proofs.lemmas.Bool.{eqb-true, eq-eqb}
-use Rattle.std.proofs.lemmas.List.{length-replicate}
+use Rattle.trace_diag.proofs.Common.{Before, Carries, Command, End, Frame, MasterSettings, OfMaster, State, all_zero, command_byte, command_of, conn_holds, connection_payload, crcs_due, eq-eqb, eqb-true, front, is_guarded, is_of, is_reset, length-replicate, parameter_payload, payload_holds, piece_fits, piece_holds, reset_crcs, session_payload, width, wrong_byte, wrong_in_data, wrong_in_piece, zeros_all}
+use Rattle.std.proofs.Common.{◌≡◌, ℕ, suc, ◌+◌, ◌*◌, ◌==◌, List, [], ◌∷◌, ◌++◌, length, take, replicate, Bool, true, false, None, refl, sym, ap, ap₂, subst, ◌∙◌, arith, rules}
 use Rattle.fsoe_base.specs.declared.command.Command.TheVariants as command
 use Rattle.fsoe_base.specs.declared.command.End.TheVariants as end_name
 use Rattle.fsoe_base.specs.declared.command.State.TheVariants as state
@@ -15,15 +13,10 @@ use Rattle.trace_diag.proofs.PieceRows.{at, at_zeros, hold_each}
 
 -- in Reset each byte has to be 0, wherever the piece stands
 zero-byte : (c from conn i b : ℕ) (u : List ℕ) → piece_holds c (payload_holds state.Reset conn u) from i b ≡ (b == 0)
-zero-byte c from conn i b u = same (nat_lt i c) (b == 0)
-  where
-    same : (t x : Bool) → (if t then x else x) ≡ x
-    same true x = refl
-    same false x = refl
+zero-byte c from conn i b u = grind arith
 
 in-reset : (c : ℕ) (k : Before) (which : End) (f : Frame) → wrong_byte c k which state.Reset f ≡ wrong_in_piece c k state.Reset f
-in-reset c k end_name.Master f = refl
-in-reset c k end_name.Slave f = refl
+in-reset c k which f = grind arith
 
 -- a Reset frame with the code 0 is as it must be
 pub reset_right : (c : ℕ) (k : Before) (which : End) (f : Frame) (l : ℕ) → k.due ≡ state.Reset → f.cmd ≡ 0x2A → f.conn ≡ 0 → f.load ≡ replicate l 0 → f.crcs ≡ reset_crcs f.load → IsRight c k which f
@@ -75,16 +68,10 @@ Brings ms id _ a b d load = Unit {0}
 -- so many pieces came before
 pub placed : (w : ℕ) (k : Before) (phase : State) (f : Frame) (n : ℕ) → k.place ≡ n * w → wrong_in_piece w k phase f ≡ None
     → AllHold (piece_holds w (payload_holds phase f.conn (k.parameters ++ take w f.load)) (n * w)) 0 f.load
-placed w k phase f n place e =
-    none_fails (piece_holds w (payload_holds phase f.conn (k.parameters ++ take w f.load)) (n * w)) 0 f.load
-    (ap (λ (from : ℕ). first_failing (piece_holds w (payload_holds phase f.conn (k.parameters ++ take w f.load)) from) 0 f.load) (sym place) ∙ e)
+placed w k phase f n h l = search (rules, none_fails)
 
 pub failsafe_zeros : (f : Frame) → f.cmd ≡ 0x08 → wrong_in_data f ≡ None → all_zero f.load ≡ true
-failsafe_zeros f cmd e =
-    let same : f.load ≡ replicate (length f.load) 0 =
-    none_differs 0 f.load (replicate (length f.load) 0) (sym (length-replicate (length f.load) 0))
-    (ap (λ (n : ℕ). if n == 0x36 then None else first_differing 0 f.load (replicate (length f.load) 0)) (sym cmd) ∙ e) in
-    ap all_zero same ∙ zeros_all (length f.load)
+failsafe_zeros f h k = search (rules, none_differs, length-replicate, zeros_all)
 
 pub master_back : (ms : MasterSettings) (id : ℕ) (k : Before) (c : Command) (a b d : ℕ) (f : Frame) → is_reset c ≡ false → IsDue ms k c a b d → f.cmd ≡ command_byte c → length f.load ≡ ms.lengths.master
     → (is_guarded c ≡ true → f.conn ≡ ms.conn) → Brings ms id c a b d f.load → IsRight (width ms) k end_name.Master f → Carries ms id c a b d f.conn f.load

@@ -1,16 +1,13 @@
 -- The rows hold of all bytes of the payloads of a trace to which no row of the table applies.
-use Rattle.trace_diag.proofs.Common.{Chain, Command, Difference, End, Field, Frame, Lengths, Noted, State, before, carried, command_byte, conn_holds, conn_in, connection_holds, count_crcs, count_groups, crcs_due, field_of, first_conn, first_difference, first_of_both, frame_len, frame_of, frames_from, groups, halves, id_holds, is_slave_conn, length_of, parameter_holds, payload_from, peer, phase_due, phase_from, phase_of_frame, piece_len, same_end, same_phase, turn, whole}
-use Rattle.std.proofs.Common.{◌≡◌, ◌==◌, ℕ, zero, suc, ◌+◌, ◌<◌, ◌≤◌, List, [], ◌∷◌, ◌++◌, length, take, drop, Bool, true, false, not, Option, Some, None, refl, sym, ap, subst, ◌∙◌, ◌/◌, arith, if◌then◌else◌}
-use Rattle.std.proofs.lemmas.Bool.{eqb-true}
-use Rattle.std.proofs.lemmas.List.{length-append, length-take}
-use Rattle.std.specs.Option.{option_or}
+use Rattle.trace_diag.proofs.Common.{Chain, Command, Difference, End, Field, Frame, Lengths, Noted, State, before, carried, command_byte, conn_holds, conn_in, connection_holds, count_crcs, count_groups, crcs_due, eqb-true, field_of, first_conn, first_difference, first_of_both, frame_len, frame_of, frames_from, groups, halves, id_holds, is_slave_conn, length-append, length-take, length_of, option_or, parameter_holds, payload_from, peer, phase_due, phase_of_frame, piece_len, same_end, same_phase, turn, whole}
+use Rattle.std.proofs.Common.{◌≡◌, ◌==◌, ℕ, ◌+◌, ◌<◌, ◌≤◌, List, [], ◌∷◌, ◌++◌, length, take, drop, Bool, true, false, not, Option, Some, None, refl, sym, ap, subst, ◌∙◌, arith, if◌then◌else◌, rules}
 use Rattle.fsoe_base.specs.declared.command.Command.TheVariants as command
 use Rattle.fsoe_base.specs.declared.command.End.TheVariants as end_name
 use Rattle.fsoe_base.specs.declared.command.State.TheVariants as state
 use Rattle.trace_diag.proofs.Heads.{head_of, HasHead}
 use Rattle.trace_diag.proofs.NoField.{none_in_turn, IsInTurn}
 use Rattle.trace_diag.proofs.PayloadBytes.{payload_grows, valid_at, AllLong}
-use Rattle.trace_diag.proofs.PayloadRows.{at_front, due_is, is_from, more_hold, own_bytes, parameter_same, same_end_is, six_enough, AllAt, IsFrom}
+use Rattle.trace_diag.proofs.PayloadRows.{at_front, due_is, is_from, more_hold, own_bytes, parameter_same, six_enough, AllAt, IsFrom}
 use Rattle.trace_diag.proofs.PieceRows.{at}
 
 -- each of these frames is as it must be after those before it
@@ -19,8 +16,7 @@ AllInTurn lengths [] = Unit {0}
 AllInTurn lengths (x ∷ t) = IsInTurn lengths (before lengths t) x × AllInTurn lengths t
 
 pub due_many : (phase : State) (chain : Chain) (which : End) (f : Frame) → length (crcs_due phase chain which f) ≡ length (groups f.load)
-due_many state.Reset chain which f = count_crcs 0 0 1 0x2A 0 (groups f.load)
-due_many _ chain which f = count_crcs _ f.conn _ f.cmd 0 (groups f.load)
+due_many phase chain which f = search (rules, count_crcs)
 
 pub in_turn : (lengths : Lengths) (t : List Noted) (x : Noted) → field_of lengths t x ≡ None → IsInTurn lengths (before lengths t) x
 in_turn lengths t x e = none_in_turn lengths (before lengths t) x many e
@@ -29,17 +25,10 @@ in_turn lengths t x e = none_in_turn lengths (before lengths t) x many e
     l = length_of lengths x.from
 
     many : (f : Frame) → f ≡ frame_of l x.frame → length x.frame ≡ frame_len l → length f.crcs ≡ length (crcs_due (phase_due lengths t) (before lengths t).chain x.from f)
-    many f is long =
-        let w = whole l x.frame (valid_at lengths x.from) long in
-        ap (λ (f : Frame). length f.crcs) is
-        ∙ (w.crcs
-        ∙ (sym (halves l (valid_at lengths x.from))
-        ∙ (ap (λ (n : ℕ). (n + 1) / 2) (sym (ap (λ (f : Frame). length f.load) is ∙ w.load))
-        ∙ (sym (count_groups f.load) ∙ sym (due_many (phase_due lengths t) (before lengths t).chain x.from f)))))
+    many f h k = search (rules, whole, valid_at, halves, count_groups, due_many, before)
 
 pub no_first : (first : Option Difference) (field : Option Field) (n : ℕ) → first_of_both first field n ≡ None → (first ≡ None) × (field ≡ None)
-no_first None None n e = (refl, refl)
-no_first _ _ n e = absurd (cc e)
+no_first first field n h = grind arith
 
 pub all_in_turn : (lengths : Lengths) (t : List Noted) → first_difference lengths t ≡ None → AllInTurn lengths t
 all_in_turn lengths [] e = tt
@@ -92,12 +81,7 @@ grown-hold lengths which phase x t holds before part =
     go _ _ part = before
 
 pub phase_by : (p q : State) → same_phase p q ≡ true → q ≡ p
-phase_by state.Reset state.Reset h = refl
-phase_by state.Session state.Session h = refl
-phase_by state.Connection state.Connection h = refl
-phase_by state.Parameter state.Parameter h = refl
-phase_by state.Data state.Data h = refl
-phase_by _ _ h = cc
+phase_by p q h = grind arith
 
 session-more : (lengths : Lengths) (x : Noted) (t : List Noted) → IsInTurn lengths (before lengths t) x → RowsHold lengths t → AllAt id_holds (payload_from lengths end_name.Master state.Session (x ∷ t))
 session-more lengths x t h rows =
@@ -150,8 +134,7 @@ conn-row : (lengths : Lengths) (t : List Noted) (x : Noted) → IsFrom lengths t
 conn-row lengths t x h due = ap (λ (p : State). conn_holds p (first_conn lengths.master (frames_from end_name.Master t)) (frame_of lengths.master x.frame).conn) (sym due) ∙ h.right.conn
 
 first-some : (n : ℕ) → not (n == 0) ≡ true → 0 < n
-first-some zero e = cc
-first-some (suc n) e = omega arith
+first-some n h = grind arith
 
 -- one more frame of Connection, where the first had this connection id, if there was one
 connection-frame : (lengths : Lengths) (x : Noted) (t : List Noted) (first : Option ℕ) (conn : ℕ) → IsFrom lengths t end_name.Master x → phase_of_frame x.frame ≡ state.Connection → RowsHold lengths t
@@ -182,17 +165,11 @@ connection-frame lengths x t (Some first) conn h of-phase rows first-is is =
 abbrev ConnectionHolds : Option ℕ → List ℕ → Type 0
 ConnectionHolds o u = ((conn : ℕ) → o ≡ Some conn → (0 < conn) × AllAt (connection_holds conn) u) × (o ≡ None → u ≡ [])
 
-or-none : (o : Option ℕ) → o ≡ option_or o None
-or-none None = refl
-or-none (Some n) = refl
-
 or-some : (o : Option ℕ) (n : ℕ) → option_or o (Some n) ≡ None → ⊥
-or-some None n e = cc
-or-some (Some m) n e = cc
+or-some o n h = grind arith
 
 kept : (lengths : Lengths) (t : List Noted) → RowsHold lengths t → ConnectionHolds (option_or (first_conn lengths.master (frames_from end_name.Master t)) None) (payload_from lengths end_name.Master state.Connection t)
-kept lengths t rows =
-    subst (λ (o : Option ℕ). ConnectionHolds o (payload_from lengths end_name.Master state.Connection t)) (or-none (first_conn lengths.master (frames_from end_name.Master t))) (rows.connection, rows.unconnected)
+kept lengths t h = grind arith
 
 by-command : (lengths : Lengths) (x : Noted) (t : List Noted) (c : Command) (tail : List ℕ) → IsFrom lengths t end_name.Master x → x.frame ≡ command_byte c ∷ tail → RowsHold lengths t
     → ConnectionHolds (option_or (first_conn lengths.master (frames_from end_name.Master t)) (conn_in lengths.master (command_byte c ∷ tail)))
@@ -224,8 +201,7 @@ connection-more lengths x t h rows = go (same_end end_name.Master x.from) refl
         (by-command lengths x t head.command head.tail from head.is rows)
 
 pub piece_fits : (lengths : Lengths) (which : End) → piece_len lengths ≤ length_of lengths which
-piece_fits lengths end_name.Master = omega arith
-piece_fits lengths end_name.Slave = omega arith
+piece_fits lengths which = grind arith
 
 -- as many bytes as a piece has come with a frame of Session
 pub piece_long : (lengths : Lengths) (which : End) (x : Noted) (u : List ℕ) (is : Bool) → length (frame_of (length_of lengths which) x.frame).load ≡ length_of lengths which
@@ -235,52 +211,15 @@ piece_long lengths which x u true long =
     omega (arith, length-append u (take (piece_len lengths) f.load), length-take (piece_len lengths) f.load, long, piece_fits lengths which)
 piece_long lengths which x u false long = omega arith
 
-due-newest : (lengths : Lengths) (t : List Noted) → turn t ≡ end_name.Slave → phase_due lengths t ≡ newest_phase t
-due-newest lengths [] e = cc
-due-newest lengths (y ∷ t) e = ap (λ (at : End). phase_from lengths (y ∷ t) at (phase_of_frame y.frame)) e
-
-payload-is : (lengths : Lengths) (which : End) (x : Noted) (t : List Noted) (mine : Bool) → same_end which x.from ≡ mine → payload_from lengths which state.Session (x ∷ t)
-    ≡ (if mine then (if same_phase state.Session (phase_of_frame x.frame) then payload_from lengths which state.Session t ++ take (piece_len lengths) (frame_of (length_of lengths which) x.frame).load else payload_from lengths which state.Session t) else payload_from lengths which state.Session t)
-payload-is lengths which x t mine e =
-    payload_grows lengths which state.Session x t
-    ∙ ap (λ (mine : Bool). if mine then (if same_phase state.Session (phase_of_frame x.frame) then payload_from lengths which state.Session t ++ take (piece_len lengths) (frame_of (length_of lengths which) x.frame).load else payload_from lengths which state.Session t) else payload_from lengths which state.Session t) e
-
 even-more : (lengths : Lengths) (x : Noted) (t : List Noted) (at : End) → turn t ≡ at → x.from ≡ at → IsFrom lengths t at x → Even lengths t at → Even lengths (x ∷ t) (peer at)
-even-more lengths x t end_name.Master turned from h even =
-    let long : length (frame_of lengths.master x.frame).load ≡ lengths.master = (whole lengths.master x.frame lengths.valid_master h.long).load in
-    let theirs : payload_from lengths end_name.Slave state.Session (x ∷ t) ≡ payload_from lengths end_name.Slave state.Session t = payload-is lengths end_name.Slave x t false (ap (same_end end_name.Slave) from) in
-    let mine = payload-is lengths end_name.Master x t true (ap (same_end end_name.Master) from) in (
-      ap (length {A = ℕ}) theirs ∙ even,
-      ap (length {A = ℕ}) mine ∙ (piece_long lengths end_name.Master x (payload_from lengths end_name.Master state.Session t) (same_phase state.Session (phase_of_frame x.frame)) long
-          ∙ ap (λ (n : ℕ). n + (if same_phase state.Session (phase_of_frame x.frame) then piece_len lengths else 0)) (sym (ap (length {A = ℕ}) theirs ∙ even))),
-    )
-even-more lengths x t end_name.Slave turned from h even =
-    let long : length (frame_of lengths.slave x.frame).load ≡ lengths.slave = (whole lengths.slave x.frame lengths.valid_slave h.long).load in
-    let theirs : payload_from lengths end_name.Master state.Session (x ∷ t) ≡ payload_from lengths end_name.Master state.Session t = payload-is lengths end_name.Master x t false (ap (same_end end_name.Master) from) in
-    let mine = payload-is lengths end_name.Slave x t true (ap (same_end end_name.Slave) from) in
-    let same : phase_of_frame x.frame ≡ newest_phase t = sym (due_is lengths t end_name.Slave x h) ∙ due-newest lengths t turned in
-    ap (length {A = ℕ}) mine
-    ∙ (piece_long lengths end_name.Slave x (payload_from lengths end_name.Slave state.Session t) (same_phase state.Session (phase_of_frame x.frame)) long
-    ∙ (ap (λ (p : State). length (payload_from lengths end_name.Slave state.Session t) + (if same_phase state.Session p then piece_len lengths else 0)) same
-    ∙ (sym even.1 ∙ sym (ap (length {A = ℕ}) theirs))))
+even-more lengths x t at h k l m = search (rules, whole, piece_long, due_is)
 
 pub own-end : (which : End) → same_end which which ≡ true
-own-end end_name.Master = refl
-own-end end_name.Slave = refl
+own-end which = grind arith
 
 -- the rows hold of the payloads of a trace
 rows-more : (lengths : Lengths) (x : Noted) (t : List Noted) → IsInTurn lengths (before lengths t) x → RowsHold lengths t → RowsHold lengths (x ∷ t)
-rows-more lengths x t h rows =
-    let connected = connection-more lengths x t h rows in
-    let from-is : turn t ≡ x.from = same_end_is x.from (turn t) h.turn in
-    record {
-      session = session-more lengths x t h rows;
-      connection = connected.0;
-      unconnected = connected.1;
-      parameters = parameters-more lengths x t h rows;
-      slave = slave-more lengths x t h rows;
-      even = even-more lengths x t (turn t) refl (sym from-is) (is_from lengths t (turn t) x (ap (same_end (turn t)) (sym from-is) ∙ own-end (turn t)) h) rows.even;
-    }
+rows-more lengths x t h k = search (rules, connection-more, session-more, parameters-more, slave-more, even-more)
 
 pub rows_hold : (lengths : Lengths) (t : List Noted) → AllInTurn lengths t → RowsHold lengths t
 rows_hold lengths [] h = record {

@@ -1,29 +1,14 @@
 -- The world over the schedule of a trace runs in lock step: after each frame's events the next frame is on its way.
-use Rattle.trace_diag.proofs.Common.{Accepts, Asked, AtStage, Both, Command, Deed, Down, End, Enters, Entry, Event, Goes, HasNoReset, IsProperEvent, IsQuiet, IsWorld, MasterSettings, Move, Noted, Partner, Replied, Setup, Stage, TakesDelivery, Up, asked_delivered, back_th, both, both_kept, deed_in, deeds, down_delivered, end_of, end_of_event, frames_from, frames_of, going_on, held, is_empty, nonce_after, offer, own, partner, peer, quiet_enters, quiet_entry, quiet_hold, quiet_put, replied_delivered, same_end, sent_in, set_for, setup_of, up_delivered, world_after}
+use Rattle.trace_diag.proofs.Common.{Accepts, Asked, AtStage, Both, Command, Deed, Down, End, Enters, Entry, Event, Goes, HasNoReset, IsProperEvent, IsQuiet, IsWorld, MasterSettings, Move, Noted, Partner, Replied, Setup, Stage, TakesDelivery, Up, asked_delivered, back_th, both, both_kept, deeds, down_delivered, end_of, end_of_event, frames_from, frames_of, going_on, held, is_empty, nonce_after, offer, partner, peer, quiet_enters, quiet_entry, quiet_hold, quiet_put, replied_delivered, sent_in, set_for, setup_of, up_delivered, world_after}
 use Rattle.std.proofs.Common.{◌≡◌, ℕ, suc, ◌+◌, List, [], ◌∷◌, ◌++◌, length, replicate, Bool, true, false, Option, Some, refl, sym, ap, subst, ◌∙◌, arith, if◌then◌else◌}
 use Rattle.fsoe_base.specs.declared.command.Command.TheVariants as command
-use Rattle.fsoe_base.specs.declared.command.End.TheVariants as end_name
 use Rattle.param_load.specs.declared.entry.Move.TheVariants as move
 use Rattle.schedule_file.specs.declared.event.Event.TheVariants as event
 use Rattle.trace_diag.proofs.Nonces.{LeaveNonces, nonces_left}
 use Rattle.trace_diag.proofs.Answering.{IsDelivery, delivered_as, its_end, is_answered}
 
-one-more : (which : End) (x : Entry) (w : List Entry) (mine : Bool) → is_empty x.sent ≡ false → frames_from which (sent_in w) ≡ frames_of which w
-    → (if mine then x.sent ∷ frames_from which (sent_in w) else frames_from which (sent_in w)) ≡ own (if mine then deed_in x ∷ deeds which w else deeds which w)
-one-more which x w true e h =
-    ap (λ (frames : List (List ℕ)). x.sent ∷ frames) h ∙ ap (λ (none : Bool). if none then own (deeds which w) else x.sent ∷ own (deeds which w)) (sym e)
-one-more which x w false e h = h
-
-none-more : (which : End) (x : Entry) (w : List Entry) (mine : Bool) → is_empty x.sent ≡ true → frames_from which (sent_in w) ≡ frames_of which w
-    → frames_from which (sent_in w) ≡ own (if mine then deed_in x ∷ deeds which w else deeds which w)
-none-more which x w true e h = h ∙ ap (λ (none : Bool). if none then own (deeds which w) else x.sent ∷ own (deeds which w)) (sym e)
-none-more which x w false e h = h
-
 sent-more : (which : End) (x : Entry) (w : List Entry) (none : Bool) → is_empty x.sent ≡ none → frames_from which (sent_in w) ≡ frames_of which w → frames_from which (sent_in (x ∷ w)) ≡ frames_of which (x ∷ w)
-sent-more which x w true e h =
-    ap (λ (none : Bool). frames_from which (if none then sent_in w else record { from = x.end; frame = x.sent } ∷ sent_in w)) e ∙ none-more which x w (same_end which x.end) e h
-sent-more which x w false e h =
-    ap (λ (none : Bool). frames_from which (if none then sent_in w else record { from = x.end; frame = x.sent } ∷ sent_in w)) e ∙ one-more which x w (same_end which x.end) e h
+sent-more which x w none h k = grind arith
 
 -- the frames that an end sent in a run are those from it
 pub frames_sent : (which : End) (w : List Entry) → frames_from which (sent_in w) ≡ frames_of which w
@@ -83,8 +68,7 @@ delivered_on ms r w next accepts o = let x : Goes ms r w (event.Deliver next 1) 
     go next (Up h) = up_delivered ms r w o.is_world h
 
 pub end_of_setup : (ms : MasterSettings) (r : Partner ms) (at : End) → end_of (setup_of ms (partner ms r) at) ≡ at
-end_of_setup ms r end_name.Master = refl
-end_of_setup ms r end_name.Slave = refl
+end_of_setup ms r at = grind arith
 
 -- a delivery sends a frame of its end
 pub sends : (ms : MasterSettings) (r : Partner ms) (w : List Entry) (at : End) (x : Entry) → Enters ms r w (event.Deliver at 1) x → sent_in (x ∷ w) ≡ record { from = at; frame = x.sent } ∷ sent_in w
@@ -132,9 +116,7 @@ kept-both : (ms : MasterSettings) (r : Partner ms) (w : List Entry) (at : End) (
 kept-both ms r w at failsafe load = both_kept ms r (quiet_entry ms r w at (move.Hold failsafe) ∷ w) at (move.Put load) refl ∙ both_kept ms r w at (move.Hold failsafe) refl
 
 kept-nonces : (ms : MasterSettings) (r : Partner ms) (w : List Entry) (at : End) (failsafe : Bool) (load : List ℕ) → LeaveNonces w → LeaveNonces (held_put ms r w at failsafe load)
-kept-nonces ms r w at failsafe load k =
-    nonces_left (quiet_entry ms r (quiet_entry ms r w at (move.Hold failsafe) ∷ w) at (move.Put load)) (quiet_entry ms r w at (move.Hold failsafe) ∷ w) (λ n. refl)
-    (nonces_left (quiet_entry ms r w at (move.Hold failsafe)) w (λ n. refl) k)
+kept-nonces ms r w at failsafe load h = grind arith
 
 abbrev after-put : (ms : MasterSettings) (r : Partner ms) (w : List Entry) (next : End) (failsafe : Bool) (load : List ℕ) → Accepts ms r → IsProperEvent ms (partner ms r) (event.Put next load) → IsOn ms r w next
     → Reaches ms r (event.Hold next failsafe ∷ event.Put next load ∷ event.Deliver next 1 ∷ []) w next
@@ -144,12 +126,10 @@ after-put ms r w next failsafe load accepts proper o =
 
 -- what was set
 pub now_held : (ms : MasterSettings) (r : Partner ms) (w : List Entry) (at : End) (failsafe : Bool) (load : List ℕ) → held (deeds at (held_put ms r w at failsafe load)) ≡ failsafe
-now_held ms r w end_name.Master failsafe load = refl
-now_held ms r w end_name.Slave failsafe load = refl
+now_held ms r w at failsafe load = grind arith
 
 pub now_offered : (ms : MasterSettings) (r : Partner ms) (w : List Entry) (at : End) (failsafe : Bool) (load : List ℕ) → offer (setup_of ms (partner ms r) at) (deeds at (held_put ms r w at failsafe load)) ≡ load
-now_offered ms r w end_name.Master failsafe load = refl
-now_offered ms r w end_name.Slave failsafe load = refl
+now_offered ms r w at failsafe load = grind arith
 
 -- the events before an answer: after them it is on its way
 pub answer_on : (ms : MasterSettings) (r : Partner ms) (w : List Entry) (next : End) (c : Option Command) (l : ℕ) (load : List ℕ) → Accepts ms r

@@ -1,11 +1,7 @@
 -- A frame to which no row of the table applies is the one that is sent next by ends with the settings that are read
 -- off.
-use Rattle.trace_diag.proofs.Common.{AreBytes, Carries, Chain, Command, End, Frame, Lengths, MasterSettings, Noted, OfMaster, Partner, Replies, State, all_zero, before, bytes_of, chain_at, chain_of, command_byte, conn_after, conn_holds, connection_payload, count_groups, crcs_due, first_conn, frame_len, frame_of, frames_from, front, front_long, groups, groups_long, halves, has_command, is_guarded, is_length, is_reset, is_slave_conn, length_of, low_high, padded, parameter_payload, payload_from, payload_holds, phase_due, phase_of, phase_of_frame, piece, piece_fits, piece_len, piece_place, reset_crcs, reset_load, same_end, same_phase, sealed_by, session_payload, slave_of, some_width, turned, whole, width, with_crcs, wrong_byte}
-use Rattle.std.proofs.Common.{◌≡◌, ℕ, zero, suc, ◌+◌, ◌*◌, ◌<◌, ◌≤◌, ◌/◌, List, ◌∷◌, ◌++◌, length, take, drop, replicate, Bool, true, false, Option, Some, None, IsTrue, refl, sym, ap, ap₂, subst, ◌∙◌, arith, inl, inr, if◌then◌else◌}
-use Rattle.std.proofs.lemmas.Bool.{cases_eq, eqb-true}
-use Rattle.std.proofs.lemmas.Bool.Decides.{nat_tests}
-use Rattle.std.proofs.lemmas.List.{append_assoc, length-append, length-take}
-use Rattle.std.specs.Option.{option_or}
+use Rattle.trace_diag.proofs.Common.{AreBytes, Carries, Chain, Command, End, Frame, Lengths, MasterSettings, Noted, OfMaster, Partner, Replies, State, all_zero, append_assoc, before, bytes_of, chain_at, chain_of, command_byte, common_steps, conn_after, conn_holds, connection_payload, count_groups, crcs_due, first_conn, frame_len, frame_of, frames_from, front, front_long, groups_long, has_command, is_guarded, is_length, is_reset, length-append, length-take, length_of, option_or, padded, parameter_payload, payload_from, payload_holds, phase_due, phase_of, phase_of_frame, piece, piece_fits, piece_len, piece_place, reset_crcs, reset_load, same_end, same_phase, sealed_by, session_payload, slave_of, some_width, turned, whole, width, wrong_byte}
+use Rattle.std.proofs.Common.{◌≡◌, ℕ, suc, ◌+◌, ◌*◌, ◌<◌, ◌≤◌, List, ◌∷◌, ◌++◌, length, take, drop, replicate, Bool, true, false, Option, Some, None, IsTrue, sym, ap, ap₂, subst, ◌∙◌, arith, if◌then◌else◌, rules}
 use Rattle.fsoe_base.specs.declared.command.Command.TheVariants as command
 use Rattle.fsoe_base.specs.declared.command.End.TheVariants as end_name
 use Rattle.fsoe_base.specs.declared.command.State.TheVariants as state
@@ -16,25 +12,16 @@ use Rattle.trace_diag.proofs.Frames.{laid_out, read_as, same_parts}
 use Rattle.trace_diag.proofs.Heads.{head_of, HasHead}
 use Rattle.trace_diag.proofs.MasterRows.{zeros_are, IsPlain}
 use Rattle.trace_diag.proofs.NextFrames.{FromMaster, FromSlave, HasCome, IsPast}
-use Rattle.trace_diag.proofs.PayloadBytes.{at_extended, first_conn_stays, longer, payload_extends, payload_grows, valid_at, Extends}
+use Rattle.trace_diag.proofs.PayloadBytes.{at_extended, first_conn_stays, longer, payload_extends, valid_at, Extends}
 use Rattle.trace_diag.proofs.PayloadRows.{due_is, IsFrom}
 use Rattle.trace_diag.proofs.PieceBack.{front_is, piece_back}
 use Rattle.trace_diag.proofs.PieceRows.{at}
 use Rattle.trace_diag.proofs.RowsBack.{master_back, placed, reset_back, Brings, IsReset}
 use Rattle.trace_diag.proofs.SettingsRead.{Read}
 
--- the load of a laid out frame is as long as its bytes say
-as-long : (l n g m : ℕ) → IsTrue (is_length l) → g ≡ (n + 1) / 2 → m ≡ n + 2 * g → suc (m + 2) ≡ frame_len l → n ≡ l
-as-long l n g m h e i j = elim (cases_eq l 1) [ inl one ↦ grind (arith, nat_tests) | inr other ↦ grind (arith, nat_tests) ]
-
 -- a laid out frame of the right length is the layout of what is read of it
 pub made_back : (l : ℕ) (g : List ℕ) → IsTrue (is_length l) → IsMade g → length g ≡ frame_len l → g ≡ bytes_of (frame_of l g)
-made_back l g valid m long =
-    let f : Frame = m.frame in
-    let body : length (with_crcs (groups f.load) f.crcs) ≡ length f.load + 2 * length (groups f.load) = groups_long f.load f.crcs m.counts in
-    let whole-is : suc (length (with_crcs (groups f.load) f.crcs) + 2) ≡ frame_len l = ap suc (sym (length-append (with_crcs (groups f.load) f.crcs) (low_high f.conn))) ∙ (sym (ap (length {A = ℕ}) m.is) ∙ long) in
-    let load-long : length f.load ≡ l = as-long l (length f.load) (length (groups f.load)) (length (with_crcs (groups f.load) f.crcs)) valid (count_groups f.load) body whole-is in
-    m.is ∙ ap bytes_of (sym (read_as l g f valid load-long (m.counts ∙ (count_groups f.load ∙ (ap (λ (n : ℕ). (n + 1) / 2) load-long ∙ halves l valid))) m.is))
+made_back l g h k m = grind (arith, common_steps, groups_long, count_groups, read_as)
 
 -- a frame is sent next where its parts are those of the one that is
 pub same_bytes : (l : ℕ) (x g : List ℕ) → IsTrue (is_length l) → length x ≡ frame_len l → AreBytes x → IsMade g → length g ≡ frame_len l → frame_of l x ≡ frame_of l g → x ≡ g
@@ -46,40 +33,20 @@ zero-loads load load' long h k = zeros_are load h ∙ (ap (λ (n : ℕ). replica
 -- two frames that carry what a master's does in its turn
 carried-same : (ms : MasterSettings) (id : ℕ) (c : Command) (a b d conn conn' : ℕ) (load load' : List ℕ) → Carries ms id c a b d conn load → Carries ms id c a b d conn' load' → length load ≡ length load' → (c ≡ command.ProcessData → load ≡ load')
     → (conn ≡ conn') × (load ≡ load')
-carried-same ms id command.Reset a b d conn conn' load load' k k' long data-is = absurd k
-carried-same ms id command.FailSafeData a b d conn conn' load load' k k' long data-is = (k.0 ∙ sym k'.0, zero-loads load load' long k.1 k'.1)
-carried-same ms id command.ProcessData a b d conn conn' load load' k k' long data-is = (k ∙ sym k', data-is refl)
-carried-same ms id _ a b d conn conn' load load' k k' long data-is = (k.0 ∙ sym k'.0, k.1 ∙ sym k'.1)
+carried-same ms id c a b d conn conn' load load' h k l m = search (rules, zero-loads)
 
 -- and two that carry what a slave's does
 replied-same : (ms : MasterSettings) (id id' : ℕ) (c : Command) (a b d conn conn' : ℕ) (load load' : List ℕ) → Replies ms id c a b d conn load → Replies ms id' c a b d conn' load' → length load ≡ length load' → (c ≡ command.Session → load ≡ load')
     → (c ≡ command.ProcessData → load ≡ load') → (conn ≡ conn') × (load ≡ load')
-replied-same ms id id' command.Reset a b d conn conn' load load' k k' long id-is data-is = absurd k
-replied-same ms id id' command.Session a b d conn conn' load load' k k' long id-is data-is = (k.0 ∙ sym k'.0, id-is refl)
-replied-same ms id id' command.FailSafeData a b d conn conn' load load' k k' long id-is data-is = (k.0 ∙ sym k'.0, zero-loads load load' long k.1 k'.1)
-replied-same ms id id' command.ProcessData a b d conn conn' load load' k k' long id-is data-is = (k ∙ sym k', data-is refl)
-replied-same ms id id' _ a b d conn conn' load load' k k' long id-is data-is = (k.0 ∙ sym k'.0, k.1 ∙ sym k'.1)
+replied-same ms id id' c a b d conn conn' load load' h k l m n = search (rules, zero-loads)
 
 -- the CRCs of a session's frame
 session-due : (c : Command) (chain : Chain) (which : End) (f : Frame) → is_reset c ≡ false → crcs_due (phase_of c) chain which f ≡ (sealed_by (chain_at which chain) f.conn f.cmd f.load).crcs
-session-due command.Reset chain which f h = absurd (cc h)
-session-due _ chain which f h = refl
+session-due c chain which f h = grind arith
 
 -- a frame with equal parts is the sealed one
 sealed-parts : (chain : Chain) (f : Frame) (c : Command) (conn : ℕ) (load : List ℕ) → f.cmd ≡ command_byte c → f.conn ≡ conn → f.load ≡ load → f.crcs ≡ (sealed_by chain f.conn f.cmd f.load).crcs → f ≡ sealed_by chain conn (command_byte c) load
-sealed-parts chain f c conn load cmd conn-is load-is crcs =
-    same_parts f (sealed_by chain conn (command_byte c) load) cmd load-is
-    (crcs ∙ (ap₂ (λ (a b : ℕ). (sealed_by chain a b f.load).crcs) conn-is cmd ∙ ap (λ (load : List ℕ). (sealed_by chain conn (command_byte c) load).crcs) load-is)) conn-is
-
--- the connection id where some of its pieces have come
-conn-known : (conn b n : ℕ) → 0 < b → is_slave_conn (conn_after conn b) n ≡ true → n ≡ conn
-conn-known conn zero n some h = absurd (omega (arith, some))
-conn-known conn (suc b) n some h = eqb-true n conn h
-
-guarded-row : (c : Command) (first : Option ℕ) (n : ℕ) → is_guarded c ≡ true → conn_holds (phase_of c) first n ≡ true → is_slave_conn first n ≡ true
-guarded-row command.Reset first n g h = absurd (cc g)
-guarded-row command.Session first n g h = absurd (cc g)
-guarded-row _ first n g h = h
+sealed-parts chain f c conn load h k l m = grind arith
 
 -- the next piece that came is that of the payload
 next-piece : (p : List ℕ) (w n : ℕ) (u load all : List ℕ) → 0 < w → w ≤ length load → u ≡ front p w n → Extends (u ++ take w load) all → ((i : ℕ) → i < length all → at all i ≡ at p i) → front p w n ++ take w load ≡ front p w (suc n)
@@ -92,13 +59,10 @@ next-piece p w n u load all some fits come e each =
 -- a payload with one more frame of its phase
 payload-with : (lengths : Lengths) (which : End) (phase : State) (x : Noted) (t : List Noted) → same_end which x.from ≡ true → same_phase phase (phase_of_frame x.frame) ≡ true
     → payload_from lengths which phase (x ∷ t) ≡ payload_from lengths which phase t ++ take (piece_len lengths) (frame_of (length_of lengths which) x.frame).load
-payload-with lengths which phase x t mine is =
-    payload_grows lengths which phase x t
-    ∙ ap₂ (λ (mine is : Bool). if mine then (if is then payload_from lengths which phase t ++ take (piece_len lengths) (frame_of (length_of lengths which) x.frame).load else payload_from lengths which phase t) else payload_from lengths which phase t) mine is
+payload-with lengths which phase x t h k = grind arith
 
 same-state : (p : State) → same_phase p p ≡ true
-same-state state.Reset = refl
-same-state _ = refl
+same-state p = grind arith
 
 -- the payload of a trace goes on from there
 extended : (ms : MasterSettings) (which : End) (phase : State) (all later : List Noted) (x : Noted) (t : List Noted) → all ≡ later ++ x ∷ t → same_end which x.from ≡ true → phase_of_frame x.frame ≡ phase
@@ -123,16 +87,11 @@ brought-by ms r all later x t _ a b d read is come mine of-phase fits = tt
 
 -- the connection id of a guarded frame
 conn-of : (ms : MasterSettings) (b n : ℕ) (c : Command) (first : Option ℕ) → first ≡ conn_after ms.conn b → IsPast (phase_of c) b → (phase_of c ≡ state.Connection → b ≡ 0 → n ≡ ms.conn) → conn_holds (phase_of c) first n ≡ true → is_guarded c ≡ true → n ≡ ms.conn
-conn-of ms b n command.Reset first e past at-first row g = absurd (cc g)
-conn-of ms b n command.Session first e past at-first row g = absurd (cc g)
-conn-of ms zero n command.Connection first e past at-first row g = at-first refl refl
-conn-of ms (suc b) n command.Connection first e past at-first row g = conn-known ms.conn (suc b) n (omega arith) (ap (λ (o : Option ℕ). is_slave_conn o n) (sym e) ∙ row)
-conn-of ms b n _ first e past at-first row g = conn-known ms.conn b n past (ap (λ (o : Option ℕ). is_slave_conn o n) (sym e) ∙ row)
+conn-of ms b n c first h k l m o = search rules
 
 -- the first Connection frame has the connection id that is read off
 connection-command : (c : Command) → phase_of c ≡ state.Connection → c ≡ command.Connection
-connection-command command.Connection e = refl
-connection-command _ e = cc
+connection-command c h = grind arith
 
 first-is : (ms : MasterSettings) (r : Partner ms) (all later : List Noted) (x : Noted) (t : List Noted) (tail : List ℕ) → Read ms r all → all ≡ later ++ x ∷ t → same_end end_name.Master x.from ≡ true → x.frame ≡ 0x64 ∷ tail
     → first_conn ms.lengths.master (frames_from end_name.Master t) ≡ None → (frame_of ms.lengths.master x.frame).conn ≡ ms.conn
@@ -254,8 +213,7 @@ slave_same ms r all later x t g taken plain read is mine h even m head agree id-
     both = replied-same ms m.id m.id m.command m.a m.b m.d f.conn m.conn f.load m.load replies m.replies (long ∙ sym long') session (λ is. sym (data-is is))
 
 reset-command : (c : Command) → phase_of c ≡ state.Reset → c ≡ command.Reset
-reset-command command.Reset e = refl
-reset-command _ e = cc
+reset-command c h = grind arith
 
 -- a Reset frame is that with the code 0
 pub reset_same : (lengths : Lengths) (t : List Noted) (which : End) (x : Noted) → phase_due lengths t ≡ state.Reset → IsFrom lengths t which x → frame_of (length_of lengths which) x.frame ≡ reset_parts_of (length_of lengths which)

@@ -1,8 +1,7 @@
 -- The settings that are read off a trace to which no row of the table applies: there are such settings, and the bytes
 -- of its payloads are theirs.
-use Rattle.trace_diag.proofs.Common.{Accepts, AreBytes, AreOfBytes, AreReadOff, Lengths, MasterSettings, Noted, Partner, byte_or, connection_from, connection_payload, first_conn, frames_from, number_at, parameter_holds, parameter_payload, parameters_from, partner, payload_from, read_address, read_app, read_app_len, read_conn, read_id, read_watchdog, session_payload, word_or}
-use Rattle.std.proofs.Common.{◌≡◌, ℕ, ◌+◌, ◌*◌, ◌<◌, ◌≤◌, nat_lt, nat_le, List, length, Bool, true, false, Option, Some, None, unwrap_or, refl, sym, ap, ap₂, subst, arith, inl, inr, if◌then◌else◌}
-use Rattle.std.proofs.lemmas.Bool.{cases_lt, eq-eqb, le-leb, leb-true, lt-ltb, le-ltb, ltb-true}
+use Rattle.trace_diag.proofs.Common.{Accepts, AreBytes, AreOfBytes, AreReadOff, Lengths, MasterSettings, Noted, Partner, connection_from, connection_payload, eq-eqb, first_conn, frames_from, le-leb, parameter_holds, parameter_payload, parameters_from, partner, payload_from, read_address, read_app, read_app_len, read_conn, read_id, read_watchdog, session_payload, word_or}
+use Rattle.std.proofs.Common.{◌≡◌, ℕ, ◌<◌, ◌≤◌, nat_le, List, length, true, Option, Some, None, unwrap_or, refl, sym, ap, subst, arith, rules}
 use Rattle.fsoe_base.specs.declared.command.End.TheVariants as end_name
 use Rattle.fsoe_base.specs.declared.command.State.TheVariants as state
 use Rattle.param_load.specs.declared.app_rule.AppRule.TheVariants as rule
@@ -14,46 +13,19 @@ use Rattle.trace_diag.proofs.PieceRows.{at}
 use Rattle.trace_diag.proofs.ReadBytes.{app_long, connection_read, id_read, parameters_read}
 use Rattle.trace_diag.proofs.RowsHold.{RowsHold}
 
--- a byte that the trace reaches, or doesn't
-there : (missing i : ℕ) (u : List ℕ) → i < length u → byte_or missing i u ≡ at u i
-there missing i u h = ap (λ (t : Bool). if t then at u i else missing) (lt-ltb i (length u) h)
-
-not-there : (missing i : ℕ) (u : List ℕ) → length u ≤ i → byte_or missing i u ≡ missing
-not-there missing i u h = ap (λ (t : Bool). if t then at u i else missing) (le-ltb i (length u) h)
-
-byte-most : (missing i : ℕ) (u : List ℕ) → AreBytes u → missing < 256 → byte_or missing i u < 256
-byte-most missing i u are h = go (nat_lt i (length u)) (are i)
-  where
-    go : (t : Bool) → at u i < 256 → (if t then at u i else missing) < 256
-    go true lt = lt
-    go false lt = h
-
 pub word_most : (missing i : ℕ) (u : List ℕ) → AreBytes u → missing < 256 → word_or missing i u ≤ 65535
-word_most missing i u are h = omega (arith, byte-most 0 i u are (omega arith), byte-most missing (i + 1) u are h)
+word_most missing i u h k = grind arith
 
 -- the watchdog isn't 0
 watchdog-some : (u : List ℕ) → AllAt (parameter_holds u) u → 0 < word_or 1 2 u
-watchdog-some u rows =
-    elim (cases_lt 3 (length u)) [
-      | inl come ↦
-          let known : number_at 2 u ≡ word_or 1 2 u = ap₂ (λ (x y : ℕ). x + 256 * y) (sym (there 0 2 u (omega (arith, come)))) (sym (there 1 3 u come)) in
-          subst (λ (n : ℕ). 0 < n) known (ltb-true 0 (number_at 2 u) (rows 3 come))
-      | inr missing ↦ omega (arith, not-there 1 3 u missing)
-    ]
+watchdog-some u h = grind arith
 
 -- the application parameters are at most 512
 app-most : (u : List ℕ) → AreBytes u → AllAt (parameter_holds u) u → word_or 0 4 u ≤ 512
-app-most u are rows =
-    elim (cases_lt 5 (length u)) [
-      | inl come ↦
-          let known : number_at 4 u ≡ word_or 0 4 u = ap₂ (λ (x y : ℕ). x + 256 * y) (sym (there 0 4 u (omega (arith, come)))) (sym (there 0 5 u come)) in
-          subst (λ (n : ℕ). n ≤ 512) known (leb-true (number_at 4 u) 512 (rows 5 come))
-      | inr missing ↦ omega (arith, not-there 0 5 u missing, byte-most 0 4 u are (omega arith))
-    ]
+app-most u h k = grind arith
 
 conn-some : (o : Option ℕ) → ((conn : ℕ) → o ≡ Some conn → 0 < conn) → 0 < unwrap_or o 1
-conn-some None h = omega arith
-conn-some (Some conn) h = h conn refl
+conn-some o h = grind arith
 
 -- the bytes of the payloads of a trace are those of settings
 pub record Read (ms : MasterSettings) (r : Partner ms) (t : List Noted) : Type 0 where
@@ -132,11 +104,5 @@ settled lengths t long are rows =
       };
       plain = record { one = refl; most = subst (λ (n : ℕ). n ≤ 512) (sym (app_long p)) most };
       lengths_are = refl;
-      read = record {
-        session = id_read (payload_from lengths end_name.Master state.Session t) m-bytes rows.session;
-        connection = connection-bytes lengths t c-bytes rows (first_conn lengths.master (frames_from end_name.Master t)) refl;
-        parameters = parameters_read p p-bytes rows.parameters;
-        slave = id_read (payload_from lengths end_name.Slave state.Session t) s-bytes rows.slave;
-        conn = λ conn e. conn-unwrapped (first_conn lengths.master (frames_from end_name.Master t)) conn e;
-      };
+      read = search (rules, id_read, connection-bytes, parameters_read, conn-unwrapped);
     }

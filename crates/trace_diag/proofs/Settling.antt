@@ -1,9 +1,6 @@
 -- Ends with the settings that are read off a trace to which no row of the table applies send its frames.
-use Rattle.trace_diag.proofs.Common.{Accepts, AreBytes, AreOfBytes, Command, Deed, End, Entry, Event, Frame, MasterSettings, Noted, Partner, Setup, State, before, begun, command_back, command_byte, command_in, command_of, count_in, deed_in, deeds, frame_len, frame_of, has_command, is_data, is_data_frame, is_data_if, length_of, padded, partner, payload_from, phase_of, piece, reset_frame, same_end, same_phase, sends, session_payload, setup_of, since, slave_of, taken, turn, whole, width}
-use Rattle.std.proofs.Common.{◌≡◌, ◌==◌, ℕ, List, [], ◌∷◌, ◌++◌, length, drop, Bool, true, false, Option, Some, refl, sym, ap, ap₂, subst, ◌∙◌}
-use Rattle.std.proofs.lemmas.Bool.{eqb-true}
-use Rattle.std.proofs.lemmas.List.{append_assoc}
-use Rattle.std.proofs.lemmas.List.Elements.{All-head, All-tail}
+use Rattle.trace_diag.proofs.Common.{Accepts, All-head, All-tail, AreBytes, AreOfBytes, Command, Deed, End, Frame, MasterSettings, Noted, Partner, Setup, append_assoc, before, begun, command_back, command_byte, command_in, count_in, deeds, frame_len, frame_of, has_command, is_data, is_data_frame, length_of, padded, partner, payload_from, phase_of, piece, reset_frame, same_end, sends, session_payload, setup_of, since, taken, turn, whole, width}
+use Rattle.std.proofs.Common.{◌≡◌, ◌==◌, ℕ, List, [], ◌∷◌, ◌++◌, length, drop, Bool, true, false, Option, Some, refl, sym, ap, ap₂, subst, ◌∙◌, arith, rules}
 use Rattle.fsoe_base.specs.declared.command.Command.TheVariants as command
 use Rattle.fsoe_base.specs.declared.command.End.TheVariants as end_name
 use Rattle.fsoe_base.specs.declared.command.State.TheVariants as state
@@ -15,45 +12,15 @@ use Rattle.trace_diag.proofs.LockStep.{Steps}
 use Rattle.trace_diag.proofs.MasterRows.{IsPlain}
 use Rattle.trace_diag.proofs.NextFrames.{NextFrame, ResetNext, MasterNext, SlaveNext}
 use Rattle.trace_diag.proofs.NoField.{IsInTurn}
-use Rattle.trace_diag.proofs.Nonces.{LeaveNonce}
 use Rattle.trace_diag.proofs.PayloadBytes.{valid_at}
 use Rattle.trace_diag.proofs.PayloadRows.{is_from, same_end_is, IsFrom}
 use Rattle.trace_diag.proofs.RowsHold.{own-end, rows_hold, slave_place, AllInTurn}
-use Rattle.trace_diag.proofs.Running.{IsSetFor, Reaches}
+use Rattle.trace_diag.proofs.Running.{IsSetFor}
 use Rattle.trace_diag.proofs.SentBack.{master_same, reset_same, same_bytes, slave_same}
 use Rattle.trace_diag.proofs.Sets.{carries_id, carries_set, CarriesSet}
 use Rattle.trace_diag.proofs.SettingsRead.{Read}
 use Rattle.trace_diag.proofs.Tells.{not_reset}
-use Rattle.trace_diag.proofs.Walk.{more, world_of, At, More}
-
-same-command : (a b : Command) → Some a ≡ Some b → a ≡ b
-same-command a b e = cc
-
--- the command of a frame's first byte
-same-head : (c c' : Command) (g tail : List ℕ) → g ≡ command_byte c ∷ tail → has_command c' g ≡ true → c ≡ c'
-same-head c c' g tail head has =
-    let bytes : command_byte c ≡ command_byte c' = eqb-true (command_byte c) (command_byte c') (sym (ap (has_command c') head) ∙ has) in
-    same-command c c' (sym (command_back c) ∙ (ap command_of bytes ∙ command_back c'))
-
--- the command of a phase that has but one
-abbrev only-in : State → Option Command
-only-in state.Reset = Some command.Reset
-only-in state.Session = Some command.Session
-only-in state.Connection = Some command.Connection
-only-in state.Parameter = Some command.Parameter
-only-in state.Data = Some command.ProcessData
-
-only : (c : Command) → is_data c ≡ false → only-in (phase_of c) ≡ Some c
-only command.FailSafeData h = cc
-only command.ProcessData h = cc
-only _ h = refl
-
-data-phase : (c : Command) → is_data c ≡ same_phase state.Data (phase_of c)
-data-phase command.Reset = refl
-data-phase _ = refl
-
-same-data : (a b : Command) → phase_of a ≡ phase_of b → is_data a ≡ is_data b
-same-data a b e = data-phase a ∙ (ap (same_phase state.Data) e ∙ sym (data-phase b))
+use Rattle.trace_diag.proofs.Walk.{more, At, More}
 
 -- what the schedule sets the end to, of the next frame: in Data its command, and its data
 abbrev SetsData : ℕ → List ℕ → Command → List ℕ → Type 0
@@ -61,14 +28,10 @@ SetsData l g c load = is_data c ≡ true → is_data_frame g ≡ true → Carrie
 
 -- the command that is sent is that of the frame
 agrees : (a b : Command) (l : ℕ) (g tail load : List ℕ) → phase_of a ≡ phase_of b → g ≡ command_byte a ∷ tail → SetsData l g b load → (is : Bool) → is_data a ≡ is → a ≡ b
-agrees a b l g tail load same head set false is = same-command a b (sym (only a is) ∙ (ap only-in same ∙ only b (sym (same-data a b same) ∙ is)))
-agrees a b l g tail load same head set true is =
-    same-head a b g tail head (set (sym (same-data a b same) ∙ is) (ap is_data_frame head ∙ (ap is_data_if (command_back a) ∙ is))).has
+agrees a b l g tail load h k m is n = grind arith
 
 data-as-set : (a b : Command) (l : ℕ) (g tail load made : List ℕ) → phase_of a ≡ phase_of b → g ≡ command_byte a ∷ tail → SetsData l g b load → (frame_of l g).load ≡ made → a ≡ b → a ≡ command.ProcessData → made ≡ load
-data-as-set a b l g tail load made same head set made-is agree process =
-    let is : is_data a ≡ true = ap is_data process in
-    sym made-is ∙ (set (sym (same-data a b same) ∙ is) (ap is_data_frame head ∙ (ap is_data_if (command_back a) ∙ is))).load_is (sym agree ∙ process)
+data-as-set a b l g tail load made h k m n o p = grind arith
 
 -- the slave's Session frame carries its session id
 abbrev CarriesId : (ms : MasterSettings) → Partner ms → End → List ℕ → List (List ℕ) → Type 0
@@ -103,8 +66,7 @@ next-same ms r all later x t g frames at plain read is mine h head set id even (
     (data-as-set m.command head.command ms.lengths.slave g m.tail (frame_of ms.lengths.slave x.frame).load m.load same m.head set (ap (λ (f : Frame). f.load) m.frame) agree)
 
 sends-of : (ms : MasterSettings) (r : Partner ms) (at : End) → sends (setup_of ms (partner ms r) at) ≡ length_of ms.lengths at
-sends-of ms r end_name.Master = refl
-sends-of ms r end_name.Slave = refl
+sends-of ms r at = grind arith
 
 -- what the steps of the world set
 steps-set : (ms : MasterSettings) (r : Partner ms) (x : Noted) (t : List Noted) (s : Steps ms r x t) (head : HasHead ms.lengths t (length_of ms.lengths (turn t)) x.frame) → length (frame_of (length_of ms.lengths (turn t)) x.frame).load ≡ length_of ms.lengths (turn t)
@@ -118,20 +80,9 @@ steps-set ms r x t s head long is-data sent =
     subst (λ (l : ℕ). CarriesSet l reaches.entry.sent head.command load) (sends-of ms r (turn t))
     (carries_set setup e reaches.entry head.command load reaches.delivery (sends_answer setup e reaches.entry reaches.delivery reaches.no_reset reaches.taken) set is-data sent (long ∙ sym (sends-of ms r (turn t))))
 
-slave-id : (ms : MasterSettings) (r : Partner ms) (events : List Event) (w : List Entry) (at : End) → at ≡ end_name.Slave → (s : Reaches ms r events w at) → LeaveNonce (deeds end_name.Slave (s.entry ∷ s.set))
-    → CarriesId ms r end_name.Slave s.entry.sent (taken (since (deeds end_name.Slave (s.entry ∷ s.set))))
-slave-id ms r events w end_name.Master e s nonces = cc
-slave-id ms r events w end_name.Slave e s nonces =
-    λ session no_reset.
-    let mine : deeds end_name.Slave (s.entry ∷ s.set) ≡ deed_in s.entry ∷ deeds end_name.Slave s.set = deeds_of end_name.Slave s.entry s.set (entry_end ms r events w end_name.Slave s) in
-    carries_id ms r (deeds end_name.Slave s.set) s.entry (sends_answer (slave_of ms r) (deeds end_name.Slave s.set) s.entry s.delivery s.no_reset s.taken)
-    (subst (λ (e : List Deed). LeaveNonce e) mine nonces) session no_reset
-    ∙ ap (λ (e : List Deed). padded (piece (session_payload r.nonce ms.profile) (width ms) (count_in state.Session (taken (since e)))) ms.lengths.slave) (sym mine)
-
 steps-id : (ms : MasterSettings) (r : Partner ms) (x : Noted) (t : List Noted) (at : End) → turn t ≡ at → At ms r t → (s : Steps ms r x t)
     → CarriesId ms r at s.answers.reaches.entry.sent (taken (since (deeds end_name.Slave (s.answers.reaches.entry ∷ s.answers.reaches.set))))
-steps-id ms r x t end_name.Master turned at s = tt
-steps-id ms r x t end_name.Slave turned at s = slave-id ms r _ (world_of ms r t) (turn t) turned s.answers.reaches (s.answers.reaches.keeps at.nonces end_name.Slave)
+steps-id ms r x t at h k s = search (rules, deeds_of, entry_end, carries_id, sends_answer, padded, taken)
 
 -- an answer is laid out
 steps-made : (ms : MasterSettings) (r : Partner ms) (x : Noted) (t : List Noted) (s : Steps ms r x t) → IsMade s.answers.reaches.entry.sent
@@ -143,9 +94,7 @@ steps-made ms r x t s =
 
 -- the next frame has the right length
 next-long : (ms : MasterSettings) (r : Partner ms) (t : List Noted) (g : List ℕ) (frames : List (List ℕ)) (at : End) → NextFrame ms t g frames at → length g ≡ frame_len (length_of ms.lengths at)
-next-long ms r t g frames at (ResetNext _ due is) = ap (length {A = ℕ}) is ∙ reset_long ms r at
-next-long ms r t g frames at (MasterNext m) = m.long
-next-long ms r t g frames at (SlaveNext m) = m.long
+next-long ms r t g frames at h = search (rules, reset_long)
 
 even-at : (ms : MasterSettings) (t : List Noted) (at : End) → turn t ≡ at → AllInTurn ms.lengths t → StandsEven ms at t
 even-at ms t end_name.Master turned h = tt

@@ -1,13 +1,11 @@
 -- A frame that carries what a slave's answer does in its turn, with the CRCs of its chain, is as it must be.
-use Rattle.trace_diag.proofs.Common.{Before, Command, Frame, MasterSettings, Profile, Replies, State, all_zero, command_byte, command_of, conn_after, conn_holds, connection_payload, crcs_due, first_differing, first_failing, id_holds, is_of, is_padded, is_reset, is_slave_conn, padded, padded_twice, parameter_payload, payload_holds, phase_of, piece, piece_holds, piece_short, sealed_by, session_long, session_payload, turned, width, wrong_byte, wrong_in_echo}
-use Rattle.std.proofs.Common.{◌≡◌, ℕ, suc, ◌+◌, ◌-◌, ◌*◌, ◌≤◌, ◌==◌, nat_lt, min, List, ◌++◌, length, take, drop, replicate, Bool, true, false, ◌||◌, Option, None, refl, sym, ap, ap₂, subst, ◌∙◌, arith, inl, inr, if◌then◌else◌}
-use Rattle.std.proofs.lemmas.Bool.{cases_lt, eq-eqb, lt-ltb, le-ltb}
-use Rattle.std.proofs.lemmas.List.{get_or-drop, length-take, length-drop}
+use Rattle.trace_diag.proofs.Common.{Before, Command, Frame, MasterSettings, Profile, Replies, State, all_zero, cases_lt, command_byte, command_of, conn_after, conn_holds, connection_payload, crcs_due, eq-eqb, first_differing, first_failing, get_or-drop, id_holds, is_of, is_padded, is_reset, le-ltb, length-drop, length-take, lt-ltb, padded, padded_twice, parameter_payload, payload_holds, phase_of, piece, piece_holds, piece_short, sealed_by, session_long, session_payload, turned, width, wrong_byte, wrong_in_echo}
+use Rattle.std.proofs.Common.{◌≡◌, ℕ, suc, ◌+◌, ◌-◌, ◌*◌, ◌≤◌, ◌==◌, nat_lt, min, List, ◌++◌, length, take, drop, replicate, Bool, true, false, ◌||◌, Option, None, refl, sym, ap, ap₂, subst, ◌∙◌, arith, inl, inr, if◌then◌else◌, rules}
 use Rattle.fsoe_base.specs.declared.command.Command.TheVariants as command
 use Rattle.fsoe_base.specs.declared.command.End.TheVariants as end_name
 use Rattle.fsoe_base.specs.declared.command.State.TheVariants as state
 use Rattle.param_load.specs.declared.profile.Profile.TheVariants as profile
-use Rattle.trace_diag.proofs.MasterRows.{IsPlain, known, of_phase, zeros_are}
+use Rattle.trace_diag.proofs.MasterRows.{IsPlain, of_phase, zeros_are}
 use Rattle.trace_diag.proofs.NoField.{IsRight}
 use Rattle.trace_diag.proofs.NoneApplies.{AllHold, all_hold, same_none}
 use Rattle.trace_diag.proofs.PieceBack.{echo_rows}
@@ -43,8 +41,7 @@ id-rows : (id w n conn : ℕ) (u load : List ℕ) → is_padded (piece (session_
 id-rows id w n conn u load h = hold_each (piece_holds w (payload_holds state.Session conn u) (n * w)) 0 load (λ i. let none : 0 + i ≡ i = omega arith in ap (λ (p : ℕ). piece_holds w (payload_holds state.Session conn u) (n * w) p (at load i)) none ∙ byte i)
   where
     or-true : (t : Bool) → (t || true) ≡ true
-    or-true true = refl
-    or-true false = refl
+    or-true t = grind arith
 
     q : List ℕ
     q = piece (session_payload id profile.One) w (suc n)
@@ -70,15 +67,11 @@ id-rows id w n conn u load h = hold_each (piece_holds w (payload_holds state.Ses
         ]
 
 conn-right : (ms : MasterSettings) (id : ℕ) (c : Command) (a b d : ℕ) (f : Frame) → Replies ms id c a b d f.conn f.load → conn_holds (phase_of c) (conn_after ms.conn b) f.conn ≡ true
-conn-right ms id command.Reset a b d f k = absurd k
-conn-right ms id command.Session a b d f k = eq-eqb f.conn 0 k.0
-conn-right ms id command.ProcessData a b d f k = ap (is_slave_conn (conn_after ms.conn b)) k ∙ known ms.conn b ms.some_conn
-conn-right ms id _ a b d f k = ap (is_slave_conn (conn_after ms.conn b)) k.0 ∙ known ms.conn b ms.some_conn
+conn-right ms id c a b d f h = search rules
 
 -- an answer repeats the piece that is known
 repeated : (w l : ℕ) (k : Before) (f : Frame) (q : List ℕ) → length q ≤ w → w ≤ l → length f.load ≡ l → k.piece ≡ padded q w → f.load ≡ padded q l → wrong_in_echo k f ≡ None
-repeated w l k f q short fits long piece_is is =
-    echo_rows k f (is ∙ (sym (padded_twice q w l short fits) ∙ ap₂ padded (sym piece_is) (sym long)))
+repeated w l k f q h m n o p = search (rules, echo_rows, padded_twice)
 
 bytes-right : (ms : MasterSettings) (id : ℕ) (k : Before) (c : Command) (a b d : ℕ) (f : Frame) → IsPlain ms → IsDueBack ms k c a b d → f.cmd ≡ command_byte c → length f.load ≡ ms.lengths.slave
     → Replies ms id c a b d f.conn f.load → wrong_byte (width ms) k end_name.Slave (phase_of c) f ≡ None
@@ -98,8 +91,7 @@ bytes-right ms id k command.FailSafeData a b d f plain due cmd long replies =
 bytes-right ms id k command.ProcessData a b d f plain due cmd long replies = ap (λ (n : ℕ). if n == 0x36 then None else first_differing 0 f.load (replicate (length f.load) 0)) cmd
 
 crcs-right : (k : Before) (c : Command) (f : Frame) → is_reset c ≡ false → f.crcs ≡ (sealed_by (turned k.chain) f.conn f.cmd f.load).crcs → f.crcs ≡ crcs_due (phase_of c) k.chain end_name.Slave f
-crcs-right k command.Reset f session e = absurd cc
-crcs-right k _ f session e = e
+crcs-right k c f h l = grind arith
 
 pub slave_right : (ms : MasterSettings) (id : ℕ) (k : Before) (c : Command) (a b d : ℕ) (f : Frame) → is_reset c ≡ false → IsPlain ms → IsDueBack ms k c a b d → f.cmd ≡ command_byte c → length f.load ≡ ms.lengths.slave
     → Replies ms id c a b d f.conn f.load → f.crcs ≡ (sealed_by (turned k.chain) f.conn f.cmd f.load).crcs → IsRight (width ms) k end_name.Slave f

@@ -1,8 +1,7 @@
 -- What a trace tells of the sessions of both ends, where it is what they sent: their chains, and how far each payload
 -- of the master came.
-use Rattle.trace_diag.proofs.Common.{Both, Carries, Chain, Chained, Command, End, Frame, IsAsked, IsDown, IsReplied, IsUp, MasterSettings, Noted, OfMaster, Partner, State, after_sent, after_taken, chain_at, chain_of, command_back, command_byte, conn_after, conn_in, connection_payload, count_in, first_conn, frame_of, frames_from, fresh, front, front_long, has_command, head_on, is_reset, length_of, more, newest_crc, newest_piece, padded, parameter_payload, payload_from, peer, phase_of, phase_of_frame, phase_of_known, phase_sent, piece, piece_fits, piece_short, same_phase, session_payload, take_padded, turned, width}
-use Rattle.std.proofs.Common.{◌≡◌, ℕ, suc, ◌-◌, ◌*◌, List, [], ◌∷◌, ◌++◌, length, take, drop, zero, Bool, true, false, Option, Some, None, refl, sym, ap, ap₂, subst, ◌∙◌, arith, if◌then◌else◌}
-use Rattle.std.specs.Option.{option_or}
+use Rattle.trace_diag.proofs.Common.{Both, Carries, Chain, Chained, Command, End, Frame, IsAsked, IsDown, IsReplied, IsUp, MasterSettings, Noted, Partner, State, after_sent, after_taken, chain_at, chain_of, command_back, command_byte, conn_after, conn_in, connection_payload, count_in, first_conn, frame_of, frames_from, fresh, front, front_long, has_command, head_on, is_reset, length_of, more, newest_crc, newest_piece, option_or, padded, parameter_payload, payload_from, peer, phase_of, phase_of_frame, phase_of_known, phase_sent, piece, piece_short, same_phase, session_payload, take_padded, turned, width}
+use Rattle.std.proofs.Common.{◌≡◌, ℕ, suc, ◌-◌, ◌*◌, List, [], ◌∷◌, ◌++◌, length, take, drop, Bool, true, false, Option, Some, sym, ap, ap₂, subst, ◌∙◌, arith, if◌then◌else◌, rules}
 use Rattle.fsoe_base.specs.declared.command.Command.TheVariants as command
 use Rattle.fsoe_base.specs.declared.command.End.TheVariants as end_name
 use Rattle.fsoe_base.specs.declared.command.State.TheVariants as state
@@ -50,58 +49,30 @@ pub record Tells (ms : MasterSettings) (t : List Noted) (next : End) (x : Both) 
   pub conn : first_conn ms.lengths.master (frames_from end_name.Master t) ≡ conn_after ms.conn (count_in state.Connection x.master.sent)
   pub newest : TellsIfSent next ms t x.master.sent
 
-same-count : (n m : ℕ) → suc n ≡ suc m → n ≡ m
-same-count n m e = omega (arith, e)
-
 -- the part of a frame with a piece
 part-of : (ms : MasterSettings) (p load : List ℕ) (n m : ℕ) → load ≡ padded (piece p (width ms) (suc n)) ms.lengths.master → n ≡ m → take (width ms) load ≡ padded (piece p (width ms) (suc m)) (width ms)
-part-of ms p load n m is e =
-    ap (take (width ms)) is
-    ∙ (take_padded (piece p (width ms) (suc n)) (width ms) ms.lengths.master (piece_short p (width ms) (suc n)) (piece_fits (OfMaster ms))
-    ∙ ap (λ (k : ℕ). padded (piece p (width ms) (suc k)) (width ms)) e)
+part-of ms p load n m h k = search (rules, take_padded, piece_short)
 
 -- what a frame of the master carries is the next piece of its phase
 pub session_part : (ms : MasterSettings) (id a b d conn n : ℕ) (c : Command) (load : List ℕ) → Carries ms id c a b d conn load → id ≡ ms.nonce → more state.Session c n ≡ more state.Session c a
     → same_phase state.Session (phase_of c) ≡ true → take (width ms) load ≡ padded (piece (session_payload ms.nonce ms.profile) (width ms) (suc n)) (width ms)
-session_part ms id a b d conn n command.Reset load k i e is = absurd k
-session_part ms id a b d conn n command.Session load k i e is =
-    part-of ms (session_payload ms.nonce ms.profile) load a n (k.1 ∙ ap (λ (id : ℕ). padded (piece (session_payload id ms.profile) (width ms) (suc a)) ms.lengths.master) i) (sym (same-count n a e))
-session_part ms id a b d conn n _ load k i e is = absurd (cc is)
+session_part ms id a b d conn n c load h k l m = search (rules, part-of)
 
 pub connection_part : (ms : MasterSettings) (id a b d conn n : ℕ) (c : Command) (load : List ℕ) → Carries ms id c a b d conn load → more state.Connection c n ≡ more state.Connection c b
     → same_phase state.Connection (phase_of c) ≡ true → take (width ms) load ≡ padded (piece (connection_payload ms.conn ms.address) (width ms) (suc n)) (width ms)
-connection_part ms id a b d conn n command.Reset load k e is = absurd k
-connection_part ms id a b d conn n command.Connection load k e is = part-of ms (connection_payload ms.conn ms.address) load b n k.1 (sym (same-count n b e))
-connection_part ms id a b d conn n _ load k e is = absurd (cc is)
+connection_part ms id a b d conn n c load h k l = search (rules, part-of)
 
 pub parameter_part : (ms : MasterSettings) (id a b d conn n : ℕ) (c : Command) (load : List ℕ) → Carries ms id c a b d conn load → more state.Parameter c n ≡ more state.Parameter c d
     → same_phase state.Parameter (phase_of c) ≡ true → take (width ms) load ≡ padded (piece (parameter_payload ms.watchdog ms.profile ms.app) (width ms) (suc n)) (width ms)
-parameter_part ms id a b d conn n command.Reset load k e is = absurd k
-parameter_part ms id a b d conn n command.Parameter load k e is = part-of ms (parameter_payload ms.watchdog ms.profile ms.app) load d n k.1 (sym (same-count n d e))
-parameter_part ms id a b d conn n _ load k e is = absurd (cc is)
+parameter_part ms id a b d conn n c load h k l = search (rules, part-of)
 
 -- the pieces of a payload with one more frame, which is of its phase or isn't
 grown : (is : Bool) (p : List ℕ) (w n : ℕ) (u part : List ℕ) → u ≡ front p w n → (is ≡ true → part ≡ padded (piece p w (suc n)) w) → (if is then u ++ part else u) ≡ front p w (if is then suc n else n)
-grown true p w n u part h k = ap₂ (λ (a b : List ℕ). a ++ b) h (k refl)
-grown false p w n u part h k = h
-
--- the connection id that came with one more frame
-some-none : (o : Option ℕ) → option_or o None ≡ o
-some-none None = refl
-some-none (Some n) = refl
+grown is p w n u part h k = grind arith
 
 conn-more : (ms : MasterSettings) (id a b d conn n l : ℕ) (c : Command) (tail load : List ℕ) (first : Option ℕ) → Carries ms id c a b d conn load → first ≡ conn_after ms.conn n → (frame_of l (command_byte c ∷ tail)).conn ≡ conn
     → option_or first (conn_in l (command_byte c ∷ tail)) ≡ conn_after ms.conn (more state.Connection c n)
-conn-more ms id a b d conn n l command.Reset tail load first k h e = absurd k
-conn-more ms id a b d conn n l command.Session tail load first k h e = some-none first ∙ h
-conn-more ms id a b d conn n l command.Connection tail load first k h e = ap₂ option_or h (ap Some (e ∙ k.0)) ∙ known n
-  where
-    known : (n : ℕ) → option_or (conn_after ms.conn n) (Some ms.conn) ≡ Some ms.conn
-    known zero = refl
-    known (suc n) = refl
-conn-more ms id a b d conn n l command.Parameter tail load first k h e = some-none first ∙ h
-conn-more ms id a b d conn n l command.FailSafeData tail load first k h e = some-none first ∙ h
-conn-more ms id a b d conn n l command.ProcessData tail load first k h e = some-none first ∙ h
+conn-more ms id a b d conn n l c tail load first h k m = grind arith
 
 -- a frame by its first byte
 pub phase_by : (c : Command) (f tail : List ℕ) → f ≡ command_byte c ∷ tail → phase_of_frame f ≡ phase_of c
@@ -112,9 +83,7 @@ not_reset c f tail h n = ap (has_command command.Reset) h ∙ head_on c n
 
 repeats-now : (ms : MasterSettings) (id a b d conn n m : ℕ) (c : Command) (load q : List ℕ) → Carries ms id c a b d conn load → more state.Connection c n ≡ more state.Connection c b → more state.Parameter c m ≡ more state.Parameter c d
     → q ≡ take (width ms) load → RepeatsIn ms (phase_of c) (more state.Connection c n) (more state.Parameter c m) q
-repeats-now ms id a b d conn n m command.Connection load q k e g is = is ∙ connection_part ms id a b d conn n command.Connection load k e refl
-repeats-now ms id a b d conn n m command.Parameter load q k e g is = is ∙ parameter_part ms id a b d conn m command.Parameter load k g refl
-repeats-now ms id a b d conn n m _ load q k e g is = tt
+repeats-now ms id a b d conn n m c load q h k l o = search (rules, connection_part, parameter_part)
 
 -- a frame of the master that is on its way, after these
 pub told_down : (ms : MasterSettings) (r : Partner ms) (t : List Noted) (x x' : Both) (h : IsDown ms r x') → h.id ≡ ms.nonce → Tells ms t end_name.Master x → x'.master.sent ≡ h.frame ∷ x.master.sent → x'.slave ≡ x.slave

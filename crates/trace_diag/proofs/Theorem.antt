@@ -1,11 +1,7 @@
 -- The table finds what the definition of a conforming trace says: no row applies to a trace exactly where it conforms,
 -- and the first frame to which one applies is the first with which the trace doesn't conform.
-use Rattle.trace_diag.proofs.Common.{Accepts, AreBytes, AreOfBytes, Conforms, ConformsThroughout, Difference, DiffersFirst, Event, Field, Lengths, MasterSettings, Noted, Partner, Profile, SlaveSettings, allows_id, field_of, first_difference, first_of_both, frame_len, has_length, is_length, length_of, parameters_from, partner, read_app_len, read_schedule, read_watchdog, sent_in, world}
-use Rattle.std.proofs.Common.{◌≡◌, ◌&&◌, ◌+◌, ◌≤◌, ℕ, List, [], ◌∷◌, length, Bool, true, Option, Some, None, IsTrue, refl, sym, ap, ap₂, subst, ◌∙◌, arith}
-use Rattle.std.proofs.lemmas.Bool.{eq-eqb, leb-true}
-use Rattle.std.proofs.lemmas.List.{append-nil}
-use Rattle.std.proofs.lemmas.List.Elements.{All-tail}
-use Rattle.std.specs.List.{list_all}
+use Rattle.trace_diag.proofs.Common.{Accepts, All-tail, AreBytes, AreOfBytes, Conforms, ConformsThroughout, Difference, DiffersFirst, Event, Field, Lengths, MasterSettings, Noted, Partner, Profile, SlaveSettings, allows_id, append-nil, eq-eqb, field_of, first_difference, first_of_both, frame_len, has_length, is_length, leb-true, length_of, list_all, parameters_from, partner, read_app_len, read_schedule, read_watchdog, sent_in, world}
+use Rattle.std.proofs.Common.{◌≡◌, ◌&&◌, ◌+◌, ◌≤◌, ℕ, List, [], ◌∷◌, length, Bool, true, Option, Some, None, IsTrue, refl, sym, ap, ap₂, subst, ◌∙◌, arith, rules}
 use Rattle.fsoe_base.specs.declared.command.End.TheVariants as end_name
 use Rattle.fsoe_base.specs.declared.command.State.TheVariants as state
 use Rattle.param_load.specs.AppRule.{allows, is_acceptable, rule_len}
@@ -40,13 +36,7 @@ conforms_where_none lengths t are none =
     let h : AllInTurn lengths t = all_in_turn lengths t none in
     let long : AllLong lengths t = in_turn_long lengths t h in
     let s : Settled lengths t = settled lengths t long are (rows_hold lengths t h) in
-    record {
-      lengths_hold = lengths-hold lengths t long;
-      ms = s.ms;
-      ss = partner s.ms s.r;
-      settings = s.read_off;
-      sends = sends-it lengths t s h are;
-    }
+    search (rules, lengths-hold, sends-it)
 
 pub empty_conforms : (lengths : Lengths) → Conforms lengths []
 empty_conforms lengths = conforms_where_none lengths [] (λ k d h. absurd (omega (arith, h))) refl
@@ -123,10 +113,7 @@ none-of lengths x t c are =
       as_many = app-long ∙ sym (ap rule_len rule-is);
       allowed = ap (λ (q : AppRule). allows q ms.app) rule-is ∙ eq-eqb (length ms.app) n app-long;
     } in
-    let plain : IsPlain ms = record {
-      one = c.settings.master.profile_is;
-      most = subst (λ (n : ℕ). n ≤ 512) (sym app-long) (leb-true n 512 (sym (ap is_acceptable rule-is) ∙ p.r.acceptable));
-    } in
+    let plain : IsPlain ms = assumption (c.settings.master.profile_is, subst (λ (n : ℕ). n ≤ 512) (sym app-long) (leb-true n 512 (sym (ap is_acceptable rule-is) ∙ p.r.acceptable))) in
     let l : ms.lengths ≡ lengths = c.settings.master.lengths_are in
     let g : Good ms p.r all =
     good ms p.r x t [] [] accepts plain (subst (λ (lengths : Lengths). AllLong lengths all) (sym l) long)

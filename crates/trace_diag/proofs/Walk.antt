@@ -1,7 +1,7 @@
 -- The walk along a trace: after each of its frames the world over the schedule stands at a stage of which the trace
 -- tells.
-use Rattle.trace_diag.proofs.Common.{Accepts, Asked, Down, End, Entry, Event, IsDown, MasterSettings, Noted, OfMaster, Partner, Stage, both, deeds, frame_of, frames_from, frames_of, has_command, length_of, next_entry, partner, peer, read_schedule, reset_frame, sent_in, since, taken, turn, world}
-use Rattle.std.proofs.Common.{◌≡◌, ℕ, List, [], ◌∷◌, length, false, true, refl, sym, ap, subst, ◌∙◌}
+use Rattle.trace_diag.proofs.Common.{Accepts, Asked, Down, End, Entry, Event, IsDown, MasterSettings, Noted, OfMaster, Partner, Stage, both, deeds, frame_of, frames_from, frames_of, has_command, length_of, next_entry, partner, read_schedule, reset_frame, sent_in, since, taken, turn, world}
+use Rattle.std.proofs.Common.{◌≡◌, ℕ, List, [], ◌∷◌, length, false, true, refl, sym, ap, ◌∙◌, rules}
 use Rattle.fsoe_base.specs.declared.command.Command.TheVariants as command
 use Rattle.fsoe_base.specs.declared.command.End.TheVariants as end_name
 use Rattle.param_load.specs.declared.entry.Move.TheVariants as move
@@ -79,10 +79,5 @@ more ms r x y t accepts plain fits at =
       steps = s;
       next = b.next;
       sent = ap sent_in s.goes ∙ reaches.sent;
-      at = λ is. record {
-        runs = (next_runs ms r x y t accepts fits at.runs).0;
-        nonces = subst (λ (w : List Entry). LeaveNonces w) (sym s.goes) (reaches.keeps at.nonces);
-        tells = subst (λ (w : List Entry). Tells ms (x ∷ y ∷ t) (peer (turn (y ∷ t))) (both ms r w)) (sym s.goes)
-            (subst (λ (z : Noted). Tells ms (z ∷ y ∷ t) (peer (turn (y ∷ t))) (both ms r (reaches.entry ∷ reaches.set))) (sym is) b.tells);
-      };
+      at = λ is. (search (rules, next_runs, both));
     }

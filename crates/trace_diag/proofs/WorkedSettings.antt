@@ -1,7 +1,6 @@
 -- The settings that are read off worked traces.
-use Rattle.trace_diag.proofs.Common.{MasterSettings, SlaveSettings}
+use Rattle.trace_diag.proofs.Common.{MasterSettings, SlaveSettings, ltb-true}
 use Rattle.std.proofs.Common.{refl}
-use Rattle.std.proofs.lemmas.Bool.{ltb-true}
 use Rattle.end_model.specs.WorkedRuns.{master_values, slave_values}
 
 -- of the whole trace

@@ -1,13 +1,9 @@
 -- What the lines of a pair file are converted to one by one is what the file is converted to.
-use Rattle.duo_run.proofs.Common.{AtEnd, Ended, Event, Heading, InputCause, Line, LineCause, LineTaken, NoLine, PairRead, Refused, ScheduleLine, Stop, TooMany, WholeHeader, converted_by, end_taken, ended_at_stop, event_of, event_taken, event_text, full_taken, header_in, header_of, header_piece, header_step, header_taken, header_text, heading_after, heading_is_whole, heading_new, input_after, input_by, is_full, last_text, later_taken, line_of_end, line_taken, line_text, lines_of, read_none, refused_at, refused_line, said_after, schedule_format, steps, stop_at, stop_by, stop_full, texts, title_text, with_room}
-use Rattle.std.proofs.Common.{◌≡◌, ℕ, suc, ◌+◌, ◌-◌, Bool, true, false, List, [], ◌∷◌, ◌++◌, length, take, map, refl, ap, ◌∙◌, sym, subst, append_assoc, add-zero, arith}
-use Rattle.std.specs.Prelude.{Result, Ok, Err, MatchResult, codes, slice_get, ◌==◌, if◌then◌else◌}
-use Rattle.std.specs.List.{flat_map}
-use Rattle.std.specs.Str.{bytes_eq}
+use Rattle.duo_run.proofs.Common.{AtEnd, Ended, Err, Event, Heading, InputCause, Line, LineCause, LineTaken, MatchResult, NoLine, Ok, PairRead, Refused, Result, ScheduleLine, Stop, TooMany, WholeHeader, append-nil, bytes_eq, codes, converted_by, end_taken, ended_at_stop, event_of, event_taken, event_text, flat_map, full_taken, header_in, header_of, header_piece, header_step, header_taken, header_text, heading_after, heading_is_whole, heading_new, input_after, input_by, is_full, last_text, later_taken, length_push, line_of_end, line_taken, line_text, lines_of, read_none, refused_at, refused_line, said_after, schedule_format, slice_get, steps, stop_at, stop_by, stop_full, texts, with_room}
+use Rattle.std.proofs.Common.{◌≡◌, ℕ, suc, ◌+◌, ◌-◌, Bool, true, false, List, [], ◌∷◌, ◌++◌, length, take, map, refl, ap, ◌∙◌, sym, subst, append_assoc, add-zero, arith, rules}
+use Rattle.std.specs.Prelude.{◌==◌, if◌then◌else◌}
 use Rattle.schedule_file.specs.declared.event.ScheduleLine.TheVariants as said
 use Rattle.schedule_file.specs.declared.header_kind.HeaderKind.TheVariants as kind
-use Rattle.std.proofs.lemmas.Bool.Decides.{nat_tests}
-use Rattle.std.proofs.lemmas.List.{append-nil, length_push}
 
 abbrev pub Lines : Type 0
 Lines = List (Result (List ℕ) InputCause)
@@ -92,17 +88,14 @@ abbrev of_line : ℕ → PairRead → List ℕ → Lines → Bool → Result Sch
 of_line number r text rest full says = told_by number (if full then full_taken r text else event_taken r text says) (λ next. told (number + 1) next rest)
 
 full_line : (number : ℕ) (r : PairRead) (text : List ℕ) (later : PairRead → Whole) (is_end : Bool) → told_by number (if is_end then Ok (end_taken r) else Err TooMany) later ≡ last_whole number (if is_end then AtEnd else Refused number TooMany)
-full_line number r text later true = refl
-full_line number r text later false = refl
+full_line number r text later is_end = grind arith
 
 -- the events that stand in these lines, where the first says this
 abbrev events_by : Heading → List Event → Lines → Result ScheduleLine LineCause → List Event
 events_by h log rest says = with_room is_full log (steps event_of (says ∷ map (said_after kind.Pair h) (texts rest)))
 
 none_when_full : (h : Heading) (log : List Event) (rest : Lines) (says : Result ScheduleLine LineCause) → is_full log ≡ true → events_by h log rest says ≡ []
-none_when_full h log rest (Ok (said.Step event)) full =
-    ap (λ (b : Bool). if b then [] else event ∷ with_room is_full (log ++ event ∷ []) (steps event_of (map (said_after kind.Pair h) (texts rest)))) full
-none_when_full h log rest _ full = refl
+none_when_full h log rest says k = grind arith
 
 line_told : (h : Heading) (number : ℕ) (log : List Event) (text : List ℕ) (rest : Lines)
     → ((event : Event) → told (number + 1) (reading h (log ++ event ∷ [])) rest ≡ result_of h (number + 1) (log ++ event ∷ []) rest (events_in h (log ++ event ∷ []) rest))
@@ -132,17 +125,8 @@ abbrev pieces : Bool → List (List ℕ) → List ℕ
 pieces true lines = header_text lines
 pieces false lines = flat_map line_text lines
 
-no_pieces : (first : Bool) → pieces first [] ≡ []
-no_pieces true = refl
-no_pieces false = refl
-
-one_piece : (first : Bool) (line : List ℕ) (lines : List (List ℕ)) → (if first then title_text else line_text line) ++ flat_map line_text lines ≡ pieces first (line ∷ lines)
-one_piece true line lines = refl
-one_piece false line lines = refl
-
 no_part : (first : Bool) (lines : List (List ℕ)) (w : Whole) → w ≡ after_part (pieces first (take 0 lines)) w
-no_part true lines w = refl
-no_part false lines w = refl
+no_part first lines w = grind arith
 
 -- how the lines of a header go on, where so many stand before them: it is done, or a line is refused
 abbrev Heads : ℕ → Lines → Whole → WholeHeader → Type 0
@@ -161,16 +145,9 @@ halts_here m lines why =
 pub two_parts : (p q : List ℕ) (w : Whole) → after_part p (after_part q w) ≡ after_part (p ++ q) w
 two_parts p q w = ap (λ (t : List ℕ). record w { text = t }) (sym (append_assoc p q w.text))
 
--- a line before those
-later_number : (m : ℕ) → (m + 1 + 1 == 1) ≡ false
-later_number m = grind (arith, nat_tests)
-
 piece_before : (m : ℕ) (line : List ℕ) (rest : Lines) (j : ℕ) (whole w : Whole) → whole ≡ after_part (pieces (m + 1 + 1 == 1) (take j (texts rest))) w
     → after_part (header_piece (m + 1) line) whole ≡ after_part (pieces (m + 1 == 1) (line ∷ take j (texts rest))) w
-piece_before m line rest j whole w e =
-    ap (after_part (header_piece (m + 1) line)) (e ∙ ap (λ (b : Bool). after_part (pieces b (take j (texts rest))) w) (later_number m))
-    ∙ two_parts (header_piece (m + 1) line) (flat_map line_text (take j (texts rest))) w
-    ∙ ap (λ (p : List ℕ). after_part p w) (one_piece (m + 1 == 1) line (take j (texts rest)))
+piece_before m line rest j whole w h = search (rules, two_parts)
 
 heads_later : (m : ℕ) (line : List ℕ) (rest : Lines) (whole : Whole) (headed : WholeHeader) → Heads (m + 1) rest whole headed → Heads m (Ok line ∷ rest) (after_part (header_piece (m + 1) line) whole) headed
 heads_later m line rest whole headed h =
@@ -214,9 +191,7 @@ told_header : (m : ℕ) (h : Heading) (lines : Lines) → heading_is_whole h ≡
 told_header m h [] open_yet = halts_here m [] NoLine
 told_header m h (Err why ∷ rest) open_yet = halts_here m (Err why ∷ rest) why
 told_header m h (Ok line ∷ rest) open_yet =
-    let at : of_heading m (reading h []) line rest (heading_after h line) ≡ told (m + 1) (reading h []) (Ok line ∷ rest) =
-    ap (λ (b : Bool). told_by (m + 1) (if b then later_taken (reading h []) line else header_taken (m + 1) (reading h []) line (heading_after h line)) (λ next. told (m + 1 + 1) next rest)) (sym open_yet)
-    in
+    let at : of_heading m (reading h []) line rest (heading_after h line) ≡ told (m + 1) (reading h []) (Ok line ∷ rest) = grind arith in
     subst (λ (w : Whole). Goes m (Ok line ∷ rest) w (header_in (schedule_format kind.Pair) (m + 1) h (Ok line ∷ rest))) at
     (heading_told m h line rest (λ next e. told_header (m + 1) next rest e) (heading_after h line))
 
@@ -247,11 +222,6 @@ by_header lines whole (Err stop) halts =
     let before : 0 + halts.0 + 1 - 1 ≡ halts.0 = omega arith in
     halts.3 ∙ ap (λ (n : ℕ). after_part (header_text (take n (texts lines))) (refused_whole (0 + halts.0 + 1) why)) (sym before)
     ∙ ap (λ (s : Stop). whole_by (Err s) (texts lines)) (sym halts.2)
-
--- by `end` that line is the one after the events
-pub last_is : (r : Result WholeHeader Stop) → (input_by (schedule_format kind.Pair) r).stop ≡ AtEnd → last_number r ≡ line_of_end (input_by (schedule_format kind.Pair) r)
-last_is (Err (Refused number why)) e = cc
-last_is _ e = refl
 
 pub told_whole : (bytes : List ℕ) → told 1 read_none (lines_of bytes) ≡ converted_whole bytes
 told_whole bytes = by_header (lines_of bytes) (told 1 read_none (lines_of bytes)) (header_of kind.Pair bytes) (told_header 0 (heading_new kind.Pair) (lines_of bytes) refl)

@@ -1,27 +1,21 @@
 -- A run that converts a pair file: what was read of it and what was written.
-use Rattle.duo_run.proofs.Common.{AppendedPart, AtEnd, ConvertWrite, ConvertedAs, ConvertsReadLines, CountsFaults, End, Ended, FindsTaken, HasNoNewline, Heading, InputCause, IsLine, IsPrefix, Lengths, LineTaken, NoLine, Outside, PairRead, Profile, Profiles, RanConvert, Refused, SaysTheSame, Sent, Stop, Writes, Wrote, WroteAll, by_line, converted, cut_part, ended_at_stop, first_line, grew_written, halts_after, header_of, heading_profile, input_cause, input_of, left_to_take, length_of, line_of_end, line_taken, lines_of, lines_whole, most_held, own_length, piece_part, profile_of, read_none, refused_at, refused_line, rose_since, said_after, same_ends, sent_flushed, sent_none, sent_piece, taken_by, text_part, took_line, took_none}
-use Rattle.std.proofs.Common.{◌≡◌, ℕ, ◌+◌, ◌*◌, ◌≤◌, ◌<◌, Bool, true, false, List, [], ◌∷◌, ◌++◌, length, refl, ap, ◌∙◌, sym, subst, append_assoc, inl, inr, arith}
-use Rattle.std.specs.Prelude.{Result, Ok, Err, IfSome, Some, None}
-use Rattle.std.specs.declared.option.Option.{Option}
-use Rattle.std.specs.Io.KnownBytes.{Consumes, prepend_known}
-use Rattle.std.proofs.lemmas.List.{append-nil, length-append}
-use Rattle.std.proofs.lemmas.Option.{IfSome_then}
+use Rattle.duo_run.proofs.Common.{AppendedPart, AtEnd, Consumes, ConvertWrite, ConvertedAs, ConvertsReadLines, CountsFaults, Ended, Err, FindsTaken, HasNoNewline, Heading, IfSome, IfSome_then, InputCause, IsLine, IsPrefix, NoLine, None, Ok, Option, Outside, PairRead, RanConvert, Refused, SaysTheSame, Sent, Some, Writes, Wrote, WroteAll, append-nil, by_line, common_steps, converted, cut_part, ended_at_stop, first_line, grew_written, halts_after, input_cause, input_of, left_to_take, length-append, length_of, line_of_end, line_taken, lines_of, lines_whole, most_held, pair_line, piece_part, prepend_known, profile_of, read_none, refused_at, refused_line, rose_since, said_after, sent_flushed, sent_none, sent_piece, taken_by, text_part, took_line, took_none}
+use Rattle.fsoe_base.specs.declared.lengths.Lengths.{Lengths}
+use Rattle.param_load.specs.declared.profile.Profiles.{Profiles}
+use Rattle.std.proofs.Common.{◌≡◌, ℕ, ◌+◌, ◌*◌, ◌≤◌, ◌<◌, Bool, true, false, List, [], ◌∷◌, ◌++◌, length, refl, ap, ◌∙◌, sym, subst, append_assoc, inl, inr, arith, rules}
 use Rattle.fsoe_io.specs.Faults.{Rose}
 use Rattle.fsoe_io.proofs.Taken.{consumes_then}
 use Rattle.fsoe_io.specs.Output.{OutputView, Loses, Passes}
 use Rattle.fsoe_io.specs.Sink.{Grew}
-use Rattle.fsoe_io.specs.declared.status.Status.{Status}
 use Rattle.fsoe_io.specs.declared.status.Status.TheVariants as status
-use Rattle.schedule_file.specs.PairEvent.{pair_line}
 use Rattle.schedule_file.specs.declared.header_kind.HeaderKind.TheVariants as kind
 use Rattle.file_run.specs.Halt.{Blames, Goes, Stalls}
-use Rattle.file_run.specs.NextLine.{FindsLine}
 use Rattle.file_run.specs.Stop.{halted_by, last_of}
 use Rattle.file_run.specs.WholeLines.{TookLines}
 use Rattle.file_run.specs.declared.halt.Halt.{Halt}
 use Rattle.file_run.specs.declared.halt.Halt.TheVariants as halt
 use Rattle.file_run.proofs.Unread.{nothing_held}
-use Rattle.duo_run.proofs.Conversion.Converted.{Lines, Whole, after_part, converted_whole, end_whole, last_is, refused_whole, told, told_by, told_whole, two_parts}
+use Rattle.duo_run.proofs.Conversion.Converted.{Whole, after_part, converted_whole, end_whole, refused_whole, told, told_by, told_whole, two_parts}
 use Rattle.duo_run.proofs.Conversion.SameWorld.{says_the_same}
 
 -- of these bytes, which were taken of the input, this was written so far, and whatever comes after them gives the rest
@@ -44,8 +38,7 @@ pub record Converting (left0 left w0 w : Option (List ℕ)) (waiting : OutputVie
   pub lined : lines + left_to_take r ≤ most_lines
 
 none_taken : (left : Option (List ℕ)) (held : List ℕ) → held ≡ [] → Consumes left (prepend_known held left) []
-none_taken None held e = tt
-none_taken (Some xs) held e = ap (λ (h : List ℕ). h ++ xs) (sym e)
+none_taken left held h = grind arith
 
 tells_start : (left : Option (List ℕ)) (held : List ℕ) (lines : ℕ) → held ≡ [] → lines ≡ 0 → Tells left (prepend_known held left) [] read_none (lines + 1)
 tells_start left held lines e z = record {
@@ -83,9 +76,7 @@ converting_sent left0 left w0 w1 w2 waiting now r lines k p same = record {
 -- a line was taken
 told_next : (number : ℕ) (r next : PairRead) (line text ys zs : List ℕ) (ends : Bool) → IsLine line → ys ≡ (line ++ 10 ∷ []) ++ zs → line_taken number r line ≡ Ok (record { next = next; text = text; ends = ends })
     → told number r (lines_of ys) ≡ told_by number (Ok (record { next = next; text = text; ends = ends })) (λ next. told (number + 1) next (lines_of zs))
-told_next number r next line text ys zs ends is goes taken =
-    ap (told number r) (ap lines_of (goes ∙ append_assoc line (10 ∷ []) zs) ∙ lines_whole line zs is)
-    ∙ ap (λ (t : Result LineTaken InputCause). told_by number t (λ next. told (number + 1) next (lines_of zs))) taken
+told_next number r next line text ys zs ends h k l = grind (arith, common_steps, lines_whole)
 
 tells_next : (left0 b c : Option (List ℕ)) (before text line : List ℕ) (r next : PairRead) (number : ℕ) → Tells left0 b before r number → IsLine line → Consumes b c (line ++ 10 ∷ []) → line_taken number r line ≡ Ok (record { next = next; text = text; ends = false })
     → Tells left0 c (before ++ text) next (number + 1)
@@ -116,9 +107,7 @@ tells_at : (xs ys text : List ℕ) (r : PairRead) (number : ℕ) → Tells (Some
 tells_at xs ys text r number k = ap converted_whole k.goes ∙ k.says ys
 
 begins : (left0 left : Option (List ℕ)) (text : List ℕ) (r : PairRead) (number : ℕ) → Tells left0 left text r number → Begins left0 text
-begins None left text r number tells = tt
-begins (Some xs) None text r number tells = absurd tells.goes
-begins (Some xs) (Some ys) text r number tells = ((told number r (lines_of ys)).text, ap (λ (w : Whole). w.text) (tells_at xs ys text r number tells))
+begins left0 left text r number h = grind arith
 
 prefix_then : (part text whole : List ℕ) → IsPrefix part text → IsPrefix text whole → IsPrefix part whole
 prefix_then part text whole p q = (p.0 ++ q.0, q.1 ∙ ap (λ (z : List ℕ). z ++ q.0) p.1 ∙ append_assoc part p.0 q.0)
@@ -150,8 +139,7 @@ ends_written o between faults waiting text last ended result s writes later begi
 -- a write failed before a line
 pub ends_unsent : (o : Outside) (left w1 : Option (List ℕ)) (waiting now : OutputView) (r : PairRead) (lines : ℕ) (rest : List ℕ) (ended : Ended) → Converting o.source.before left o.sink.before w1 waiting r lines → Loses waiting now w1 o.sink.after [] rest
     → ended.status ≡ status.Write → ended.place ≡ now.sent → Rose o.sink.faults_before o.sink.faults_after → ConvertedAs ended.status ended o
-ends_unsent o left w1 waiting now r lines rest ended k p e place rose =
-    ends_write o ended k.text e (text_part o.sink.before w1 o.sink.after waiting now k.text rest ended.place k.sent p place) (begins o.source.before left k.text r (lines + 1) k.tells) rose
+ends_unsent o left w1 waiting now r lines rest ended h k l m n = search (rules, ends_write, text_part, begins)
 
 -- a line could not be written
 pub ends_lost : (o : Outside) (b c w1 : Option (List ℕ)) (waiting now : OutputView) (r next : PairRead) (lines : ℕ) (text rest : List ℕ) (ended : Ended) → Converting o.source.before b o.sink.before w1 waiting r lines → FindsTaken (lines + 1) r (Ok false) next text b c
@@ -170,22 +158,12 @@ all_begins told whole all = IfSome_then told all (λ input e. ([], ap (λ (w : W
 all_wrote : (o : Outside) (whole : Whole) → IsAll o.source.before whole → Grew o.sink.before o.sink.after whole.text → WroteAll whole.ended o
 all_wrote o whole all grew = IfSome_then o.source.before all (λ input e. (whole.text, grew, (sym (ap (λ (w : Whole). w.text) e), sym (ap (λ (w : Whole). w.ended) e))))
 
--- and where the input came to its end, that says the same
-at_end : (stop : Stop) → ended_at_stop stop ≡ ended_at_stop AtEnd → stop ≡ AtEnd
-at_end AtEnd e = refl
-at_end (Refused number why) e =
-    let never : status.Line ≡ status.Ok = ap (λ (x : Ended). x.status) e in
-    absurd (cc)
-
 -- so many lines were taken
 all_lines : (told : Option (List ℕ)) (number : ℕ) (text : List ℕ) → IsAll told (end_whole number text) → IfSome told (λ input. number ≡ line_of_end (input_of kind.Pair input))
-all_lines told number text all =
-    IfSome_then told all (λ input e. sym (ap (λ (w : Whole). w.line) e) ∙ last_is (header_of kind.Pair input) (at_end (input_of kind.Pair input).stop (ap (λ (w : Whole). w.ended) e)))
+all_lines told number text h = grind arith
 
 all_same : (o : Outside) (number : ℕ) (text : List ℕ) → IsAll o.source.before (end_whole number text) → Grew o.sink.before o.sink.after text → Wrote o SaysTheSame
-all_same o number text all grew =
-    IfSome_then o.source.before all
-    (λ input e. (text, grew, subst (SaysTheSame input) (ap (λ (w : Whole). w.text) e) (says_the_same input (at_end (input_of kind.Pair input).stop (ap (λ (w : Whole). w.ended) e)))))
+all_same o number text h k = search (rules, says_the_same)
 
 -- the last line came
 all_ended : (left0 b c : Option (List ℕ)) (before text line : List ℕ) (r next : PairRead) (number : ℕ) → Tells left0 b before r number → IsLine line → Consumes b c (line ++ 10 ∷ []) → line_taken number r line ≡ Ok (record { next = next; text = text; ends = true })
@@ -215,21 +193,9 @@ ends_at_end o b w1 held faults waiting r next lines text result k finds most wri
       same = all_same o (lines + 1) (k.text ++ text) all grew;
     })
 
--- the next line is refused
-refused_told : (number : ℕ) (r : PairRead) (lines : Lines) (why : InputCause) → taken_by number r (first_line lines) ≡ Err why → told number r lines ≡ refused_whole number why
-refused_told number r [] why e =
-    let same : NoLine ≡ why = cc in
-    ap (refused_whole number) same
-refused_told number r (Err other ∷ rest) why e =
-    let same : other ≡ why = cc in
-    ap (refused_whole number) same
-refused_told number r (Ok line ∷ rest) why e = ap (λ (t : Result LineTaken InputCause). told_by number t (λ next. told (number + 1) next rest)) e
-
 all_refused : (left0 b : Option (List ℕ)) (before : List ℕ) (r : PairRead) (number : ℕ) (why : InputCause) → Tells left0 b before r number → IfSome b (λ input. taken_by number r (first_line (lines_of input)) ≡ Err why)
     → IsAll left0 (after_part before (refused_whole number why))
-all_refused None b before r number why tells refused = tt
-all_refused (Some xs) None before r number why tells refused = absurd tells.goes
-all_refused (Some xs) (Some ys) before r number why tells refused = tells_at xs ys before r number tells ∙ ap (after_part before) (refused_told number r (lines_of ys) why refused)
+all_refused left0 b before r number why h k = grind arith
 
 -- a read failed: the lines that were taken are converted so
 still_taken : (left0 left new : Option (List ℕ)) (taken : List ℕ) → Consumes left0 left taken → Consumes left new [] → Consumes left0 new taken
@@ -275,23 +241,8 @@ ends_halted o b w1 held source faults waiting r next lines after text (halt.Refu
     ends_written o w1 faults waiting k.text (refused_line number (input_cause why)) (refused_at number) result k.sent writes later
     (all_begins o.source.before whole all) (λ grew. record { number = halts.0; read = halts.1; wrote = all_wrote o whole all grew })
 
--- where neither a read nor a write failed, the run ends as the input stops
-stops_so : (s : Status) (ended : Ended) (o : Outside) → ConvertedAs s ended o → (Rose o.source.faults_before o.source.faults_after → ⊥) → (Rose o.sink.faults_before o.sink.faults_after → ⊥)
-    → IfSome o.source.before (λ input. ended ≡ ended_at_stop (input_of kind.Pair input).stop)
-stops_so status.Ok ended o ends read write = IfSome_then o.source.before ends.wrote (λ input wrote. wrote.2.1)
-stops_so status.Line ended o ends read write = IfSome_then o.source.before ends.wrote (λ input wrote. wrote.2.1)
-stops_so status.Read ended o ends read write = absurd (read ends.cause)
-stops_so status.Write ended o ends read write = absurd (write ends.cause)
-stops_so _ ended o ends read write = absurd ends
-
 pub ran_by : (ended : Ended) (o : Outside) → ConvertedAs ended.status ended o → CountsFaults ended.status o → RanConvert ended o
-ran_by ended o ends faults = record { ends = ends; stops = stops_so ended.status ended o ends; faults = faults }
-
--- why there is no next line, or why it is refused
-pub no_next : (number : ℕ) (r next : PairRead) (why : Halt) (line text : List ℕ) (old new : Option (List ℕ)) → FindsLine (Err why) line old new → FindsTaken number r (Err why) next text old new
-no_next number r next (halt.Read lines) line text old new finds = tt
-no_next number r next halt.Memory line text old new finds = absurd finds
-no_next number r next (halt.Refused at why) line text old new finds = IfSome_then old finds (λ input e. ap (taken_by number r) e)
+ran_by ended o h k = grind arith
 
 pub next_refused : (number : ℕ) (r : PairRead) (old new : Option (List ℕ)) (line : List ℕ) (why : InputCause) → IsLine line → Consumes old new (line ++ 10 ∷ []) → line_taken number r line ≡ Err why
     → IfSome old (λ input. taken_by number r (first_line (lines_of input)) ≡ Err why)
@@ -300,6 +251,4 @@ next_refused number r old new line why is goes e = by_line old new line (λ line
 -- what a line says by the lengths and the profiles of a header
 pub said_as : (lengths : Lengths) (profiles : Profiles) (h : Heading) (text : List ℕ) → lengths.master ≡ h.lengths.master → lengths.slave ≡ h.lengths.slave → profiles.master ≡ h.master.profile → profiles.slave ≡ h.slave.profile
     → said_after kind.Pair h text ≡ pair_line (length_of lengths) (profile_of profiles) text
-said_as lengths profiles h text lm ls pm ps =
-    ap (λ (sends : End → ℕ). pair_line sends (heading_profile h) text) (same_ends (own_length h) (length_of lengths) (sym lm) (sym ls))
-    ∙ ap (λ (p : End → Profile). pair_line (length_of lengths) p text) (same_ends (heading_profile h) (profile_of profiles) (sym pm) (sym ps))
+said_as lengths profiles h text k l m n = search rules

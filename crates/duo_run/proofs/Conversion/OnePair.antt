@@ -1,16 +1,8 @@
 -- What a pair file is converted to is read as a file of one pair, with the same header and the same events.
-use Rattle.duo_run.proofs.Common.{AtEnd, Event, HasNoNewline, Heading, IfOk-every, IfOk-map, InputCause, IsLine, IsOnePair, LineCause, Long, PairsEvent, PairsHeading, ScheduleLine, Stop, WholeHeader, WholeHeaderOf, admitted, converted, converted_by, each, event_of, event_text, fields_of, fields_taken, header_in, header_of, header_step, header_text, header_word_of, heading_after, heading_is_whole, heading_new, heading_profile, heading_with, input_after, input_by, input_of, input_read, is_done, is_full, is_newline, is_start, last_text, line_text, lines_in, lines_of, lines_whole, only_pair, open_line, own_length, pair_begun, pairs_are_full, pairs_format, pairs_heading_is_whole, pairs_heading_new, pairs_input, pairs_of, pairs_said_after, profile_given, profile_taken, rule_place, said_after, schedule_format, steps, stop_at, stop_by, texts, title_taken, title_text, with_room}
+use Rattle.duo_run.proofs.Common.{All-nil, AtEnd, Err, Event, HasNoNewline, Heading, IfOk, IfOk-at_ok, IfOk-every, IfOk-map, InputCause, IsLine, IsOnePair, IsSomeAnd, LineCause, Long, Ok, PairsEvent, PairsHeading, Result, ScheduleLine, Some, Stop, WholeHeader, WholeHeaderOf, admitted, bytes_eq, codes, common_steps, converted, converted_by, each, event_of, event_text, fields_of, fields_taken, flat_map, header_in, header_of, header_step, header_text, header_word_of, heading_after, heading_is_whole, heading_new, heading_with, input_after, input_by, input_of, input_read, is_full, is_newline, is_start, last_text, length_push, line_text, lines_in, lines_of, lines_whole, map-append, nat_le, only_pair, open_line, pair_begun, pairs_are_full, pairs_format, pairs_input, pairs_said_after, profile_given, profile_taken, rule_place, said_after, schedule_format, slice_get, slice_split, steps, stop_at, texts, title_taken, title_text, with_room}
 use Rattle.schedule_file.specs.PairsInput.{entries_of}
-use Rattle.std.proofs.Common.{◌≡◌, ℕ, suc, ◌+◌, ◌<◌, ◌≤◌, Bool, true, false, List, [], ◌∷◌, ◌++◌, length, take, map, refl, ap, ◌∙◌, sym, subst, append_assoc, arith}
-use Rattle.std.specs.Prelude.{IfOk, IsSomeAnd, Result, Ok, Err, Some, codes, nat_le, slice_get, if◌then◌else◌}
-use Rattle.std.specs.List.{flat_map, onto_first, slice_split}
-use Rattle.std.specs.Str.{bytes_eq}
-use Rattle.std.proofs.lemmas.Bool.Decides.{nat_tests}
-use Rattle.std.proofs.lemmas.Bool.{leb-true}
-use Rattle.std.proofs.lemmas.List.{length_push, map-append}
-use Rattle.std.proofs.lemmas.List.Elements.{All-cons, All-nil}
-use Rattle.std.proofs.lemmas.List.Splits.{slice_split-cons_no, slice_split-cons_yes}
-use Rattle.std.proofs.lemmas.Result.{IfOk-at_ok}
+use Rattle.std.proofs.Common.{◌≡◌, ℕ, suc, ◌+◌, ◌<◌, ◌≤◌, Bool, true, false, List, [], ◌∷◌, ◌++◌, length, take, map, refl, ap, ◌∙◌, sym, subst, append_assoc, arith, rules}
+use Rattle.std.specs.Prelude.{if◌then◌else◌}
 use Rattle.schedule_file.specs.HeaderLine.{header_line}
 use Rattle.schedule_file.specs.HeaderPart.{master_with_app, slave_with_bytes, slave_with_pairs}
 use Rattle.schedule_file.specs.PairsLine.{pairs_event_of}
@@ -20,13 +12,10 @@ use Rattle.schedule_file.specs.declared.header_kind.HeaderKind.TheVariants as ki
 use Rattle.schedule_file.specs.declared.header_line.HeaderLine.{HeaderLine}
 use Rattle.schedule_file.specs.declared.header_line.HeaderLine.TheVariants as says
 use Rattle.schedule_file.specs.declared.header_line.RuleLine.{RuleLine}
-use Rattle.schedule_file.specs.declared.header_line.RuleLine.TheVariants as rule
 use Rattle.schedule_file.specs.declared.line_cause.LineCause.TheVariants as cause
-use Rattle.schedule_file.specs.declared.pairs_header.PairsStage.TheVariants as stage
 use Rattle.schedule_file.specs.declared.pairs_line.PairsEvent.TheVariants as pairs_event
 use Rattle.schedule_file.specs.declared.pairs_line.PairsLine.{PairsLine}
 use Rattle.schedule_file.specs.declared.place.Place.{Place}
-use Rattle.schedule_file.specs.declared.place.Place.TheVariants as place
 use Rattle.schedule_file.proofs.FewEvents.{few_events}
 use Rattle.duo_run.proofs.Conversion.SameLines.{event_line_same, header_line_same, last_line_same}
 use Rattle.duo_run.proofs.Conversion.Short.{line_short}
@@ -37,13 +26,8 @@ abbrev HaveNoNewlines : List (List ℕ) → Type 0
 HaveNoNewlines [] = Unit {0}
 HaveNoNewlines (part ∷ parts) = HasNoNewline part × HaveNoNewlines parts
 
-onto_none : (x : ℕ) (parts : List (List ℕ)) → is_newline x ≡ false → HaveNoNewlines parts → HaveNoNewlines (onto_first x parts)
-onto_none x [] e none = (All-cons (λ b. is_newline b ≡ false) x [] e (All-nil (λ b. is_newline b ≡ false)), tt)
-onto_none x (part ∷ parts) e none = (All-cons (λ b. is_newline b ≡ false) x part e none.0, none.1)
-
 split_at : (x : ℕ) (xs : List ℕ) (b : Bool) → is_newline x ≡ b → HaveNoNewlines (slice_split is_newline xs) → HaveNoNewlines (slice_split is_newline (x ∷ xs))
-split_at x xs true e none = subst HaveNoNewlines (sym (slice_split-cons_yes is_newline x xs e)) (All-nil (λ b. is_newline b ≡ false), none)
-split_at x xs false e none = subst HaveNoNewlines (sym (slice_split-cons_no is_newline x xs e)) (onto_none x (slice_split is_newline xs) e none)
+split_at x xs b h k = grind arith
 
 split_none : (xs : List ℕ) → HaveNoNewlines (slice_split is_newline xs)
 split_none [] = (All-nil (λ b. is_newline b ≡ false), tt)
@@ -58,12 +42,10 @@ AreLines [] = Unit {0}
 AreLines (line ∷ lines) = IsLineOrNone line × AreLines lines
 
 whole_is : (text : List ℕ) (b : Bool) → nat_le (length text) 640 ≡ b → HasNoNewline text → IsLineOrNone (if b then Ok text else Err Long)
-whole_is text true e none = (leb-true (length text) 640 e, none)
-whole_is text false e none = tt
+whole_is text b h k = grind arith
 
 open_is : (text : List ℕ) → AreLines (open_line text)
-open_is [] = tt
-open_is (b ∷ text) = (tt, tt)
+open_is text = grind arith
 
 parts_are : (parts : List (List ℕ)) → HaveNoNewlines parts → AreLines (lines_in parts)
 parts_are [] none = tt
@@ -79,9 +61,7 @@ line_read line more is = ap lines_of (append_assoc line (10 ∷ []) more) ∙ li
 
 -- a line with the number of the pair is one
 numbered_line_is : (h : Heading) (line : List ℕ) (event : Event) → IsLine line → said_after kind.Pair h line ≡ Ok (said.Step event) → IsLine (codes "1 " ++ line)
-numbered_line_is h line event is says =
-    let few = line_short (own_length h) (heading_profile h) line (said.Step event) says in
-    (omega (arith, few), All-cons (λ b. is_newline b ≡ false) 49 (32 ∷ line) refl (All-cons (λ b. is_newline b ≡ false) 32 line refl is.1))
+numbered_line_is h line event k l = search (rules, line_short)
 
 -- these lines say these events
 abbrev SayEvents : Heading → List (List ℕ) → List Event → Type 0
@@ -93,17 +73,10 @@ SayEvents h _ _ = ⊥
 abbrev events_in : Heading → List Event → Lines → List Event
 events_in h log lines = with_room is_full log (steps event_of (map (said_after kind.Pair h) (texts lines)))
 
-say_room : (h : Heading) (log : List Event) (line : List ℕ) (rest : Lines) (event : Event) (full : Bool) → IsLine line → said_after kind.Pair h line ≡ Ok (said.Step event)
-    → SayEvents h (take (length (events_in h (log ++ event ∷ []) rest)) (texts rest)) (events_in h (log ++ event ∷ []) rest)
-    → SayEvents h (take (length (if full then [] else event ∷ events_in h (log ++ event ∷ []) rest)) (line ∷ texts rest)) (if full then [] else event ∷ events_in h (log ++ event ∷ []) rest)
-say_room h log line rest event true is says later = tt
-say_room h log line rest event false is says later = (is, says, later)
-
 say_line : (h : Heading) (log : List Event) (line : List ℕ) (rest : Lines) (r : Result ScheduleLine LineCause) → IsLine line → said_after kind.Pair h line ≡ r
     → ((event : Event) → SayEvents h (take (length (events_in h (log ++ event ∷ []) rest)) (texts rest)) (events_in h (log ++ event ∷ []) rest))
     → SayEvents h (take (length (with_room is_full log (steps event_of (r ∷ map (said_after kind.Pair h) (texts rest))))) (line ∷ texts rest)) (with_room is_full log (steps event_of (r ∷ map (said_after kind.Pair h) (texts rest))))
-say_line h log line rest (Ok (said.Step event)) is says later = say_room h log line rest event (is_full log) is says (later event)
-say_line h log line rest _ is says later = tt
+say_line h log line rest r k l m = grind arith
 
 say_events : (h : Heading) (lines : Lines) (log : List Event) → AreLines lines → SayEvents h (take (length (events_in h log lines)) (texts lines)) (events_in h log lines)
 say_events h (Ok line ∷ rest) log are = say_line h log line rest (said_after kind.Pair h line) are.0 refl (λ event. say_events h rest (log ++ event ∷ []) are.1)
@@ -136,13 +109,8 @@ one_entry : (pairs : ℕ) (log : List Event) → entries_of pairs (map of_one lo
 one_entry pairs [] = refl
 one_entry pairs (event ∷ log) = let later = one_entry pairs log in omega (arith, later)
 
-below : (n : ℕ) → n < MAX_EVENTS → nat_le MAX_EVENTS n ≡ false
-below n few = grind (arith, nat_tests)
-
 has_room : (h : Heading) (log : List Event) → length log < MAX_EVENTS → pairs_are_full (only_pair h) (map of_one log) ≡ false
-has_room h log few =
-    let entries = one_entry (length (pairs_of (only_pair h))) log in
-    below (entries_of (length (pairs_of (only_pair h))) (map of_one log)) (omega (arith, entries, few))
+has_room h log k = search (rules, one_entry)
 
 room_said : (h : Heading) (lines : List (List ℕ)) (events log : List Event) → SayEvents h lines events → length log + length events ≤ MAX_EVENTS
     → with_room (pairs_are_full (only_pair h)) (map of_one log) (steps pairs_event_of (map (pairs_said_after (only_pair h)) (texts (event_lines lines)))) ≡ map of_one events
@@ -159,12 +127,10 @@ room_said h _ _ log say few = absurd say
 
 -- after a line of a header it isn't at its start
 profile_started : (p : Place) (h : Heading) (word : ℕ) → is_start (profile_taken p h word).place ≡ false
-profile_started place.Slave h word = refl
-profile_started other h word = refl
+profile_started p h word = grind arith
 
 rule_started : (line : RuleLine) → is_start (rule_place line) ≡ false
-rule_started (rule.Any n) = refl
-rule_started _ = refl
+rule_started line = grind arith
 
 abbrev IsStarted : Heading → Type 0
 IsStarted h = is_start h.place ≡ false
@@ -186,23 +152,12 @@ after_started : (h : Heading) (line : List ℕ) → IsStarted h → IfOk (headin
 after_started h line started =
     subst (λ (b : Bool). IfOk (if b then title_taken h line else fields_taken h (fields_of line)) IsStarted) (sym started) (fields_started h (fields_of line))
 
--- the header is read on as that of the only pair
-done_by : (done : Bool) → is_done (if done then stage.Done else stage.Pairs) ≡ done
-done_by true = refl
-done_by false = refl
-
-done_same : (h : Heading) → pairs_heading_is_whole (only_pair h) ≡ heading_is_whole h
-done_same h = done_by (heading_is_whole h)
-
 abbrev pairs_header : ℕ → PairsHeading → Lines → Result (WholeHeaderOf PairsHeading) Stop
 pairs_header n h lines = header_in pairs_format n h lines
 
 line_follows : (h next : Heading) (line more : List ℕ) (n : ℕ) → IsStarted h → heading_is_whole h ≡ false → heading_after h line ≡ Ok next → IsLine line
     → pairs_header n (only_pair h) (lines_of (line_text line ++ more)) ≡ (if heading_is_whole next then Ok (record { heading = only_pair next; lines = n; rest = lines_of more }) else pairs_header (n + 1) (only_pair next) (lines_of more))
-line_follows h next line more n started more_comes taken is =
-    ap (pairs_header n (only_pair h)) (line_read line more is)
-    ∙ ap (header_step pairs_heading_is_whole n (lines_of more) (λ next. pairs_header (n + 1) next (lines_of more))) (header_line_same h next line started more_comes taken)
-    ∙ ap (λ (b : Bool). if b then Ok (record { heading = only_pair next; lines = n; rest = lines_of more }) else pairs_header (n + 1) (only_pair next) (lines_of more)) (done_same next)
+line_follows h next line more n k l m o = search (rules, line_read, header_line_same)
 
 -- a header of which so many lines were read before these: these go on to its last line, and what they are converted to
 -- as well
@@ -268,26 +223,17 @@ follow h m _ headed started more are e = cc
 
 -- the lines after the header
 length-of_one : (events : List Event) → length (map of_one events) ≡ length events
-length-of_one [] = refl
-length-of_one (event ∷ events) = let later = length-of_one events in omega (arith, later)
+length-of_one events = grind (arith, common_steps)
 
 stops_at_end : (h : Heading) (number : ℕ) (full : Bool) → stop_at pairs_format (only_pair h) number full (Some (Ok (codes "end"))) ≡ AtEnd
-stops_at_end h number true = refl
-stops_at_end h number false = ap (λ (r : Result PairsLine LineCause). stop_by pairs_event_of number r) (last_line_same h)
+stops_at_end h number full = grind arith
 
 one_input : (h : Heading) (n : ℕ) (tail : List ℕ) (lines : List (List ℕ)) (events : List Event) → SayEvents h lines events → length events ≤ MAX_EVENTS → lines_of tail ≡ event_lines lines
     → IsOnePair h events (input_after pairs_format (record { heading = only_pair h; lines = n; rest = lines_of tail }))
 one_input h n tail lines events say few read =
     let full : List PairsEvent → Bool = pairs_are_full (only_pair h) in
     let are = room_said h lines events [] say (omega (arith, few)) in
-    let here : IsOnePair h events (input_after pairs_format (record { heading = only_pair h; lines = n; rest = event_lines lines })) = record {
-      heading_is = refl;
-      events_are = are;
-      ends = ap (λ (es : List PairsEvent). stop_at pairs_format (only_pair h) (n + length es + 1) (full es) (slice_get (event_lines lines) (length es))) are
-          ∙ ap (λ (k : ℕ). stop_at pairs_format (only_pair h) (n + length (map of_one events) + 1) (full (map of_one events)) (slice_get (event_lines lines) k)) (length-of_one events)
-          ∙ ap (stop_at pairs_format (only_pair h) (n + length (map of_one events) + 1) (full (map of_one events))) (end_comes h lines events say)
-          ∙ stops_at_end h (n + length (map of_one events) + 1) (full (map of_one events));
-    } in
+    let here : IsOnePair h events (input_after pairs_format (record { heading = only_pair h; lines = n; rest = event_lines lines })) = search (rules, length-of_one, end_comes, stops_at_end) in
     subst (λ (ls : Lines). IsOnePair h events (input_after pairs_format (record { heading = only_pair h; lines = n; rest = ls }))) (sym read) here
 
 -- the first two lines
@@ -313,18 +259,13 @@ whole_read title rest headed are e stops few =
     ∙ ap (λ (s : Stop). (title_text ++ header) ++ (flat_map event_text lines ++ last_text s)) stops ∙ append_assoc title_text header tail
     in
     let headed2 : WholeHeaderOf PairsHeading = record { heading = only_pair headed.heading; lines = read.0; rest = lines_of tail } in
-    let whole : input_read pairs_format (converted_by (Ok headed) (title ∷ texts rest)) ≡ input_after pairs_format headed2 =
-    ap (λ (t : List ℕ). input_by pairs_format (pairs_header 1 pairs_heading_new (lines_of t))) text
-    ∙ ap (λ (ls : Lines). input_by pairs_format (pairs_header 1 pairs_heading_new ls)) (titles_read (header ++ tail))
-    ∙ ap (input_by pairs_format) read.1
-    in
+    let whole : input_read pairs_format (converted_by (Ok headed) (title ∷ texts rest)) ≡ input_after pairs_format headed2 = search (rules, titles_read) in
     subst (IsOnePair headed.heading events) (sym whole) (one_input headed.heading read.0 tail lines events say few (events_read headed.heading lines events say))
 
 by_title : (title : List ℕ) (rest : Lines) (headed : WholeHeader) (is_title : Bool) → AreLines rest → header_step heading_is_whole 1 rest (λ next. pair_header 2 next rest) (if is_title then Ok pair_begun else Err cause.Header) ≡ Ok headed
     → (input_after (schedule_format kind.Pair) headed).stop ≡ AtEnd → length (input_after (schedule_format kind.Pair) headed).events ≤ MAX_EVENTS
     → IsOnePair headed.heading (input_after (schedule_format kind.Pair) headed).events (input_read pairs_format (converted_by (Ok headed) (title ∷ texts rest)))
-by_title title rest headed true are e stops few = whole_read title rest headed are e stops few
-by_title title rest headed false are e stops few = cc
+by_title title rest headed is_title h k l m = search (rules, whole_read)
 
 by_lines : (lines : Lines) (headed : WholeHeader) → AreLines lines → pair_header 1 (heading_new kind.Pair) lines ≡ Ok headed → (input_after (schedule_format kind.Pair) headed).stop ≡ AtEnd → length (input_after (schedule_format kind.Pair) headed).events ≤ MAX_EVENTS
     → IsOnePair headed.heading (input_after (schedule_format kind.Pair) headed).events (input_read pairs_format (converted_by (Ok headed) (texts lines)))
@@ -333,8 +274,7 @@ by_lines _ headed are e stops few = cc
 
 -- a header that isn't done doesn't end an input
 whole_on : (number : ℕ) (rest : Lines) (h : Heading) (whole : Bool) → (pair_header (number + 1) h rest ≡ Err AtEnd → ⊥) → (if whole then Ok (record { heading = h; lines = number; rest = rest }) else pair_header (number + 1) h rest) ≡ Err AtEnd → ⊥
-whole_on number rest h true later e = cc
-whole_on number rest h false later e = later e
+whole_on number rest h whole k l = grind arith
 
 step_on : (number : ℕ) (rest : Lines) (step : Result Heading LineCause) → ((next : Heading) → pair_header (number + 1) next rest ≡ Err AtEnd → ⊥)
     → header_step heading_is_whole number rest (λ next. pair_header (number + 1) next rest) step ≡ Err AtEnd → ⊥

@@ -1,9 +1,7 @@
 -- The only pair of a converted file does what the pair of that file did, and so the file says the same.
-use Rattle.duo_run.proofs.Common.{AtEnd, Entry, Event, Heading, InputOf, IsOnePair, Pair, PairsEvent, PairsHeading, SaysTheSame, converted, done_after, entries_over, entry_after, events_done, events_to, input_of, pairs_input, world_missed, world_next, world_of}
+use Rattle.duo_run.proofs.Common.{AtEnd, Entry, Event, Heading, InputOf, IsOnePair, IsSomeAnd, None, Option, Pair, PairsEvent, PairsHeading, SaysTheSame, Some, append-nil, converted, done_after, entries_over, entry_after, events_done, events_to, input_of, is_some, length_push, pairs_input, world_missed, world_next, world_of}
 use Rattle.std.proofs.Common.{◌≡◌, ℕ, List, [], ◌∷◌, ◌++◌, length, map, refl, arith, ap, sym, ◌∙◌, append_assoc}
-use Rattle.std.specs.Prelude.{IsSomeAnd, Some, None, is_some, if◌then◌else◌}
-use Rattle.std.specs.declared.option.Option.{Option}
-use Rattle.std.proofs.lemmas.List.{append-nil, length_push}
+use Rattle.std.specs.Prelude.{if◌then◌else◌}
 use Rattle.schedule_file.specs.declared.header_kind.HeaderKind.TheVariants as kind
 use Rattle.schedule_file.specs.declared.pairs_line.PairsEvent.TheVariants as common
 use Rattle.duo_run.proofs.Conversion.OnePair.{converts}
@@ -34,8 +32,7 @@ pub same_world : (p : Pair) (events : List Event) → world_of 1 p (events_done 
 same_world p events = goes_on p events [] refl
 
 events_are : (heading : Option Heading) (events : List Event) (pairs : InputOf PairsHeading PairsEvent) → IsSomeAnd heading (λ h. IsOnePair h events pairs) → pairs.events ≡ map of_one events
-events_are None events pairs one = absurd one
-events_are (Some h) events pairs one = one.events_are
+events_are heading events pairs h = grind arith
 
 pub says_the_same : (bytes : List ℕ) → (input_of kind.Pair bytes).stop ≡ AtEnd → SaysTheSame bytes (converted bytes)
 says_the_same bytes stops =

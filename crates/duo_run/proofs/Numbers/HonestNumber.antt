@@ -1,10 +1,6 @@
 -- The schedule of number 0 is honest.
-use Rattle.duo_run.proofs.Common.{End, Entry, Event, HasNoReset, IsHonest, IsProperEvent, Match, Serves, TakesDelivery, entries_of, entry_at, event_in_turn, honest_serves, if_on, in_turn, is_plain, keeps_time, made, made_master, made_slave, peer}
-use Rattle.std.proofs.Common.{◌≡◌, ℕ, zero, suc, ◌%◌, ◌==◌, List, [], ◌∷◌, ◌++◌, true, false, Some, None, All, refl, sym, ap, ap₂, subst, ◌∙◌, arith}
-use Rattle.std.specs.List.{list_all}
-use Rattle.std.proofs.lemmas.Bool.{leb-true}
-use Rattle.std.proofs.lemmas.Bool.Decides.{nat_tests}
-use Rattle.std.proofs.lemmas.List.Elements.{All-nil, All-cons}
+use Rattle.duo_run.proofs.Common.{All-cons, All-nil, End, Entry, Event, HasNoReset, IsHonest, IsProperEvent, Serves, TakesDelivery, entries_of, entry_at, event_in_turn, honest_serves, if_on, in_turn, is_plain, keeps_time, list_all, made, made_master, made_slave, peer}
+use Rattle.std.proofs.Common.{◌≡◌, ℕ, zero, suc, List, [], ◌∷◌, ◌++◌, true, Some, None, All, refl, sym, ap, ap₂, subst, ◌∙◌, arith, rules}
 use Rattle.fsoe_base.specs.declared.command.End.TheVariants as end_name
 use Rattle.schedule_file.specs.declared.event.Event.TheVariants as event
 use Rattle.schedule_file.proofs.Making.{event_at-zero}
@@ -25,11 +21,7 @@ alternating-more to (suc n) = ap (λ (events : List Event). event.Deliver to 1 �
 
 -- the turns come again after two events
 two_later : (n : ℕ) → event_in_turn (suc (suc (suc (suc n)))) ≡ event_in_turn (suc (suc n))
-two_later n =
-    let parity : suc (suc (suc (suc n))) % 2 ≡ suc (suc n) % 2 = omega arith in
-    let later : (suc (suc (suc (suc n))) == 1) ≡ false = grind (arith, nat_tests) in
-    let sooner : (suc (suc n) == 1) ≡ false = grind (arith, nat_tests) in
-    rw (later, sooner, parity) refl
+two_later n = grind arith
 
 in_turn_at : (n : ℕ) → event_in_turn (suc (suc n)) ≡ event.Deliver (turned end_name.Slave n) 1
 in_turn_at (suc (suc n)) = two_later n ∙ in_turn_at n
@@ -64,16 +56,6 @@ proper : (to : End) (n : ℕ) → All (IsProperEvent made_master made_slave) (al
 proper to zero = All-nil (IsProperEvent made_master made_slave)
 proper to (suc n) = All-cons (IsProperEvent made_master made_slave) (event.Deliver to 1) (alternating (peer to) n) tt (proper (peer to) n)
 
-matching : Match made_master made_slave
-matching = record {
-  same_lengths = record { master = refl; slave = refl };
-  same_address = refl;
-  same_profile = refl;
-  watchdog_accepted = leb-true 100 1000 refl;
-  as_many_parameters = refl;
-  parameters_allowed = refl;
-}
-
 honest : (n : ℕ) → IsHonest made_master made_slave (event.Tick end_name.Master ∷ alternating end_name.Slave n)
 honest n = record { plain = plain end_name.Slave n; turns = turns end_name.Slave n; begun = refl; time = timely end_name.Slave n _ }
 
@@ -89,11 +71,7 @@ serves_none = record {
 }
 
 serves_some : (n : ℕ) → Serves made_master (made 0 (suc n)) (entries_of 0 (suc n))
-serves_some n =
-    honest_serves made_master made_slave (made 0 (suc n)) matching
-    (subst (All (IsProperEvent made_master made_slave)) (sym (events_of_zero n))
-    (All-cons (IsProperEvent made_master made_slave) (event.Tick end_name.Master) (alternating end_name.Slave n) tt (proper end_name.Slave n)))
-    (subst (IsHonest made_master made_slave) (sym (events_of_zero n)) (honest n))
+serves_some n = search (rules, honest_serves, events_of_zero, All-cons, proper, honest)
 
 serves : (n : ℕ) → Serves made_master (made 0 n) (entries_of 0 n)
 serves zero = serves_none

@@ -1,6 +1,6 @@
 -- What a bulk run reports.
 use Rattle.duo_run.proofs.Common.{Ended, Entry, Fair, IsWorld, Summary, Told, Writes, before_is_clean, before_is_world, before_other, ended_with, entries_of, fair_world, first_other, made_lengths, made_master, made_slave, number_line, other_line, report_of, summary_lines, summary_of}
-use Rattle.std.proofs.Common.{◌≡◌, ℕ, List, ◌++◌, Option, refl, ap, ap₂, subst, ◌∙◌}
+use Rattle.std.proofs.Common.{◌≡◌, ℕ, List, ◌++◌, Option, ap, ap₂, subst, ◌∙◌, rules}
 
 -- what is known of a run is its report
 reported : (number events : ℕ) (w : List Entry) (summary : Summary) (other : Option ℕ) → summary ≡ summary_of w → other ≡ first_other w
@@ -17,6 +17,4 @@ bulk_wrote number events summary other ended result text sink tells first is end
     (subst (λ (text : List ℕ). Writes 0 text ended result sink) (is ∙ reported number events w summary other tells first) writes)
 
 pub entries_fair : (number events : ℕ) → IsWorld made_master made_slave (entries_of number events) → Fair made_lengths (before_other (entries_of number events))
-entries_fair number events is_world =
-    let w : List Entry = entries_of number events in
-    fair_world made_master made_slave (before_other w) (record { master = refl; slave = refl }) (before_is_world made_master made_slave w is_world) (before_is_clean w)
+entries_fair number events h = search (rules, fair_world, before_is_world, before_is_clean)

@@ -1,31 +1,15 @@
 -- No event of a number names a frame that wasn't sent, so each has its entry.
-use Rattle.duo_run.proofs.Common.{End, Entry, Event, Move, altered, altered_delivery, back_th, deed_in, deeds, delivery, end_of_event, entries_of, entry_at, entry_on, event_at, event_by, frames_of, is_empty, is_switch_on, load_of, made, made_master, made_slave, mask_of, move_from, next_entry, peer, place_of, same_end, setup_of, word_after, world_next}
-use Rattle.std.proofs.Common.{◌≡◌, ℕ, zero, suc, ◌-◌, ◌≤◌, ◌/◌, ◌%◌, ◌^◌, List, [], ◌∷◌, length, Bool, true, false, if◌then◌else◌, Some, refl, sym, ap, subst, ◌∙◌, length-append, arith}
+use Rattle.duo_run.proofs.Common.{End, Entry, Event, Move, altered, altered_delivery, back_th, deeds, delivery, end_of_event, entries_of, entry_at, entry_on, event_at, event_by, frames_of, is_switch_on, load_of, made, made_master, made_slave, mask_of, move_from, next_entry, peer, place_of, setup_of, word_after, world_next}
+use Rattle.std.proofs.Common.{◌≡◌, ℕ, zero, suc, ◌-◌, ◌≤◌, ◌/◌, ◌%◌, ◌^◌, List, [], ◌∷◌, length, Bool, if◌then◌else◌, Some, refl, sym, ap, ◌∙◌, length-append, arith, rules}
 use Rattle.fsoe_base.specs.declared.command.End.TheVariants as end_name
 use Rattle.fsoe_crc.specs.Remainder.{computing}
 use Rattle.param_load.specs.declared.entry.Move.TheVariants as move
 use Rattle.schedule_file.specs.declared.event.Event.TheVariants as event
-use Rattle.end_model.specs.Chain.{own}
-
--- after an entry an end has sent as many frames or one more
-own_more : (sent : Bool) (frame : List ℕ) (frames : List (List ℕ)) → length frames ≤ length (if sent then frames else frame ∷ frames)
-own_more true frame frames = omega arith
-own_more false frame frames = omega arith
-
-frames_more : (which : End) (x : Entry) (w : List Entry) (mine : Bool) → length (frames_of which w) ≤ length (own (if mine then deed_in x ∷ deeds which w else deeds which w))
-frames_more which x w true = own_more (is_empty x.sent) x.sent (frames_of which w)
-frames_more which x w false = omega arith
 
 -- both ends sent two frames
 pub record SentTwo (w : List Entry) : Type 0 where
   pub master : 2 ≤ length (frames_of end_name.Master w)
   pub slave : 2 ≤ length (frames_of end_name.Slave w)
-
-still_two : (x : Entry) (w : List Entry) → SentTwo w → SentTwo (x ∷ w)
-still_two x w two = record {
-  master = omega (arith, two.master, frames_more end_name.Master x w (same_end end_name.Master x.end));
-  slave = omega (arith, two.slave, frames_more end_name.Slave x w (same_end end_name.Slave x.end));
-}
 
 -- the last two frames are there
 last_two : (frames : List (List ℕ)) → 2 ≤ length frames → ((f : List ℕ) × (back_th 1 frames ≡ Some f)) × ((f : List ℕ) × (back_th 2 frames ≡ Some f))
@@ -53,8 +37,7 @@ last_goes : (w : List Entry) (to : End) → 1 ≤ length (frames_of (peer to) w)
 last_goes w to one = let f = last_one _ one in goes_by w (event.Deliver to 1) (move.Deliver f.0) (ap delivery f.1)
 
 sent_to : (w : List Entry) (to : End) → SentTwo w → 2 ≤ length (frames_of (peer to) w)
-sent_to w end_name.Master two = two.slave
-sent_to w end_name.Slave two = two.master
+sent_to w to h = grind arith
 
 deliver_goes : (w : List Entry) (to : End) → SentTwo w → Goes w (event.Deliver to 1)
 deliver_goes w to two = last_goes w to (omega (arith, sent_to w to two))
@@ -68,8 +51,7 @@ altered_goes w to pos mask two =
     goes_by w (event.Altered to 1 pos mask) (move.Deliver (altered pos mask f.0)) (ap (altered_delivery pos mask) f.1)
 
 choose : (w : List Entry) (test : Bool) (x y : Event) → Goes w x → Goes w y → Goes w (if test then x else y)
-choose w true x y a b = a
-choose w false x y a b = b
+choose w test x y h k = grind arith
 
 -- the event of a word
 word_goes : (w : List Entry) (rest word : ℕ) → SentTwo w → Goes w (event_by rest word)
@@ -109,13 +91,6 @@ fourth_goes : (number : ℕ) → Goes (entries_of number 3) (event_at number 4)
 unfolding computing
 fourth_goes number = let two : length (frames_of end_name.Master (entries_of number 3)) ≡ 2 = refl in last_goes (entries_of number 3) end_name.Slave (omega (arith, two))
 
-two_after_four : (number : ℕ) → SentTwo (entries_of number 4)
-unfolding computing
-two_after_four number =
-    let master : length (frames_of end_name.Master (entries_of number 4)) ≡ 2 = refl in
-    let slave : length (frames_of end_name.Slave (entries_of number 4)) ≡ 2 = refl in
-    record { master = omega (arith, master); slave = omega (arith, slave) }
-
 next_goes : (number count : ℕ) → (4 ≤ count → SentTwo (entries_of number count)) → Goes (entries_of number count) (event_at number (suc count))
 next_goes number zero two = goes_by [] (event.Tick end_name.Master) move.Tick refl
 next_goes number (suc zero) two = second_goes number
@@ -125,9 +100,7 @@ next_goes number (suc (suc (suc (suc count)))) two = later_goes number (suc (suc
 
 two_more : (number count : ℕ) (x : Entry) → (4 ≤ count → SentTwo (entries_of number count)) → entries_of number (suc count) ≡ x ∷ entries_of number count
     → 4 ≤ suc count → SentTwo (entries_of number (suc count))
-two_more number (suc (suc (suc zero))) x two next late = two_after_four number
-two_more number (suc (suc (suc (suc count)))) x two next late = subst SentTwo (sym next) (still_two x _ (two (omega arith)))
-two_more number _ x two next late = absurd (omega (arith, late))
+two_more number count x h k l = search rules
 
 -- so many events are made
 length-made : (number count : ℕ) → length (made number count) ≡ count

@@ -1,7 +1,6 @@
 -- The lines of entries one after another.
-use Rattle.duo_run.proofs.Common.{Entry, Event, IsPrefix, MasterSettings, SlaveSettings, entry_at, entry_line, entry_lines, going_on, world, world_after, world_on}
+use Rattle.duo_run.proofs.Common.{Entry, Event, IsPrefix, MasterSettings, SlaveSettings, append-nil, entry_at, entry_line, entry_lines, going_on, world, world_after, world_on}
 use Rattle.std.proofs.Common.{◌≡◌, ℕ, ◌+◌, List, [], ◌∷◌, ◌++◌, length, Option, Some, None, ap, ◌∙◌, sym, append_assoc}
-use Rattle.std.proofs.lemmas.List.{append-nil}
 
 lines_on : (ms : MasterSettings) (ss : SlaveSettings) (events : List Event) (w : List Entry) (next : Option Entry) → ((x : Entry) → IsPrefix (entry_lines (x ∷ w)) (entry_lines (world_after ms ss events (x ∷ w))))
     → IsPrefix (entry_lines w) (entry_lines (going_on w next (world_after ms ss events)))

@@ -1,7 +1,6 @@
 -- What an event is to its end: by the last 64 frames of its peer as by all of them.
-use Rattle.duo_run.proofs.Common.{DuoView, End, Event, Fits, IsDuo, IsProper, IsWritable, OfMaster, OfSlave, WindowView, allows_id, altered_delivery, back_th, delivery, end_of_event, length_of, lengths_of, move_at, move_from, profile_of, profiles_of, window_of}
-use Rattle.std.proofs.Common.{◌≡◌, ℕ, List, refl, ap, subst, ◌∙◌}
-use Rattle.std.specs.Prelude.{IsTrue}
+use Rattle.duo_run.proofs.Common.{DuoView, Event, Fits, IsDuo, IsProper, IsWritable, OfMaster, OfSlave, WindowView, altered_delivery, back_th, delivery, end_of_event, length_of, lengths_of, move_at, move_from, profile_of, profiles_of, window_of}
+use Rattle.std.proofs.Common.{◌≡◌, ℕ, List, refl, ap, ◌∙◌, arith}
 use Rattle.fsoe_base.specs.declared.command.End.TheVariants as end_name
 use Rattle.black_channel.proofs.Pushed.{back_within}
 use Rattle.schedule_file.specs.declared.event.Event.TheVariants as event
@@ -14,11 +13,7 @@ moved_within v frames _ writable h = refl
 
 -- what an event is to its end is proper there, where the event fits
 pub master_proper : (v : DuoView) (event : Event) (came : List ℕ) → end_of_event event ≡ end_name.Master → Fits (length_of (lengths_of v)) (profile_of (profiles_of v)) event → IsProper (OfMaster v.master.kit.settings) (move_at event came)
-master_proper v (event.Put at load) came here fits = fits.1 ∙ ap (length_of (lengths_of v)) here
-master_proper v (event.Nonce at id) came here fits = subst (λ (at : End). IsTrue (allows_id (profile_of (profiles_of v) at) id)) here fits.1
-master_proper v _ came here fits = tt
+master_proper v event came h k = grind arith
 
 pub slave_proper : (v : DuoView) (event : Event) (came : List ℕ) → IsDuo v → end_of_event event ≡ end_name.Slave → Fits (length_of (lengths_of v)) (profile_of (profiles_of v)) event → IsProper (OfSlave v.slave.kit.settings) (move_at event came)
-slave_proper v (event.Put at load) came duo here fits = fits.1 ∙ ap (length_of (lengths_of v)) here ∙ duo.same.slave
-slave_proper v (event.Nonce at id) came duo here fits = subst (λ (at : End). IsTrue (allows_id (profile_of (profiles_of v) at) id)) here fits.1
-slave_proper v _ came duo here fits = tt
+slave_proper v event came h k l = grind arith

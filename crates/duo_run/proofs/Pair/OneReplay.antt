@@ -1,8 +1,6 @@
 -- An input has one report of both ends: its header says all that they are set to, and no more than they may be set to.
-use Rattle.duo_run.proofs.Common.{AreEntries, AreSetTo, Ended, Entry, Event, Heading, Input, IsMasterOf, IsSlaveOf, MasterSettings, ReplayReports, SlaveSettings, ended_at, entry_lines, gives_master, gives_slave, input_of, last_lines, one_master, one_slave, run_stop, world}
-use Rattle.std.proofs.Common.{◌≡◌, ℕ, List, [], ◌++◌, refl, ap, ◌∙◌, sym}
-use Rattle.std.specs.Prelude.{IfSome, Some, None}
-use Rattle.std.specs.declared.option.Option.{Option}
+use Rattle.duo_run.proofs.Common.{AreEntries, AreSetTo, Ended, Entry, Event, Heading, IfSome, Input, IsMasterOf, IsSlaveOf, MasterSettings, None, Option, ReplayReports, SlaveSettings, Some, ended_at, entry_lines, gives_master, gives_slave, input_of, last_lines, one_master, one_slave, run_stop, world}
+use Rattle.std.proofs.Common.{◌≡◌, ℕ, List, [], ◌++◌, refl, ap, ◌∙◌, sym, rules}
 use Rattle.schedule_file.specs.declared.header_kind.HeaderKind.TheVariants as kind
 
 one_entries : (heading : Option Heading) (events : List Event) (a b : List Entry) → AreEntries heading events a → AreEntries heading events b → a ≡ b
@@ -14,12 +12,10 @@ one_entries (Some h) events a b x y =
     ∙ sym y.3
 
 pub one_text : (input : Input) (a b : Ended) (x y : List ℕ) → ReplayReports input a x → ReplayReports input b y → x ≡ y
-one_text input a b x y r s =
-    r.2 ∙ ap (λ (w : List Entry). entry_lines w ++ last_lines w (run_stop input w)) (one_entries input.heading input.events r.0 s.0 r.1 s.1) ∙ sym s.2
+one_text input a b x y h k = search (rules, one_entries)
 
 pub one_ending : (input : Input) (a b : Ended) (x y : List ℕ) → ReplayReports input a x → ReplayReports input b y → a ≡ b
-one_ending input a b x y r s =
-    r.3 ∙ ap (λ (w : List Entry). ended_at w (run_stop input w)) (one_entries input.heading input.events r.0 s.0 r.1 s.1) ∙ sym s.3
+one_ending input a b x y h k = search (rules, one_entries)
 
 -- a whole header gives the settings of both ends, and so the entries
 set_by : (heading : Option Heading) → IfSome heading (λ h. (ms : MasterSettings) × IsMasterOf h ms) → IfSome heading (λ h. (ss : SlaveSettings) × IsSlaveOf h ss)

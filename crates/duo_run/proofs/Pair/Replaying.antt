@@ -1,22 +1,15 @@
 -- A pair does over its events what a world says, and reports it.
-use Rattle.duo_run.proofs.Common.{Advances, AtEnd, Did, DuoStands, DuoView, End, Ended, EndsReport, EndsUnmet, EndsWhole, Entry, Event, Fits, Heading, Input, MasterSettings, MayCome, Misses, NextEntry, NoFrame, Profile, Refused, ReplayReports, ReplayStands, ReportsSoFar, ShowsLast, SlaveSettings, State, Stop, TakesEvent, end_of_event, ended_at, ended_whole, ended_with, entry_at, entry_line, entry_lines, events_line, first_other, heading_profile, input_stopped, last_lines, length_of, lengths_of, line_of, number_of_first, other_line, own_length, pair_event_fits, profile_of, profiles_of, refused_line, replay_reporting, run_stop, schedule_format, world, world_missed, world_next}
-use Rattle.std.proofs.Common.{◌≡◌, ℕ, ◌+◌, Bool, true, List, [], ◌∷◌, ◌++◌, length, refl, arith, ap, ◌∙◌, sym, subst, append_assoc, eq-eqb}
-use Rattle.std.specs.Prelude.{Some, None, if◌then◌else◌}
-use Rattle.std.specs.declared.option.Option.{Option}
-use Rattle.std.proofs.lemmas.Bool.{ne_eqb}
-use Rattle.std.proofs.lemmas.List.{length_push, length-append}
-use Rattle.fsoe_base.specs.declared.command.End.TheVariants as end_name
+use Rattle.duo_run.proofs.Common.{Advances, AtEnd, Did, DuoStands, DuoView, End, Ended, EndsReport, EndsUnmet, EndsWhole, Entry, Event, Fits, Heading, Input, MasterSettings, MayCome, Misses, NextEntry, NoFrame, None, Option, Profile, Refused, ReplayReports, ReplayStands, ReportsSoFar, ShowsLast, SlaveSettings, Some, State, Stop, TakesEvent, end_of_event, ended_at, ended_with, entry_at, entry_line, entry_lines, events_line, first_other, heading_profile, input_stopped, last_lines, length-append, length_of, length_push, lengths_of, line_of, number_of_first, other_line, own_length, pair_event_fits, profile_of, profiles_of, refused_line, replay_reporting, run_stop, schedule_format, world, world_missed, world_next}
+use Rattle.std.proofs.Common.{◌≡◌, ℕ, ◌+◌, true, List, [], ◌∷◌, ◌++◌, length, refl, arith, ap, ◌∙◌, sym, subst, append_assoc, rules}
 use Rattle.schedule_file.specs.declared.header_kind.HeaderKind.TheVariants as kind
 use Rattle.duo_run.proofs.Pair.EntryLines.{lines_begin}
 
 -- the lengths and the profiles of a pair are those of its header
 stood_lengths : (v : DuoView) (h : Heading) (log : List Event) (text : List ℕ) → ReplayStands v h log text → (end : End) → length_of (lengths_of v) end ≡ own_length h end
-stood_lengths v h log text k end_name.Master = ap (λ v. v.kit.settings.lengths.master) k.stands.master.is ∙ k.set.0.0
-stood_lengths v h log text k end_name.Slave = ap (λ v. v.kit.settings.lengths.slave) k.stands.master.is ∙ k.set.0.1
+stood_lengths v h log text k end = grind arith
 
 stood_profiles : (v : DuoView) (h : Heading) (log : List Event) (text : List ℕ) → ReplayStands v h log text → (end : End) → profile_of (profiles_of v) end ≡ heading_profile h end
-stood_profiles v h log text k end_name.Master = ap (λ v. v.kit.settings.profile) k.stands.master.is ∙ k.set.0.2.profile_is
-stood_profiles v h log text k end_name.Slave = ap (λ v. v.kit.settings.profile) k.stands.slave.is ∙ k.set.1.2.profile_is
+stood_profiles v h log text k end = grind arith
 
 -- an event that may come fits the pair
 pub same_word : {X : Type 0} (f g : End → X) → ((end : End) → f end ≡ g end) → f ≡ g
@@ -39,8 +32,7 @@ told_whole v h log text k = ap (length {A = Entry}) (sym k.is_world) ∙ k.whole
 -- the next entry has the line of the parts that were told
 line-is : (v : DuoView) (number : ℕ) (at : End) (did : Did) (state : State) (outputs sent : List ℕ) (ms : MasterSettings) (ss : SlaveSettings) (x : Entry) (w : List Entry) → ShowsLast v at state (λ x. x.state) → ShowsLast v at outputs (λ x. x.outputs)
     → DuoStands ms ss v (x ∷ w) → x.end ≡ at → x.did ≡ did → x.sent ≡ sent → line_of number at did state outputs sent ≡ entry_line number x
-line-is v number at did state outputs sent ms ss x w states outs stands end_is did_is sent_is =
-    sym (rw (end_is, did_is, states.shows ms ss x w stands end_is, outs.shows ms ss x w stands end_is, sent_is) refl)
+line-is v number at did state outputs sent ms ss x w h k l m n o = grind arith
 
 -- a step goes on with its entry
 pair_goes : (old new : DuoView) (event : Event) (number : ℕ) (at : End) (did : Did) (state : State) (outputs sent piece : List ℕ) → Advances old event did sent new → at ≡ end_of_event event
@@ -72,13 +64,11 @@ pair_goes_on old new event number at did state outputs sent piece advances here 
 
 -- where each event has its entry, the run stops as the input does
 stops_with : (input : Input) (w : List Entry) → length w ≡ length input.events → run_stop input w ≡ input.stop
-stops_with input w whole =
-    ap (λ (all : Bool). if all then input.stop else Refused (input.lines + length w + 1) NoFrame) (eq-eqb (length w) (length input.events) whole)
+stops_with input w h = grind arith
 
 -- and else at the first event without one
 stops_before : (input : Input) (w : List Entry) → (length w ≡ length input.events → ⊥) → run_stop input w ≡ Refused (input.lines + length w + 1) NoFrame
-stops_before input w fewer =
-    ap (λ (all : Bool). if all then input.stop else Refused (input.lines + length w + 1) NoFrame) (ne_eqb (length w) (length input.events) fewer)
+stops_before input w h = grind arith
 
 -- the lines so far begin the report, and with a last line they are that of an input that stops after them
 pair_stopped : (v : DuoView) (h : Heading) (n : ℕ) (log : List Event) (text : List ℕ) (stop : Stop) (k : ReplayStands v h log text) → ReplayReports (input_stopped h n log stop) (ended_at k.entries stop) (text ++ last_lines k.entries stop)
@@ -117,10 +107,7 @@ pair_unsent v event misses h log text k = λ n more stop.
     let input : Input = input_stopped h n ((log ++ event ∷ []) ++ more) stop in
     let none : entry_at k.ms k.ss w event ≡ None = misses.misses k.ms k.ss w k.stands in
     let longer : (log ++ event ∷ []) ++ more ≡ log ++ event ∷ more = append_assoc log (event ∷ []) more in
-    let ends : w ≡ world k.ms k.ss ((log ++ event ∷ []) ++ more) =
-    k.is_world
-    ∙ sym (world_missed k.ms k.ss log more event (told_whole v h log text k) (subst (λ (w : List Entry). entry_at k.ms k.ss w event ≡ None) k.is_world none))
-    ∙ ap (world k.ms k.ss) (sym longer) in
+    let ends : w ≡ world k.ms k.ss ((log ++ event ∷ []) ++ more) = search (rules, world_missed, told_whole) in
     let fewer : length w ≡ length ((log ++ event ∷ []) ++ more) → ⊥ =
     λ same. let all = ap (length {A = Event}) longer in omega (arith, same, all, k.whole, length-append log (event ∷ more)) in
     let stops : run_stop input w ≡ Refused number NoFrame =
@@ -137,13 +124,10 @@ pub pair_ends : (v : DuoView) (h : Heading) (log : List Event) (text last : List
     → EndsReport replay_reporting h log (text ++ last) ended
 pair_ends v h log text last events other ended count tells is e k = λ n.
     let first : other ≡ first_other k.entries = tells k.ms k.ss k.entries k.stands in
-    let lines : last ≡ last_lines k.entries AtEnd =
-    is ∙ ap (λ (o : Option ℕ). events_line events ++ other_line o) first ∙ ap (λ (m : ℕ). events_line m ++ other_line (first_other k.entries)) (sym (k.whole ∙ count)) in
+    let lines : last ≡ last_lines k.entries AtEnd = search rules in
     subst (λ (z : List ℕ). ReplayReports (input_stopped h n log AtEnd) ended (text ++ z)) (sym lines)
     (subst (λ (x : Ended). ReplayReports (input_stopped h n log AtEnd) x (text ++ last_lines k.entries AtEnd)) (sym (e ∙ ap ended_with first)) (pair_stopped v h n log text AtEnd k))
 
 pub pair_ends_whole : (v : DuoView) (h : Heading) (log : List Event) (text : List ℕ) (other : Option ℕ) (ended : Ended) → ((ms : MasterSettings) (ss : SlaveSettings) (w : List Entry) → DuoStands ms ss v w → other ≡ first_other w)
     → ended ≡ ended_with other → ReplayStands v h log text → EndsWhole true ended.status ended.place
-pair_ends_whole v h log text other ended tells e k =
-    subst (λ (x : Ended). EndsWhole true x.status x.place) (sym e)
-    (ended_whole other (λ n is. let at = number_of_first k.entries n (sym (tells k.ms k.ss k.entries k.stands) ∙ is) in omega (arith, at)))
+pair_ends_whole v h log text other ended k l m = search (rules, number_of_first)

@@ -1,28 +1,21 @@
 -- A pair whose end does its next deed does the next entry of the world.
-use Rattle.duo_run.proofs.Common.{Acts, Advances, Comes, Deed, Did, DuoStands, DuoView, End, Entry, Event, Happens, Hears, IsWritable, MasterActs, MasterIsAfter, MasterSettings, Misses, Move, NextEntry, NotesParts, OfMaster, OfSlave, Setup, ShowsLast, SlaveActs, SlaveIsAfter, SlaveSettings, SlaveView, State, Steps, Terms, deeds, delivered, end_of_event, entry_at, entry_on, frames_of, heard_at, is_empty, move_at, move_from, next_entry, peer, sent_by, setup_of, step, window_of}
-use Rattle.std.proofs.Common.{◌≡◌, ℕ, List, ◌∷◌, Option, Some, None, refl, sym, ap, subst, ◌∙◌, if◌then◌else◌}
-use Rattle.std.specs.Prelude.{Result, Ok, Err, OnOk, OnErr}
+use Rattle.duo_run.proofs.Common.{Acts, Advances, Comes, Deed, Did, DuoStands, DuoView, End, Entry, Err, Event, Happens, Hears, IsWritable, MasterActs, MasterIsAfter, MasterSettings, Misses, Move, NextEntry, NotesParts, OfMaster, OfSlave, Ok, OnErr, OnOk, Result, ShowsLast, SlaveActs, SlaveIsAfter, SlaveSettings, State, Steps, Terms, deeds, delivered, end_of_event, entry_at, entry_on, frames_of, heard_at, is_empty, move_at, move_from, next_entry, peer, sent_by, setup_of, step, window_of}
+use Rattle.slave_core.specs.SlaveView.{SlaveView}
+use Rattle.std.proofs.Common.{◌≡◌, ℕ, List, ◌∷◌, Option, Some, None, refl, sym, ap, subst, ◌∙◌, if◌then◌else◌, rules}
 use Rattle.fsoe_base.specs.declared.command.End.TheVariants as end_name
 use Rattle.master_core.specs.MasterView.{MasterView}
 use Rattle.master_core.specs.Standing as master_core
 use Rattle.slave_core.specs.Standing as slave_core
 use Rattle.duo_run.proofs.Pair.Moved.{moved_within}
 
-window-is : (at : End) (ms : MasterSettings) (ss : SlaveSettings) (v : DuoView) (w : List Entry) → DuoStands ms ss v w → sent_by at v ≡ window_of (frames_of at w)
-window-is end_name.Master ms ss v w h = h.master_sent
-window-is end_name.Slave ms ss v w h = h.slave_sent
-
 -- what an event is by the windows, it is by all frames
 moved-is : (ms : MasterSettings) (ss : SlaveSettings) (v : DuoView) (w : List Entry) (event : Event) → IsWritable event → DuoStands ms ss v w
     → move_from (frames_of (peer (end_of_event event)) w) event ≡ move_from (heard_at event v) event
-moved-is ms ss v w event writable h =
-    let from : End = peer (end_of_event event) in
-    sym (moved_within (sent_by from v) (frames_of from w) event writable (window-is from ms ss v w h))
+moved-is ms ss v w event h k = search (rules, moved_within)
 
 entry-is : (ms : MasterSettings) (ss : SlaveSettings) (v : DuoView) (w : List Entry) (event : Event) (what : Option Move) → IsWritable event → DuoStands ms ss v w
     → move_from (heard_at event v) event ≡ what → entry_at ms ss w event ≡ entry_on (setup_of ms ss (end_of_event event)) (deeds (end_of_event event) w) what
-entry-is ms ss v w event what writable h is =
-    ap (entry_on (setup_of ms ss (end_of_event event)) (deeds (end_of_event event) w)) (moved-is ms ss v w event writable h ∙ is)
+entry-is ms ss v w event what h k l = search (rules, moved-is)
 
 pub misses_by : (v : DuoView) (event : Event) → IsWritable event → move_from (heard_at event v) event ≡ None → Misses v event
 misses_by v event writable is = record { misses = λ ms ss w h. entry-is ms ss v w event None writable h is }
@@ -139,31 +132,7 @@ slave_happens old new event came did sent comes follows answers heard noted mast
 abbrev entry : End → Move → Did → List ℕ → State → List ℕ → Option Terms → Entry
 entry at what did sent state outputs terms = record { end = at; what = what; did = did; sent = sent; state = state; outputs = outputs; terms = terms }
 
-same-entry : (x : Entry) (at : End) (what : Move) (did : Did) (sent : List ℕ) (state : State) (outputs : List ℕ) (terms : Option Terms)
-    → x.end ≡ at → x.what ≡ what → x.did ≡ did → x.sent ≡ sent → x.state ≡ state → x.outputs ≡ outputs → x.terms ≡ terms → x ≡ entry at what did sent state outputs terms
-same-entry x at what did sent state outputs terms a b c d e f g = λ i. record { end = a i; what = b i; did = c i; sent = d i; state = e i; outputs = f i; terms = g i }
-
-what-is : (s : Setup) (e : List Deed) (from : Option Move) (what : Move) (x : Entry) → from ≡ Some what → entry_on s e from ≡ Some x → x.what ≡ what
-what-is s e from what x is next =
-    let both : Some (next_entry s e what) ≡ Some x = sym (ap (entry_on s e) is) ∙ next in
-    let same : next_entry s e what ≡ x = cc in
-    sym (ap (λ (x : Entry). x.what) same)
-
 pub steps_by : (old : DuoView) (event : Event) (at : End) (what : Move) (did : Did) (sent : List ℕ) (state : State) (outputs : List ℕ) (terms : Option Terms) (new : DuoView)
     → at ≡ end_of_event event → IsWritable event → move_from (sent_by (peer at) old).frames event ≡ Some what → Advances old event did sent new
     → ShowsLast new at state (λ x. x.state) → ShowsLast new at outputs (λ x. x.outputs) → ShowsLast new at terms (λ x. x.terms) → Steps old event (entry at what did sent state outputs terms) new
-steps_by old event at what did sent state outputs terms new here writable is advances states outs told =
-    let is-it : (ms : MasterSettings) (ss : SlaveSettings) (w : List Entry) (h : DuoStands ms ss old w) → (advances.next ms ss w h).entry ≡ entry at what did sent state outputs terms =
-    λ ms ss w h.
-    let next : NextEntry ms ss w event did sent new = advances.next ms ss w h in
-    let x : Entry = next.entry in
-    let end : x.end ≡ at = next.end_is ∙ sym here in
-    let whats : x.what ≡ what =
-    what-is (setup_of ms ss (end_of_event event)) (deeds (end_of_event event) w) (move_from (frames_of (peer (end_of_event event)) w) event) what x
-    (moved-is ms ss old w event writable h ∙ subst (λ (at : End). move_from (sent_by (peer at) old).frames event ≡ Some what) here is) next.next in
-    same-entry x at what did sent state outputs terms end whats next.did_is next.sent_is
-    (states.shows ms ss x w next.stands end) (outs.shows ms ss x w next.stands end) (told.shows ms ss x w next.stands end) in
-    record {
-      entry = λ ms ss w h. (advances.next ms ss w h).next ∙ ap Some (is-it ms ss w h);
-      stands = λ ms ss w h. subst (λ (x : Entry). DuoStands ms ss new (x ∷ w)) (is-it ms ss w h) (advances.next ms ss w h).stands;
-    }
+steps_by old event at what did sent state outputs terms new h k l m n o p = search (rules, moved-is)

@@ -1,6 +1,6 @@
 -- What the readers of an end give after an entry of that end is what the entry tells.
-use Rattle.duo_run.proofs.Common.{Deed, DuoStands, DuoView, End, Entry, IsNextEntry, IsRun, MasterIsAfter, MasterSettings, OfMaster, OfSlave, Setup, ShowsLast, SlaveIsAfter, SlaveSettings, State, Terms, deed_in, deeds, same_end, setup_of}
-use Rattle.std.proofs.Common.{◌≡◌, ℕ, List, ◌∷◌, Option, if◌then◌else◌, sym, ap, subst, ◌∙◌}
+use Rattle.duo_run.proofs.Common.{Deed, DuoStands, DuoView, End, Entry, IsNextEntry, IsRun, MasterIsAfter, MasterSettings, OfMaster, OfSlave, Setup, ShowsLast, SlaveIsAfter, SlaveSettings, State, Terms, deed_in, deeds, setup_of}
+use Rattle.std.proofs.Common.{◌≡◌, ℕ, List, ◌∷◌, Option, sym, ap, subst, ◌∙◌, arith}
 use Rattle.fsoe_base.specs.declared.command.End.TheVariants as end_name
 use Rattle.end_model.specs.Readiness.{state_of, told_terms}
 use Rattle.end_model.specs.Outputs.{outputs, out}
@@ -26,8 +26,7 @@ tells-terms = record { tells = λ s x e run next. ap (λ (x : Entry). x.terms) n
 
 -- the deeds of an end after an entry of its own
 own-deeds : (which : End) (x : Entry) (w : List Entry) → x.end ≡ which → deeds which (x ∷ w) ≡ deed_in x ∷ deeds which w
-own-deeds end_name.Master x w h = ap (λ (at : End). if same_end end_name.Master at then deed_in x ∷ deeds end_name.Master w else deeds end_name.Master w) h
-own-deeds end_name.Slave x w h = ap (λ (at : End). if same_end end_name.Slave at then deed_in x ∷ deeds end_name.Slave w else deeds end_name.Slave w) h
+own-deeds which x w h = grind arith
 
 next-of : (which : End) (ms : MasterSettings) (ss : SlaveSettings) (v : DuoView) (x : Entry) (w : List Entry) → x.end ≡ which → DuoStands ms ss v (x ∷ w) → IsNextEntry (setup_of ms ss which) x (deeds which w)
 next-of which ms ss v x w h stands = subst (λ (at : End). IsNextEntry (setup_of ms ss at) x (deeds at w)) h stands.world.0

@@ -1,17 +1,13 @@
 -- The pair of a number, and what a step at it leaves of the others.
-use Rattle.duo_run.proofs.Common.{DuoView, Entry, Event, Steps, StepsAt, lengths_of, numbered, profiles_of, steps_done}
-use Rattle.std.proofs.Common.{◌≡◌, ◌≤◌, ◌+◌, ◌-◌, ℕ, zero, suc, List, [], ◌∷◌, length, get_or, slice_get, slice_set, refl, arith, ap, sym, subst, ◌∙◌}
-use Rattle.std.specs.Prelude.{IfOk, IfSome, OnOk, Result, Ok, Err, Some}
-use Rattle.std.specs.declared.option.Option.{Option}
-use Rattle.std.proofs.lemmas.Option.{slice_get_read}
+use Rattle.duo_run.proofs.Common.{DuoView, Entry, Err, Event, IfOk, IfSome, Ok, OnOk, Option, Result, Some, Steps, StepsAt, lengths_of, numbered, profiles_of, slice_get_read, steps_done}
+use Rattle.std.proofs.Common.{◌≡◌, ◌≤◌, ◌+◌, ◌-◌, ℕ, zero, suc, List, [], ◌∷◌, length, get_or, slice_get, slice_set, refl, arith, ap, sym, subst, ◌∙◌, rules}
 
 -- what has a number that there is stands at its place
 pub at_number : {X : Type 0} (xs ys : List X) (k place : ℕ) (x : X) → xs ≡ ys → place ≡ k - 1 → 1 ≤ k → k ≤ length ys → x ≡ get_or xs place x → slice_get xs place ≡ Some x
 at_number xs ys k place x same at first last read = slice_get_read xs _ place x refl (omega (arith, at, first, last, ap length same)) read
 
 pub named : {X : Type 0} (k place : ℕ) (xs : List X) (x : X) → k ≡ place + 1 → slice_get xs place ≡ Some x → numbered k xs ≡ Some x
-named zero place xs x e at = absurd (omega arith)
-named (suc before) place xs x e at = let same : before ≡ place = omega arith in ap (λ (i : ℕ). slice_get xs i) same ∙ at
+named k place xs x h l = grind arith
 
 pub of_named : {X : Type 0} (P : X → Type 0) (k : ℕ) (xs : List X) (x : X) → numbered k xs ≡ Some x → IfSome (numbered k xs) P → P x
 of_named {X} P k xs x at holds = subst (λ (o : Option X). IfSome o P) at holds
@@ -30,8 +26,7 @@ set_at (a ∷ xs) zero x y at = refl
 set_at (a ∷ xs) (suc i) x y at = set_at xs i x y at
 
 pub others_stay : {X : Type 0} (k place other : ℕ) (xs new : List X) (y : X) → k ≡ place + 1 → new ≡ slice_set xs place y → (other ≡ k → ⊥) → numbered other new ≡ numbered other xs
-others_stay k place zero xs new y e is apart = refl
-others_stay k place (suc before) xs new y e is apart = ap (λ (n : List _). slice_get n before) is ∙ set_beside xs place before y (λ same. apart (omega (arith, e, same)))
+others_stay k place other xs new y h l m = search (rules, set_beside)
 
 pub steps_at : (k place : ℕ) (old new : List DuoView) (event : Event) (x : Entry) (v after : DuoView) → k ≡ place + 1 → slice_get old place ≡ Some v → new ≡ slice_set old place after → Steps v event x after
     → steps_done after ≡ steps_done v + 1 → lengths_of after ≡ lengths_of v → profiles_of after ≡ profiles_of v → StepsAt k old event x new

@@ -1,13 +1,6 @@
 -- Several new pairs are set to what a header says.
-use Rattle.duo_run.proofs.Common.{AreSetTo, DuoStands, DuoView, Heading, IsPairOf, MasterSettings, Pair, PairsHeading, PairsStage, PairsStand, SameLengths, SlaveSettings, StandsOver, is_done, numbered, other_events, pairs_begun, pairs_heading_is_whole, pairs_of}
+use Rattle.duo_run.proofs.Common.{All-cons, All-nil, AllZip, AllZip-long, AreSetTo, DuoStands, DuoView, Heading, IsPairOf, MasterSettings, None, Option, Pair, PairsHeading, PairsStage, PairsStand, SameLengths, SlaveSettings, Some, StandsOver, all_zipped_more, common_steps, is_done, length-map, numbered, other_events, pairs_begun, pairs_heading_is_whole, pairs_of}
 use Rattle.std.proofs.Common.{◌≡◌, ◌≤◌, ◌<◌, ◌+◌, ℕ, zero, suc, List, [], ◌∷◌, ◌++◌, All, IsTrue, length, map, take, slice_get, replicate, refl, arith, ap, sym, subst, ◌∙◌, add-one}
-use Rattle.std.specs.Prelude.{Some, None}
-use Rattle.std.specs.List.{AllZip}
-use Rattle.std.specs.declared.option.Option.{Option}
-use Rattle.std.proofs.lemmas.List.{length_push, length-map}
-use Rattle.std.proofs.lemmas.List.Elements.{All-cons, All-nil}
-use Rattle.std.proofs.lemmas.Slice.Zip.{AllZip-long, all_zipped_more}
-use Rattle.schedule_file.specs.declared.pairs_header.PairsStage.TheVariants as stage
 use Rattle.duo_run.proofs.Pair.FairReplay.{same_lengths}
 use Rattle.duo_run.proofs.Pairs.At.{named}
 use Rattle.duo_run.proofs.Pairs.Ticking.{found_at, some_same, taken}
@@ -69,8 +62,7 @@ none_other k (p ∷ pairs) = ap (λ (others : List (Option ℕ)). None ∷ other
 
 -- a header that is done has a pair
 has_pair : (s : PairsStage) (before : List Heading) (last : Heading) → IsTrue (is_done s) → 0 < length (pairs_begun s before last)
-has_pair stage.Done before last done = let e = length_push before last in omega (arith, e)
-has_pair _ before last done = cc
+has_pair s before last h = grind (arith, common_steps)
 
 pub some_settings : (h : PairsHeading) (settings : List (MasterSettings × SlaveSettings)) → IsTrue (pairs_heading_is_whole h) → AreSettings (pairs_of h) settings → 1 ≤ length settings
 some_settings h settings done are =

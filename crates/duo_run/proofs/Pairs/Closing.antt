@@ -1,10 +1,7 @@
 -- The closing lines of pairs, one pair after another.
-use Rattle.duo_run.proofs.Common.{closing_line, closing_lines}
-use Rattle.std.proofs.Common.{◌≡◌, ◌+◌, ℕ, suc, List, [], ◌∷◌, ◌++◌, length, take, slice_get, arith, ap, sym, ◌∙◌, add-one, append_assoc}
-use Rattle.std.specs.Prelude.{Some}
-use Rattle.std.specs.declared.option.Option.{Option}
-use Rattle.std.proofs.lemmas.List.{append-nil}
-use Rattle.duo_run.proofs.Pairs.Ticking.{found_below, taken, taken_length}
+use Rattle.duo_run.proofs.Common.{Option, Some, append-nil, closing_line, closing_lines}
+use Rattle.std.proofs.Common.{◌≡◌, ◌+◌, ℕ, suc, List, [], ◌∷◌, ◌++◌, length, take, slice_get, arith, ap, sym, ◌∙◌, append_assoc, rules}
+use Rattle.duo_run.proofs.Pairs.Ticking.{found_below, taken}
 
 closing-push : (k m : ℕ) (others : List (Option ℕ)) (other : Option ℕ) → m ≡ k + length others → closing_lines k (others ++ other ∷ []) ≡ closing_lines k others ++ closing_line m other
 closing-push k m [] other e =
@@ -15,8 +12,4 @@ closing-push k m (o ∷ others) other e =
     ∙ sym (append_assoc (closing_line k o) (closing_lines (suc k) others) (closing_line m other))
 
 pub closing_more : (others : List (Option ℕ)) (i : ℕ) (other : Option ℕ) → slice_get others i ≡ Some other → closing_lines 1 (take (i + 1) others) ≡ closing_lines 1 (take i others) ++ closing_line (i + 1) other
-closing_more others i other at =
-    let below = found_below others i other at in
-    let before = taken_length others i (omega (arith, below)) in
-    let number : i + 1 ≡ 1 + length (take i others) = omega (arith, before) in
-    ap (λ (n : ℕ). closing_lines 1 (take n others)) (add-one i) ∙ ap (closing_lines 1) (taken others i other at) ∙ closing-push 1 (i + 1) (take i others) other number
+closing_more others i other h = search (rules, found_below, taken, closing-push)

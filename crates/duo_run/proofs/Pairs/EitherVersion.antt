@@ -1,8 +1,7 @@
 -- The run of one of two machines by the first line is a replay of the version that this line tells.
-use Rattle.duo_run.proofs.Common.{ByTitle, Ended, IsTitled, Outside, RanOver, RanPair, RanPairs, pairs_reporting, replay_reporting}
-use Rattle.std.proofs.Common.{ℕ, List, inl, inr}
-use Rattle.std.specs.Prelude.{◌⊎◌, IfSome, Some, None}
-use Rattle.std.specs.declared.option.Option.{Option}
+use Rattle.duo_run.proofs.Common.{ByTitle, Ended, IfSome, IsTitled, None, Option, Outside, RanOver, RanPair, RanPairs, Some, pairs_reporting, replay_reporting}
+use Rattle.std.proofs.Common.{ℕ, List, arith}
+use Rattle.std.specs.Prelude.{◌⊎◌}
 use Rattle.duo_run.specs.Version.{RanReplay, pairs_title}
 use Rattle.duo_run.proofs.Pair.FairReplay.{told_fairly, told_serve}
 use Rattle.duo_run.proofs.Pairs.Fair.{told_pairs_fairly}
@@ -14,8 +13,7 @@ pair_ran : (ended : Ended) (o : Outside) → RanOver replay_reporting ended o �
 pair_ran ended o ran = record { run = ran; fair = told_fairly o.source.before; serves = told_serve o.source.before }
 
 one_ran : (A B X Y : Type 0) → (A → X) → (B → Y) → A ⊎ B → X ⊎ Y
-one_ran A B X Y f g (inl a) = inl (f a)
-one_ran A B X Y f g (inr b) = inr (g b)
+one_ran A B X Y h k l = grind arith
 
 if_told : (told : Option (List ℕ)) (P : List ℕ → Type 0) (A X : Type 0) → (A → X) → IfSome told (λ input. P input → A) → IfSome told (λ input. P input → X)
 if_told None P A X f ran = tt

@@ -1,8 +1,7 @@
 -- A run of several pairs to the end of its input names an event from 1 on, where it names one.
-use Rattle.duo_run.proofs.Common.{DuoView, Ended, EndsWhole, Pair, PairsEvent, PairsHeading, PairsStand, ended_whole, ended_with, first_of_both, first_other, least, less_of, other_event, other_events, world_of}
+use Rattle.duo_run.proofs.Common.{DuoView, Ended, EndsWhole, IfSome, None, Option, Pair, PairsEvent, PairsHeading, PairsStand, Some, ended_with, first_of_both, first_other, is_some, least, less_of, other_event, other_events, world_of}
+use Rattle.file_run.proofs.EndedWith.{ended_whole}
 use Rattle.std.proofs.Common.{◌≡◌, ◌<◌, ℕ, suc, Bool, true, false, List, [], ◌∷◌, length, arith, ap, sym, subst, ◌∙◌}
-use Rattle.std.specs.Prelude.{IfSome, Some, None, is_some}
-use Rattle.std.specs.declared.option.Option.{Option}
 
 abbrev IsNumber : ℕ → Type 0
 IsNumber n = 0 < n

@@ -1,17 +1,9 @@
 -- The events of several pairs are proper at the ends of each pair, so that the law of the pair holds of the entries of
 -- each.
-use Rattle.duo_run.proofs.Common.{Event, Fair, Heading, IsPairOf, IsProperEvent, Pair, PairsEvent, PairsHeading, PairsLineFits, PairsRunFairly, before_other, done_after, events_by, events_done, events_to, fair_before, heading_profile, is_met, line_of_event, numbered, own_length, pairs_events_fit, pairs_input, pairs_of, world_of}
-use Rattle.std.proofs.Common.{◌≡◌, ℕ, zero, suc, List, [], ◌∷◌, Bool, true, false, All, map, refl, sym, subst, ◌∙◌}
-use Rattle.std.specs.Prelude.{IfSome, Some, None, ◌==◌, slice_get, if◌then◌else◌}
-use Rattle.std.specs.List.{AllZip}
-use Rattle.std.specs.declared.option.Option.{Option}
-use Rattle.std.proofs.lemmas.Bool.{eqb-true}
-use Rattle.std.proofs.lemmas.List.Elements.{All-append, All-cons, All-head, All-nil, All-tail}
-use Rattle.std.proofs.lemmas.Option.{IfSome_then}
-use Rattle.fsoe_base.specs.declared.command.End.TheVariants as end_name
-use Rattle.schedule_file.specs.declared.event.Event.TheVariants as event
-use Rattle.schedule_file.specs.declared.pairs_line.PairsEvent.TheVariants as common
-use Rattle.duo_run.proofs.Pair.FairReplay.{proper, same_lengths}
+use Rattle.duo_run.proofs.Common.{All-append, All-cons, All-head, All-nil, All-tail, AllZip, Event, Fair, Heading, IfSome, IfSome_then, IsPairOf, IsProperEvent, None, Option, Pair, PairsEvent, PairsHeading, PairsLineFits, PairsRunFairly, Some, before_other, done_after, eqb-true, events_by, events_done, events_to, fair_before, heading_profile, is_met, line_of_event, numbered, own_length, pairs_events_fit, pairs_input, pairs_of, slice_get, world_of}
+use Rattle.std.proofs.Common.{◌≡◌, ℕ, zero, suc, List, [], ◌∷◌, Bool, All, map, refl, subst, arith}
+use Rattle.std.specs.Prelude.{if◌then◌else◌}
+use Rattle.duo_run.proofs.Pair.FairReplay.{same_lengths}
 use Rattle.duo_run.proofs.Pairs.Fit.{FitsHeading, fits_heading}
 use Rattle.duo_run.proofs.Pairs.Ticking.{some_same}
 
@@ -21,8 +13,7 @@ FitsAll h event = PairsLineFits (map own_length (pairs_of h)) (map heading_profi
 
 -- the events that are done are some of those that come
 done_if : (P : PairsEvent → Type 0) (met : Bool) (later past : List PairsEvent) → All P later → All P past → All P (if met then later else past)
-done_if P true later past more all = more
-done_if P false later past more all = all
+done_if P met later past h k = grind arith
 
 done_all : (P : PairsEvent → Type 0) (pairs : List Pair) (events past : List PairsEvent) → All P events → All P past → All P (done_after pairs events past)
 done_all P pairs [] past more all = all
@@ -36,24 +27,10 @@ own_all P Q k each [] all = All-nil Q
 own_all P Q k each (event ∷ past) all = All-append Q (events_to k past) (events_by k event) (own_all P Q k each past (All-tail P event past all)) (each event (All-head P event past all))
 
 one_proper : (p : Pair) (hs : List Heading) (h : Heading) (k : ℕ) (event : Event) → numbered k hs ≡ Some h → IsPairOf h p → FitsHeading hs k event → IsProperEvent p.master p.slave event
-one_proper p hs h k event at set f =
-    let same : f.heading ≡ h = some_same (sym f.at ∙ at) in
-    proper f.heading p.master p.slave (subst (λ (h : Heading). IsPairOf h p) (sym same) set) event f.fits
-
-if_named : (Q : Event → Type 0) (named : Bool) (event : Event) → (named ≡ true → Q event) → All Q (if named then event ∷ [] else [])
-if_named Q true event is = All-cons Q event [] (is refl) (All-nil Q)
-if_named Q false event is = All-nil Q
+one_proper p hs h k event l m n = grind arith
 
 by_proper : (h : PairsHeading) (k : ℕ) (own : Heading) (p : Pair) → numbered k (pairs_of h) ≡ Some own → IsPairOf own p → (event : PairsEvent) → FitsAll h event → All (IsProperEvent p.master p.slave) (events_by k event)
-by_proper h k own p at set common.Tick fits =
-    let Q : Event → Type 0 = IsProperEvent p.master p.slave in
-    let slave : Event = event.Tick end_name.Slave in
-    let master : Event = event.Tick end_name.Master in
-    All-cons Q slave (master ∷ []) tt (All-cons Q master [] tt (All-nil Q))
-by_proper h k own p at set (common.One pair event) fits =
-    if_named (IsProperEvent p.master p.slave) (pair == k) event (λ named.
-    one_proper p (pairs_of h) own k event at set
-    (subst (λ (k : ℕ). FitsHeading (pairs_of h) k event) (eqb-true pair k named) (fits_heading (pairs_of h) pair event fits)))
+by_proper h k own p l m event n = grind (arith, All-cons, one_proper, pairs_of, eqb-true, fits_heading)
 
 -- each pair is set to the header of its number
 zip_back : {A B : Type 0} (R : A → B → Type 0) (xs : List A) (ys : List B) (j : ℕ) (y : B) → AllZip R xs ys → slice_get ys j ≡ Some y → (x : A) × (slice_get xs j ≡ Some x) × R x y

@@ -1,11 +1,7 @@
 -- An event that a line says to a pair fits this pair.
-use Rattle.duo_run.proofs.Common.{DuoView, End, Event, Fits, FitsEnds, FitsPair, Heading, IsPairOf, IsSaid, Pair, PairsEvent, PairsHeading, PairsStand, Profile, StandsOver, heading_profile, length_of, lengths_of, numbered, numbered_map, own_length, pairs_event_fits, pairs_format, pairs_of, profile_of, profiles_of}
-use Rattle.std.proofs.Common.{◌≡◌, ◌≤◌, ◌+◌, ◌-◌, ℕ, zero, suc, List, [], ◌∷◌, length, map, slice_get, slice_index_or, refl, arith, ap, sym, subst, ◌∙◌}
-use Rattle.std.specs.Prelude.{Some, None, option_map}
-use Rattle.std.specs.List.{AllZip}
-use Rattle.std.specs.declared.option.Option.{Option}
-use Rattle.std.proofs.lemmas.Option.{slice_get-get_or}
-use Rattle.fsoe_base.specs.declared.command.End.TheVariants as end_name
+use Rattle.duo_run.proofs.Common.{AllZip, DuoView, End, Event, Fits, FitsPair, Heading, IsPairOf, IsSaid, Option, Pair, PairsEvent, PairsHeading, PairsStand, Some, StandsOver, heading_profile, length_of, lengths_of, numbered, own_length, pairs_event_fits, pairs_format, pairs_of, profile_of, profiles_of, slice_get-get_or}
+use Rattle.schedule_file.proofs.Pairs.{numbered_map}
+use Rattle.std.proofs.Common.{◌≡◌, ◌≤◌, ◌+◌, ◌-◌, ℕ, zero, suc, List, [], ◌∷◌, length, map, slice_get, slice_index_or, refl, arith, ap, sym, subst, ◌∙◌, rules}
 use Rattle.schedule_file.specs.declared.pairs_line.PairsEvent.TheVariants as common
 use Rattle.duo_run.proofs.Pairs.Ticking.{found_below, some_same}
 use Rattle.duo_run.proofs.Pair.Replaying.{fits_ends, same_word}
@@ -16,15 +12,8 @@ pub record FitsHeading (hs : List Heading) (k : ℕ) (event : Event) : Type 0 wh
   pub at : numbered k hs ≡ Some heading
   pub fits : Fits (own_length heading) (heading_profile heading) event
 
-heading_by : (hs : List Heading) (k : ℕ) (event : Event) (found : Option Heading) → numbered k hs ≡ found → FitsEnds (option_map own_length found) (option_map heading_profile found) event → FitsHeading hs k event
-heading_by hs k event None at fits = absurd fits
-heading_by hs k event (Some h) at fits = record { heading = h; at = at; fits = fits }
-
 pub fits_heading : (hs : List Heading) (k : ℕ) (event : Event) → FitsPair (map own_length hs) (map heading_profile hs) k event → FitsHeading hs k event
-fits_heading hs k event fits =
-    heading_by hs k event (numbered k hs) refl
-    (subst (λ (p : Option (End → Profile)). FitsEnds (option_map own_length (numbered k hs)) p event) (numbered_map heading_profile hs k)
-    (subst (λ (s : Option (End → ℕ)). FitsEnds s (numbered k (map heading_profile hs)) event) (numbered_map own_length hs k) fits))
+fits_heading hs k event h = search (rules, numbered_map)
 
 zip_at : {A B : Type 0} (R : A → B → Type 0) (xs : List A) (ys : List B) (j : ℕ) (x : A) → AllZip R xs ys → slice_get xs j ≡ Some x → (y : B) × (slice_get ys j ≡ Some y) × R x y
 zip_at R [] ys j x zip at = cc
@@ -33,12 +22,10 @@ zip_at R (a ∷ xs) (b ∷ ys) zero x zip at = let same : a ≡ x = some_same at
 zip_at R (a ∷ xs) (b ∷ ys) (suc j) x zip at = zip_at R xs ys j x zip.1 at
 
 stood_lengths : (h : Heading) (p : Pair) (v : DuoView) (own : List Event) → IsPairOf h p → StandsOver p own v → (end : End) → own_length h end ≡ length_of (lengths_of v) end
-stood_lengths h p v own set s end_name.Master = sym (ap (λ v. v.kit.settings.lengths.master) s.stands.master.is ∙ set.0.0)
-stood_lengths h p v own set s end_name.Slave = sym (ap (λ v. v.kit.settings.lengths.slave) s.stands.master.is ∙ set.0.1)
+stood_lengths h p v own k l end = grind arith
 
 stood_profiles : (h : Heading) (p : Pair) (v : DuoView) (own : List Event) → IsPairOf h p → StandsOver p own v → (end : End) → heading_profile h end ≡ profile_of (profiles_of v) end
-stood_profiles h p v own set s end_name.Master = sym (ap (λ v. v.kit.settings.profile) s.stands.master.is ∙ set.0.2.profile_is)
-stood_profiles h p v own set s end_name.Slave = sym (ap (λ v. v.kit.settings.profile) s.stands.slave.is ∙ set.1.2.profile_is)
+stood_profiles h p v own k l end = grind arith
 
 -- there is a pair of this number, which the event fits, and one step more of it can be counted
 pub record FitsOne (duos : List DuoView) (k : ℕ) (event : Event) : Type 0 where

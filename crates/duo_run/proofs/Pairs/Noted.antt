@@ -1,9 +1,6 @@
 -- The events with the first other entries of pairs are noted, one pair after another.
-use Rattle.duo_run.proofs.Common.{AllStandOver, DuoStands, DuoView, Entry, MasterSettings, NotesOthers, Pair, PairsEvent, SlaveSettings, events_to, first_of_both, first_other, other_event, other_events, world_of}
-use Rattle.std.proofs.Common.{◌≡◌, ◌≤◌, ◌<◌, ◌+◌, ℕ, zero, suc, List, [], ◌∷◌, length, slice_get, slice_set, refl, arith, ap, sym, subst, ◌∙◌, below_more}
-use Rattle.std.specs.Prelude.{Some, is_some}
-use Rattle.std.specs.declared.option.Option.{Option}
-use Rattle.std.proofs.lemmas.List.{length-set}
+use Rattle.duo_run.proofs.Common.{AllStandOver, DuoStands, DuoView, Entry, MasterSettings, NotesOthers, Option, Pair, PairsEvent, SlaveSettings, Some, events_to, first_of_both, first_other, is_some, length-set, other_event, other_events, world_of}
+use Rattle.std.proofs.Common.{◌≡◌, ◌≤◌, ◌<◌, ◌+◌, ℕ, zero, suc, List, [], ◌∷◌, length, slice_get, slice_set, refl, arith, ap, sym, subst, ◌∙◌, below_more, rules}
 use Rattle.duo_run.proofs.Pairs.At.{set_at, set_beside}
 use Rattle.duo_run.proofs.Pairs.Ticking.{found_at, found_below, some_same}
 
@@ -13,9 +10,6 @@ pub record NotedTo (number i : ℕ) (duos : List DuoView) (old now : List (Optio
   pub done : (j : ℕ) → j < i → (v : DuoView) (noted : Option ℕ) (ms : MasterSettings) (ss : SlaveSettings) (w : List Entry) → slice_get duos j ≡ Some v → slice_get old j ≡ Some noted → DuoStands ms ss v w
       → slice_get now j ≡ Some (first_of_both noted (is_some (first_other w)) number)
   pub rest : (j : ℕ) → i ≤ j → slice_get now j ≡ slice_get old j
-
-pub noted_none : (number : ℕ) (duos : List DuoView) (old : List (Option ℕ)) → NotedTo number 0 duos old old
-noted_none number duos old = record { many = refl; done = λ j below v noted ms ss w v-at at stands. absurd (omega arith); rest = λ j late. refl }
 
 pub noted_more : (number i : ℕ) (duos : List DuoView) (old now : List (Option ℕ)) (v : DuoView) (before other is : Option ℕ) → NotedTo number i duos old now → slice_get duos i ≡ Some v → slice_get now i ≡ Some before
     → is ≡ first_of_both before (is_some other) number → ((ms : MasterSettings) (ss : SlaveSettings) (w : List Entry) → DuoStands ms ss v w → other ≡ first_other w) → NotedTo number (i + 1) duos old (slice_set now i is)
@@ -76,8 +70,7 @@ others_after pairs past event duos number old new e was stand notes =
     let v = found_at duos j (let h = found_below pairs j p at in omega (arith, h, stand.many)) in
     let n : 1 + j ≡ suc j = omega arith in
     let s = stand.each (suc j) p v.0 at v.1 in
-    let before : slice_get old j ≡ Some (other_event (suc j) p past) =
-    ap (λ (o : List (Option ℕ)). slice_get o j) was ∙ others_at 1 j pairs past p at ∙ ap (λ (n : ℕ). Some (other_event n p past)) n in
+    let before : slice_get old j ≡ Some (other_event (suc j) p past) = search (rules, others_at) in
     notes.each j v.0 (other_event (suc j) p past) p.master p.slave (world_of (suc j) p (event ∷ past)) v.1 before s.stands
     ∙ ap (λ (m : ℕ). Some (first_of_both (other_event (suc j) p past) (is_some (first_other (world_of (suc j) p (event ∷ past)))) m)) e
     ∙ ap (λ (n : ℕ). Some (other_event n p (event ∷ past))) (sym n))

@@ -1,9 +1,6 @@
 -- An input has one report of several pairs: its header says all that the ends of each are set to.
-use Rattle.duo_run.proofs.Common.{ArePairs, Ended, Heading, IsPairOf, MasterSettings, Pair, PairsEvent, PairsHeading, PairsInput, PairsReports, SlaveSettings, events_done, lines_of_events, one_master, one_slave, pairs_ended, pairs_last_lines, pairs_of, pairs_stop}
-use Rattle.std.proofs.Common.{◌≡◌, ℕ, List, [], ◌∷◌, ◌++◌, refl, ap, sym, ◌∙◌}
-use Rattle.std.specs.Prelude.{Some, None}
-use Rattle.std.specs.List.{AllZip}
-use Rattle.std.specs.declared.option.Option.{Option}
+use Rattle.duo_run.proofs.Common.{AllZip, ArePairs, Ended, Heading, IsPairOf, MasterSettings, Option, Pair, PairsEvent, PairsHeading, PairsInput, PairsReports, SlaveSettings, events_done, lines_of_events, one_master, one_slave, pairs_ended, pairs_last_lines, pairs_stop}
+use Rattle.std.proofs.Common.{◌≡◌, ℕ, List, [], ◌∷◌, ◌++◌, refl, ap, sym, ◌∙◌, rules}
 
 one_pair : (h : Heading) (p q : Pair) → IsPairOf h p → IsPairOf h q → p ≡ q
 one_pair h p q x y =
@@ -18,8 +15,7 @@ same_pairs (h ∷ hs) (p ∷ a) (q ∷ b) x y = ap (λ (p : Pair). p ∷ a) (one
 same_pairs _ _ _ x y = absurd y
 
 one_list : (heading : Option PairsHeading) (a b : List Pair) → ArePairs heading a → ArePairs heading b → a ≡ b
-one_list None a b x y = x ∙ sym y
-one_list (Some h) a b x y = same_pairs (pairs_of h) a b x y
+one_list heading a b h k = search (rules, same_pairs)
 
 abbrev whole_text : PairsInput → List Pair → List ℕ
 whole_text input pairs =

@@ -1,18 +1,14 @@
 -- Several pairs do over their events what the world of each says, and report it.
-use Rattle.duo_run.proofs.Common.{DuoView, Ended, EndsUnmet, IsPrefix, NoFrame, Pair, PairsEvent, PairsHeading, PairsInput, PairsReports, PairsStand, Refused, ReportsSoFar, Stop, done_after, event_lines, events_done, input_stopped, is_met, lines_of_events, pairs_ended, pairs_input, pairs_last_lines, pairs_reporting, pairs_stop, refused_at, refused_line}
-use Rattle.std.proofs.Common.{◌≡◌, ◌+◌, ℕ, suc, Bool, true, false, List, [], ◌∷◌, ◌++◌, length, refl, arith, ap, sym, subst, ◌∙◌, append_assoc, eq-eqb}
+use Rattle.duo_run.proofs.Common.{DuoView, Ended, EndsUnmet, IsPrefix, NoFrame, Option, Pair, PairsEvent, PairsHeading, PairsInput, PairsReports, PairsStand, Refused, ReportsSoFar, Stop, append-nil, common_steps, done_after, event_lines, events_done, input_stopped, is_met, lines_of_events, pairs_ended, pairs_input, pairs_last_lines, pairs_reporting, pairs_stop}
+use Rattle.std.proofs.Common.{◌≡◌, ◌+◌, ℕ, suc, Bool, true, false, List, [], ◌∷◌, ◌++◌, length, refl, arith, ap, sym, ◌∙◌, append_assoc, rules}
 use Rattle.std.specs.Prelude.{if◌then◌else◌}
-use Rattle.std.specs.declared.option.Option.{Option}
-use Rattle.std.proofs.lemmas.Bool.{ne_eqb}
-use Rattle.std.proofs.lemmas.List.{append-nil, length-append}
 use Rattle.duo_run.proofs.Pairs.Sound.{some_pairs}
 
 -- where all events are done, the run goes on from there
 done_by : (met : Bool) (pairs : List Pair) (event : PairsEvent) (log more past : List PairsEvent) → (length (done_after pairs log (event ∷ past)) ≡ length (event ∷ past) + length log → done_after pairs (log ++ more) (event ∷ past) ≡ done_after pairs more (done_after pairs log (event ∷ past)))
     → length (if met then done_after pairs log (event ∷ past) else past) ≡ length past + suc (length log)
     → (if met then done_after pairs (log ++ more) (event ∷ past) else past) ≡ done_after pairs more (if met then done_after pairs log (event ∷ past) else past)
-done_by true pairs event log more past later whole = later (omega (arith, whole))
-done_by false pairs event log more past later whole = absurd (omega (arith, whole))
+done_by met pairs event log more past h k = grind arith
 
 done_on : (pairs : List Pair) (log more past : List PairsEvent) → length (done_after pairs log past) ≡ length past + length log → done_after pairs (log ++ more) past ≡ done_after pairs more (done_after pairs log past)
 done_on pairs [] more past whole = refl
@@ -23,17 +19,11 @@ events_on pairs log more whole = done_on pairs log more [] (omega (arith, whole)
 
 -- the next event is done
 pub done_next : (pairs : List Pair) (log : List PairsEvent) (event : PairsEvent) (past : List PairsEvent) → past ≡ events_done pairs log → length past ≡ length log → is_met pairs past event ≡ true → event ∷ past ≡ events_done pairs (log ++ event ∷ [])
-done_next pairs log event past is whole met =
-    sym
-    (events_on pairs log (event ∷ []) (ap (length {A = PairsEvent}) (sym is) ∙ whole) ∙ ap (done_after pairs (event ∷ [])) (sym is)
-    ∙ ap (λ (met : Bool). if met then event ∷ past else past) met)
+done_next pairs log event past h k l = search (rules, events_on)
 
 -- or it isn't, and the run ends there, whatever comes after
 pub done_missed : (pairs : List Pair) (log more : List PairsEvent) (event : PairsEvent) (past : List PairsEvent) → past ≡ events_done pairs log → length past ≡ length log → is_met pairs past event ≡ false → past ≡ events_done pairs (log ++ event ∷ more)
-done_missed pairs log more event past is whole met =
-    sym
-    (events_on pairs log (event ∷ more) (ap (length {A = PairsEvent}) (sym is) ∙ whole) ∙ ap (done_after pairs (event ∷ more)) (sym is)
-    ∙ ap (λ (met : Bool). if met then done_after pairs more (event ∷ past) else past) met)
+done_missed pairs log more event past h k l = search (rules, events_on)
 
 -- the lines of what was done come first
 lines_by : (met : Bool) (pairs : List Pair) (event : PairsEvent) (events past : List PairsEvent) → IsPrefix (lines_of_events pairs (event ∷ past)) (lines_of_events pairs (done_after pairs events (event ∷ past)))
@@ -52,28 +42,10 @@ lines_begin pairs log more past is whole =
     let rest = lines_after pairs more past in
     (rest.0, ap (lines_of_events pairs) (events_on pairs log more (ap (length {A = PairsEvent}) (sym is) ∙ whole) ∙ ap (done_after pairs more) (sym is)) ∙ rest.1)
 
--- where each event is done, the run stops as the input does
-stops_with : (input : PairsInput) (past : List PairsEvent) → length past ≡ length input.events → pairs_stop input past ≡ input.stop
-stops_with input past whole =
-    ap (λ (all : Bool). if all then input.stop else Refused (input.lines + length past + 1) NoFrame) (eq-eqb (length past) (length input.events) whole)
-
-stops_before : (input : PairsInput) (past : List PairsEvent) → (length past ≡ length input.events → ⊥) → pairs_stop input past ≡ Refused (input.lines + length past + 1) NoFrame
-stops_before input past fewer =
-    ap (λ (all : Bool). if all then input.stop else Refused (input.lines + length past + 1) NoFrame) (ne_eqb (length past) (length input.events) fewer)
-
 -- the lines so far and the last lines are the report of an input that stops after them
 pub pairs_stopped : (duos : List DuoView) (others : List (Option ℕ)) (made : ℕ) (h : PairsHeading) (n : ℕ) (log : List PairsEvent) (text : List ℕ) (stop : Stop) (k : PairsStand duos others made h log text)
     → PairsReports (input_stopped h n log stop) (pairs_ended k.pairs k.past stop) (text ++ pairs_last_lines k.pairs k.past stop)
-pairs_stopped duos others made h n log text stop k =
-    let P : List PairsEvent → Type 0 = λ past. (text ++ pairs_last_lines k.pairs k.past stop ≡ lines_of_events k.pairs past ++ pairs_last_lines k.pairs past (pairs_stop (input_stopped h n log stop) past))
-    × (pairs_ended k.pairs k.past stop ≡ pairs_ended k.pairs past (pairs_stop (input_stopped h n log stop) past)) in
-    let stops : pairs_stop (input_stopped h n log stop) k.past ≡ stop = stops_with (input_stopped h n log stop) k.past k.whole in
-    let here : P k.past = (
-      ap (λ (z : List ℕ). z ++ pairs_last_lines k.pairs k.past stop) k.lines ∙ ap (λ (s : Stop). lines_of_events k.pairs k.past ++ pairs_last_lines k.pairs k.past s) (sym stops),
-      ap (pairs_ended k.pairs k.past) (sym stops),
-    ) in
-    let there : P (events_done k.pairs log) = subst P k.done here in
-    (k.pairs, k.set, there.0, there.1)
+pairs_stopped duos others made h n log text stop k = grind arith
 
 pub pairs_so_far : (duos : List DuoView) (others : List (Option ℕ)) (made : ℕ) (h : PairsHeading) (log : List PairsEvent) (text : List ℕ) → PairsStand duos others made h log text → ReportsSoFar pairs_reporting h log text
 pairs_so_far duos others made h log text k = record {
@@ -96,22 +68,7 @@ pairs_so_far duos others made h log text k = record {
 -- an event comes whose frame wasn't sent
 pub pairs_unsent : (duos : List DuoView) (others : List (Option ℕ)) (made : ℕ) (h : PairsHeading) (log : List PairsEvent) (text : List ℕ) (event : PairsEvent) (k : PairsStand duos others made h log text) → is_met k.pairs k.past event ≡ false
     → EndsUnmet pairs_reporting h log text event NoFrame
-pairs_unsent duos others made h log text event k missed = λ n more stop.
-    let input : PairsInput = input_stopped h n ((log ++ event ∷ []) ++ more) stop in
-    let number : ℕ = n + length log + 1 in
-    let longer : (log ++ event ∷ []) ++ more ≡ log ++ event ∷ more = append_assoc log (event ∷ []) more in
-    let ends : k.past ≡ events_done k.pairs ((log ++ event ∷ []) ++ more) = done_missed k.pairs log more event k.past k.done k.whole missed ∙ ap (events_done k.pairs) (sym longer) in
-    let fewer : length k.past ≡ length ((log ++ event ∷ []) ++ more) → ⊥ =
-    λ same. let all = ap (length {A = PairsEvent}) longer in omega (arith, same, all, k.whole, length-append log (event ∷ more)) in
-    let stops : pairs_stop input k.past ≡ Refused number NoFrame = stops_before input k.past fewer ∙ ap (λ (m : ℕ). Refused (n + m + 1) NoFrame) k.whole in
-    let P : List PairsEvent → Type 0 = λ past. (text ++ refused_line number NoFrame ≡ lines_of_events k.pairs past ++ pairs_last_lines k.pairs past (pairs_stop input past))
-    × (refused_at number ≡ pairs_ended k.pairs past (pairs_stop input past)) in
-    let here : P k.past = (
-      ap (λ (z : List ℕ). z ++ refused_line number NoFrame) k.lines ∙ ap (λ (s : Stop). lines_of_events k.pairs k.past ++ pairs_last_lines k.pairs k.past s) (sym stops),
-      ap (pairs_ended k.pairs k.past) (sym stops),
-    ) in
-    let there : P (events_done k.pairs ((log ++ event ∷ []) ++ more)) = subst P ends here in
-    (k.pairs, k.set, there.0, there.1)
+pairs_unsent duos others made h log text event k l = grind (arith, common_steps, done_missed)
 
 -- each input has a report
 pub some_report : (bytes : List ℕ) → (report : List ℕ) × (ended : Ended) × PairsReports (pairs_input bytes) ended report

@@ -1,10 +1,7 @@
 -- Each header of several pairs that is whole says settings of both ends of each.
-use Rattle.duo_run.proofs.Common.{ArePairs, Heading, IsPairOf, Pair, PairsHeading, PairsStage, Sound, after_sound, by_word, each, fields_of, heading_after, known, last_taken, master_settings, may_end, new_sound, next_pair, pair_begun, pair_taken, pairs_begun, pairs_format, pairs_input, pairs_line_taken, pairs_of, slave_settings}
+use Rattle.duo_run.proofs.Common.{All-head, All-nil, All-push, All-tail, AllZip, ArePairs, Err, Heading, IfOk, IsPairOf, Ok, Pair, PairsHeading, PairsStage, Sound, after_sound, by_word, bytes_eq, codes, each, fields_of, heading_after, known, last_taken, master_settings, may_end, new_sound, next_pair, pair_begun, pair_taken, pairs_begun, pairs_format, pairs_input, pairs_line_taken, pairs_of, slave_settings}
 use Rattle.std.proofs.Common.{◌+◌, ℕ, List, [], ◌∷◌, All, length, Option, Some, None, IfSome, refl}
-use Rattle.std.specs.Prelude.{IfOk, Ok, Err, codes, ◌&&◌}
-use Rattle.std.specs.List.{AllZip}
-use Rattle.std.specs.Str.{bytes_eq}
-use Rattle.std.proofs.lemmas.List.Elements.{All-head, All-tail, All-nil, All-push}
+use Rattle.std.specs.Prelude.{◌&&◌}
 use Rattle.schedule_file.specs.declared.header_kind.HeaderKind.TheVariants as kind
 use Rattle.schedule_file.specs.declared.line_cause.LineCause.TheVariants as cause
 use Rattle.schedule_file.specs.declared.pairs_header.PairsStage.TheVariants as stage

@@ -1,12 +1,9 @@
 -- Several pairs go on with the next event of all.
-use Rattle.duo_run.proofs.Common.{AllStandOver, CanStep, DuoView, EndsUnmet, Entry, Event, IsPairOf, Misses, NoFrame, NotesOthers, Pair, PairsEvent, PairsHeading, PairsStand, StandsOver, TellsNext, Ticks, entries_by, entries_over, entry_after, event_lines, events_by, events_to, is_met, is_met_by, line_if, lines_of_events, numbered, one_line, pair_line, pairs_of, pairs_reporting, steps_done, tick_lines, with_tick}
+use Rattle.duo_run.proofs.Common.{AllStandOver, AllZip-long, CanStep, DuoView, EndsUnmet, Entry, Event, IsPairOf, Misses, NoFrame, None, NotesOthers, Option, Pair, PairsEvent, PairsHeading, PairsStand, Some, StandsOver, TellsNext, Ticks, append-nil, entries_by, entries_over, entry_after, eqb-false, eqb-true, event_lines, events_by, events_to, is_met, is_met_by, is_some, length-append, length-set, length_push, line_if, lines_of_events, numbered, one_line, pairs_of, pairs_reporting, steps_done, tick_lines, with_tick}
+use Rattle.duo_run.specs.PairsReport.{pair_line}
 use Rattle.schedule_file.specs.PairsInput.{entries_of}
-use Rattle.std.proofs.Common.{◌≡◌, ◌≤◌, ◌<◌, ◌+◌, ◌*◌, ◌^◌, ℕ, suc, Bool, true, false, List, [], ◌∷◌, ◌++◌, length, slice_get, slice_set, refl, arith, ap, sym, subst, ◌∙◌, append_assoc}
-use Rattle.std.specs.Prelude.{Some, None, is_some, if◌then◌else◌, ◌==◌}
-use Rattle.std.specs.declared.option.Option.{Option}
-use Rattle.std.proofs.lemmas.Bool.{eqb-false, eqb-true}
-use Rattle.std.proofs.lemmas.Slice.Zip.{AllZip-long}
-use Rattle.std.proofs.lemmas.List.{append-nil, length_push, length-append, length-set}
+use Rattle.std.proofs.Common.{◌≡◌, ◌≤◌, ◌<◌, ◌+◌, ◌*◌, ◌^◌, ℕ, suc, Bool, true, false, List, [], ◌∷◌, ◌++◌, length, slice_get, slice_set, refl, arith, ap, sym, subst, ◌∙◌, append_assoc, rules}
+use Rattle.std.specs.Prelude.{if◌then◌else◌, ◌==◌}
 use Rattle.fsoe_base.specs.declared.command.End.TheVariants as end_name
 use Rattle.schedule_file.specs.declared.event.Event.TheVariants as event
 use Rattle.schedule_file.specs.declared.pairs_line.PairsEvent.TheVariants as common
@@ -20,14 +17,8 @@ entries-push : (n : ℕ) (log : List PairsEvent) (event : PairsEvent) → entrie
 entries-push n [] event = omega arith
 entries-push n (e ∷ log) event = let rest = entries-push n log event in omega (arith, rest)
 
--- events of all are at most two of each pair
-if_few : (b : Bool) (own : Event) → length {A = Event} (if b then own ∷ [] else []) ≤ 2
-if_few true own = omega arith
-if_few false own = omega arith
-
 by_few : (k : ℕ) (event : PairsEvent) → length (events_by k event) ≤ 2
-by_few k common.Tick = omega arith
-by_few k (common.One pair own) = if_few (pair == k) own
+by_few k event = grind arith
 
 pub events_few : (k : ℕ) (past : List PairsEvent) → length (events_to k past) ≤ 2 * length past
 events_few k [] = omega arith
@@ -66,9 +57,7 @@ pub tick_goes : (old mid new : List DuoView) (others noted : List (Option ℕ)) 
 tick_goes old mid new others noted made now number first second h log text slaves masters notes count e k =
     let a = slaves.ticks k.pairs (λ j. events_to j k.past) k.stand in
     let b = masters.ticks k.pairs (with_tick end_name.Slave (λ j. events_to j k.past)) a.stand in
-    let stand : AllStandOver k.pairs (λ j. events_to j (common.Tick ∷ k.past)) new =
-    stand_same k.pairs (with_tick end_name.Master (with_tick end_name.Slave (λ j. events_to j k.past))) (λ j. events_to j (common.Tick ∷ k.past)) new
-    (λ j. two (events_to j k.past) (event.Tick end_name.Slave) (event.Tick end_name.Master)) b.stand in
+    let stand : AllStandOver k.pairs (λ j. events_to j (common.Tick ∷ k.past)) new = search (rules, stand_same, two) in
     let n : number ≡ length k.past + 1 = omega (arith, e, k.whole) in
     let m : number ≡ suc (length k.past) = omega (arith, n) in
     let piece : second ≡ tick_lines number (λ j. events_to j k.past) end_name.Slave 1 k.pairs ++ tick_lines number (with_tick end_name.Slave (λ j. events_to j k.past)) end_name.Master 1 k.pairs =
@@ -160,8 +149,7 @@ one_unsent old others made pair place own v h log text e v-at misses k =
 
 -- what an event of all needs: there are at most 16 pairs, each noted, and the entries so far are few
 by_most : (n : ℕ) (event : PairsEvent) → n ≤ 16 → entries_by n event ≤ 33
-by_most n common.Tick few = omega arith
-by_most n (common.One pair own) few = omega arith
+by_most n event h = grind arith
 
 entries_most : (n : ℕ) (log : List PairsEvent) → n ≤ 16 → entries_of n log ≤ 33 * length log
 entries_most n [] few = omega arith

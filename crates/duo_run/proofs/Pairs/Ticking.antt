@@ -1,8 +1,6 @@
 -- One end of each pair ticks, one pair after another.
-use Rattle.duo_run.proofs.Common.{AllStandOver, CanStep, DuoStands, DuoView, End, Entry, Event, Misses, Pair, StandsOver, TellsNext, Ticks, ToldNext, entries_over, entry_after, entry_at, line_if, numbered, pair_line, steps_done, tick_lines, with_tick, world_next}
-use Rattle.std.proofs.Common.{◌≡◌, ◌≤◌, ◌<◌, ◌+◌, ◌^◌, ℕ, zero, suc, List, [], ◌∷◌, ◌++◌, length, take, slice_get, slice_set, refl, arith, ap, sym, subst, ◌∙◌, append_assoc, below_more}
-use Rattle.std.specs.Prelude.{Some, None}
-use Rattle.std.proofs.lemmas.List.{append-nil, length_push, length-set}
+use Rattle.duo_run.proofs.Common.{AllStandOver, CanStep, DuoStands, DuoView, End, Entry, Event, Misses, Pair, Some, StandsOver, TellsNext, Ticks, ToldNext, append-nil, common_steps, entries_over, entry_after, length-set, length_push, line_if, numbered, steps_done, tick_lines, with_tick, world_next}
+use Rattle.std.proofs.Common.{◌≡◌, ◌≤◌, ◌<◌, ◌+◌, ◌^◌, ℕ, zero, suc, List, [], ◌∷◌, ◌++◌, length, take, slice_get, slice_set, refl, arith, ap, sym, subst, ◌∙◌, append_assoc, below_more, rules}
 use Rattle.schedule_file.specs.declared.event.Event.TheVariants as event
 use Rattle.duo_run.proofs.Pairs.At.{set_at, set_beside}
 
@@ -25,9 +23,7 @@ counted_over p own v s = ap (λ m. m.noted) s.stands.monitor ∙ s.whole
 
 -- a tick always has its entry
 pub tick_met : (p : Pair) (own : List Event) (v : DuoView) (at : End) → StandsOver p own v → Misses v (event.Tick at) → ⊥
-tick_met p own v at s misses =
-    let none : entry_at p.master p.slave (entries_over p own) (event.Tick at) ≡ None = misses.misses p.master p.slave (entries_over p own) s.stands in
-    cc
+tick_met p own v at h k = grind arith
 
 -- the pairs before the next one, and it
 pub taken : {X : Type 0} (xs : List X) (i : ℕ) (x : X) → slice_get xs i ≡ Some x → take (suc i) xs ≡ take i xs ++ x ∷ []
@@ -46,14 +42,10 @@ found_below (a ∷ xs) zero x at = omega arith
 found_below (a ∷ xs) (suc i) x at = let h = found_below xs i x at in omega (arith, h)
 
 pub taken_length : {X : Type 0} (xs : List X) (i : ℕ) → i ≤ length xs → length (take i xs) ≡ i
-taken_length xs zero h = refl
-taken_length [] (suc i) h = absurd (omega arith)
-taken_length (x ∷ xs) (suc i) h = let e = taken_length xs i (omega arith) in omega (arith, e)
+taken_length xs i h = grind (arith, common_steps)
 
 pub taken_all : {X : Type 0} (xs : List X) (i : ℕ) → i ≡ length xs → take i xs ≡ xs
-taken_all [] zero e = refl
-taken_all (x ∷ xs) (suc i) e = ap (λ (rest : List _). x ∷ rest) (taken_all xs i (omega arith))
-taken_all _ _ e = absurd (omega arith)
+taken_all xs i h = grind (arith, common_steps)
 
 -- the line of one pair more
 lines-push : (n : ℕ) (own : ℕ → List Event) (at : End) (k m : ℕ) (pairs : List Pair) (p : Pair) → m ≡ k + length pairs
@@ -96,8 +88,7 @@ ticked_one at n i k pairs own before now after line v new e s v-at tells =
     let told : ToldNext p.master p.slave (entries_over p (own (suc i))) (event.Tick at) n k new line = tells.tells p.master p.slave (entries_over p (own (suc i))) stood.stands in
     let goes : StandsOver p (with_tick at own (suc i)) new = goes_over p (own (suc i)) (event.Tick at) told.entry new stood.whole told.next told.stands in
     let number : k ≡ suc i = omega (arith, e) in
-    let is : line ≡ line_if n (suc i) (entry_after p (own (suc i)) (event.Tick at)) =
-    told.line_is ∙ ap (λ (k : ℕ). pair_line n k told.entry) number ∙ sym (ap (line_if n (suc i)) told.next) in
+    let is : line ≡ line_if n (suc i) (entry_after p (own (suc i)) (event.Tick at)) = search rules in
     let many : length (slice_set now i new) ≡ length now = length-set now i new in
     record {
       many = many ∙ s.many;

@@ -1,13 +1,10 @@
 -- The frames that an end sends: how they begin, and what they carry.
-use Rattle.exchange_model.proofs.Common.{Command, Deed, IsRun, MasterSettings, OfMaster, OfSlave, Setup, SlaveSettings, Taking, answer_is, command_byte, command_in, command_of, conn_id, connection_payload, download_frame, frame_of, held, is_data, is_guarded, is_guarded_frame, is_guarded_if, offer, offer_len, one_byte, padded, padded_len, pairs, parameter_payload, pay, phase_of, phase_of_frame, phase_of_known, piece, piece_len, pieces, read_back, received, sealed, sends, session_id, since, slave_answer, with_data, with_piece}
+use Rattle.exchange_model.proofs.Common.{Command, Deed, IsRun, MasterSettings, OfMaster, OfSlave, Setup, SlaveSettings, Taking, answer_is, command_byte, command_in, command_of, conn_id, connection_payload, download_frame, frame_of, held, is_data, is_guarded, length-replicate, length-take, offer, offer_len, one_byte, padded, padded_len, pairs, parameter_payload, pay, phase_of, phase_of_frame, phase_of_known, piece, piece_len, pieces, read_back, received, sealed, sends, session_id, since, slave_answer, with_data, with_piece}
 use Rattle.std.proofs.Common.{◌≡◌, ◌≢◌, ℕ, ◌≤◌, List, [], ◌∷◌, length, take, replicate, Bool, true, false, Some, ◌==◌, if◌then◌else◌, refl, sym, ap, subst, ◌∙◌, arith}
-use Rattle.std.proofs.lemmas.List.{length-replicate, length-take}
 use Rattle.fsoe_base.specs.declared.command.Command.TheVariants as command
-use Rattle.exchange_model.proofs.Joint.Joint.{is_guarded_in}
 
 one-head : (b : ℕ) (bytes : List ℕ) (c : Command) → command_of (one_byte b bytes).cmd ≡ Some c → command_of b ≡ Some c
-one-head b (d ∷ x ∷ y ∷ k ∷ k' ∷ []) c h = h
-one-head b _ c h = cc
+one-head b bytes c h = grind arith
 
 pairs-head : (b : ℕ) (bytes : List ℕ) (c : Command) → command_of (pairs b bytes).cmd ≡ Some c → command_of b ≡ Some c
 pairs-head b (d ∷ d' ∷ []) c h = h
@@ -27,13 +24,6 @@ head_is l (b ∷ bytes) c h = frame-head (l == 1) b bytes c h
 pub phase_by : (bytes : List ℕ) (c : Command) → command_in bytes ≡ Some c → phase_of_frame bytes ≡ phase_of c
 phase_by bytes c h = ap phase_of_known h
 
-pub guarded_by : (bytes : List ℕ) (c : Command) → command_in bytes ≡ Some c → is_guarded_frame bytes ≡ is_guarded c
-guarded_by bytes c h = ap is_guarded_if h
-
-pub guarded_in : (c : Command) → is_guarded_in (phase_of c) ≡ is_guarded c
-guarded_in command.Reset = refl
-guarded_in _ = refl
-
 -- a frame with this command and load
 pub record IsFrame (l : ℕ) (c : Command) (load f : List ℕ) : Type 0 where
   pub rest : List ℕ
@@ -41,8 +31,7 @@ pub record IsFrame (l : ℕ) (c : Command) (load f : List ℕ) : Type 0 where
   pub carries : (frame_of l f).load ≡ load
 
 pub command_back : (c : Command) → command_of (command_byte c) ≡ Some c
-command_back command.Reset = refl
-command_back _ = refl
+command_back c = grind arith
 
 pub command_framed : (l : ℕ) (c : Command) (load f : List ℕ) → IsFrame l c load f → command_in f ≡ Some c
 command_framed l c load f h = ap command_in h.is ∙ command_back c
@@ -59,8 +48,7 @@ piece_frame s e c p h = sealed_frame s e c (padded p (sends s)) (padded_len p (s
 
 -- a piece is no longer than a frame's safe data
 pub piece_fits : (s : Setup) → piece_len s ≤ sends s
-piece_fits (OfMaster ms) = omega arith
-piece_fits (OfSlave ss) = omega arith
+piece_fits s = grind arith
 
 pub front_fits : (s : Setup) (p : List ℕ) → length (take (piece_len s) p) ≤ sends s
 front_fits s p = let a : piece_len s ≤ sends s = piece_fits s in omega (arith, length-take (piece_len s) p)

@@ -1,11 +1,10 @@
 -- A data frame that an end sends carries what its end put, or zeros where the end was held.
-use Rattle.exchange_model.proofs.Common.{AfterConnection, AfterSession, Answers, Command, Deed, Did, End, Entry, IsRun, IsWorld, Item, MasterFirstData, MasterGoesOn, MasterMoreData, MasterNextPhase, MasterSettings, MasterStarts, Move, OfConnection, OfMaster, OfParameter, OfSession, OfSlave, Reaction, Setup, SlaveSettings, Taking, answer_is, begun, command_in, deed_in, deeds, frame_if, frame_of, frame_with, held, held_after, is_data, is_data_frame, is_data_if, is_empty, is_held, item_of, items, items_of, last_put, of_end, offer, offer_after, offered_of, offered_put, put_after, same_end, sends, setup_of, takes_frame}
-use Rattle.std.proofs.Common.{◌≡◌, ℕ, List, [], ◌∷◌, replicate, Bool, true, false, Option, Some, None, if◌then◌else◌, refl, sym, ap, subst, ◌∙◌}
-use Rattle.std.specs.List.{AllByRecursion}
+use Rattle.exchange_model.proofs.Common.{AfterConnection, AfterSession, AllByRecursion, Answers, Command, Deed, Did, End, Entry, IsRun, IsWorld, Item, MasterFirstData, MasterGoesOn, MasterMoreData, MasterNextPhase, MasterSettings, MasterStarts, Move, OfConnection, OfMaster, OfParameter, OfSession, Reaction, Setup, SlaveSettings, Taking, answer_is, begun, command_in, deed_in, deeds, frame_if, frame_of, frame_with, held, is_data, is_data_if, is_empty, is_held, item_of, items, items_of, last_put, of_end, offer, offered_of, offered_put, same_end, sends, setup_of}
+use Rattle.std.proofs.Common.{◌≡◌, ℕ, List, [], ◌∷◌, replicate, Bool, true, false, Option, Some, None, if◌then◌else◌, refl, sym, ap, subst, ◌∙◌, arith, rules}
 use Rattle.fsoe_base.specs.declared.command.Command.TheVariants as command
 use Rattle.param_load.specs.declared.entry.Move.TheVariants as move
 use Rattle.exchange_model.proofs.Worlds.Projection.{same, deeds_are_run, entry_reacted}
-use Rattle.exchange_model.proofs.Alone.Framed.{IsFrame, command_framed, IsData, Zeros, Offers, SlaveSends, Echoes, Gives, slave_sends, piece_sent, data_sent}
+use Rattle.exchange_model.proofs.Alone.Framed.{IsFrame, command_framed, IsData, slave_sends, piece_sent, data_sent}
 
 -- an item of data is of the frame that its load makes
 pub record Carries (l : ℕ) (i : Item) : Type 0 where
@@ -16,14 +15,9 @@ abbrev offer_by : ℕ → Option (List ℕ) → List ℕ
 offer_by l None = replicate l 0
 offer_by l (Some bytes) = bytes
 
-put-after : (l : ℕ) (m : Move) (before : List ℕ) (put : Option (List ℕ)) → before ≡ offer_by l put → offer_after m before ≡ offer_by l (put_after m put)
-put-after l (move.Put load) before put h = refl
-put-after l _ before put h = h
-
 put-head : (s : Setup) (which : End) (x : Entry) (w : List Entry) (mine : Bool) → offer s (deeds which w) ≡ offer_by (sends s) (last_put (of_end which w))
     → offer s (if mine then deed_in x ∷ deeds which w else deeds which w) ≡ offer_by (sends s) (last_put (if mine then x ∷ of_end which w else of_end which w))
-put-head s which x w true h = put-after (sends s) x.what _ _ h
-put-head s which x w false h = h
+put-head s which x w mine h = grind arith
 
 -- what was put last by an end's entries is its offer
 put-is : (s : Setup) (which : End) (w : List Entry) → offer s (deeds which w) ≡ offer_by (sends s) (last_put (of_end which w))
@@ -32,35 +26,17 @@ put-is s which (x ∷ w) = put-head s which x w (same_end which x.end) (put-is s
 
 held-head : (which : End) (x : Entry) (w : List Entry) (mine : Bool) → held (deeds which w) ≡ is_held (of_end which w)
     → held (if mine then deed_in x ∷ deeds which w else deeds which w) ≡ is_held (if mine then x ∷ of_end which w else of_end which w)
-held-head which x w true h = ap (held_after x.what) h
-held-head which x w false h = h
+held-head which x w mine h = grind arith
 
 held-is : (which : End) (w : List Entry) → held (deeds which w) ≡ is_held (of_end which w)
 held-is which [] = refl
 held-is which (x ∷ w) = held-head which x w (same_end which x.end) (held-is which w)
 
 put-frame : (l : ℕ) (put : Option (List ℕ)) → frame_with l (offered_put put) ≡ record { command = command.ProcessData; load = offer_by l put }
-put-frame l None = refl
-put-frame l (Some bytes) = refl
+put-frame l put = grind arith
 
 same-command : (f : List ℕ) (c c' : Command) → command_in f ≡ Some c → command_in f ≡ Some c' → c ≡ c'
 same-command f c c' h k = let e : Some c ≡ Some c' = sym h ∙ k in cc
-
--- a data frame carries what its end put
-data-carries : (s : Setup) (which : End) (w : List Entry) (f : List ℕ) (c : Command) → IsData s (deeds which w) f → command_in f ≡ Some c
-    → frame_if (sends s) (offered_of f (of_end which w)) ≡ Some (record { command = c; load = (frame_of (sends s) f).load })
-data-carries s which w f c (Zeros h g) k =
-    let a : command.FailSafeData ≡ c = same-command f command.FailSafeData c (command_framed _ command.FailSafeData _ f g) k in
-    let b : (frame_of (sends s) f).load ≡ replicate (sends s) 0 = g.carries in
-    let d : is_data_frame f ≡ true = ap is_data_frame g.is in
-    let q : is_held (of_end which w) ≡ true = sym (held-is which w) ∙ h in
-    simp (d, q, ← a, b)
-data-carries s which w f c (Offers h g) k =
-    let a : command.ProcessData ≡ c = same-command f command.ProcessData c (command_framed _ command.ProcessData _ f g) k in
-    let b : (frame_of (sends s) f).load ≡ offer_by (sends s) (last_put (of_end which w)) = g.carries ∙ put-is s which w in
-    let d : is_data_frame f ≡ true = ap is_data_frame g.is in
-    let q : is_held (of_end which w) ≡ false = sym (held-is which w) ∙ h in
-    simp (d, q, ← a, b) (ap Some (put-frame (sends s) (last_put (of_end which w))))
 
 -- the frame of a deed, if it has one: of data or not
 data Sending (s : Setup) (e : List Deed) (f : List ℕ) : Type 0 where
@@ -72,8 +48,7 @@ plain s e l c load f h g = Plain (ap is_data_if (command_framed l c load f g) �
 
 -- the deed itself changes no offer and no hold
 before-it : (s : Setup) (e : List Deed) (bytes f : List ℕ) (d : Did) → IsData s (begun (move.Deliver bytes) d ∷ e) f → IsData s e f
-before-it s e bytes f d (Zeros h g) = Zeros h g
-before-it s e bytes f d (Offers h g) = Offers h g
+before-it s e bytes f d h = grind arith
 
 master-sending : (ms : MasterSettings) (e : List Deed) (bytes load : List ℕ) (c : Command) (f : List ℕ) → IsRun (OfMaster ms) e → Taking e bytes load (OfMaster ms) c f → Sending (OfMaster ms) e f
 master-sending ms e bytes load c f r (MasterStarts _ _ now none frame is_zero made sent after) = plain _ e _ command.Session _ f refl (piece_sent ms e bytes load command.Reset command.Session 1 f made)
@@ -85,14 +60,8 @@ master-sending ms e bytes load c f r (MasterNextPhase _ _ _ _ AfterConnection no
 master-sending ms e bytes load c f r (MasterFirstData _ _ now whole x) = OfData (before-it (OfMaster ms) e bytes f _ (data_sent ms e bytes load command.Parameter f r x.is_made))
 master-sending ms e bytes load c f r (MasterMoreData _ _ _ is now x) = OfData (before-it (OfMaster ms) e bytes f _ (data_sent ms e bytes load c f r x.is_made))
 
-slave-sending : (ss : SlaveSettings) (e : List Deed) (bytes : List ℕ) (d : Did) (c : Command) (f : List ℕ) → SlaveSends ss (begun (move.Deliver bytes) d ∷ e) c f → Sending (OfSlave ss) e f
-slave-sending ss e bytes d c f (Echoes load x g) = plain _ e _ c load f x g
-slave-sending ss e bytes d c f (Gives x g) = OfData (before-it (OfSlave ss) e bytes f d g)
-
 answering : (s : Setup) (e : List Deed) (bytes load : List ℕ) (c : Command) (f : List ℕ) → IsRun s e → Taking e bytes load s c f → Sending s e f
-answering (OfMaster ms) e bytes load c f r taking = master-sending ms e bytes load c f r taking
-answering (OfSlave ss) e bytes load command.Reset f r taking = Plain (ap (λ (f : List ℕ). is_data_if (command_in f)) (answer_is e bytes load (OfSlave ss) command.Reset f taking))
-answering (OfSlave ss) e bytes load c f r taking = slave-sending ss e bytes (takes_frame c load) c f (slave_sends ss e bytes load c f r taking (λ k. cc))
+answering s e bytes load c f h k = search (rules, master-sending, answer_is, slave_sends)
 
 sending : (s : Setup) (e : List Deed) (m : Move) (d : Did) (f : List ℕ) → IsRun s e → Reaction s e m d f → Sending s e f
 sending s e m d f r (Answers bytes load c answer taking) = answering s e bytes load c answer r taking
@@ -100,8 +69,7 @@ sending s e m d f r _ = Plain refl
 
 carries-by : (s : Setup) (which : End) (w : List Entry) (f : List ℕ) → Sending s (deeds which w) f → (c : Command) → command_in f ≡ Some c → is_data c ≡ true
     → frame_if (sends s) (offered_of f (of_end which w)) ≡ Some (record { command = c; load = (frame_of (sends s) f).load })
-carries-by s which w f (Plain h) c k d = absurd (let q : false ≡ true = sym h ∙ (ap is_data_if k ∙ d) in cc)
-carries-by s which w f (OfData g) c k d = data-carries s which w f c g k
+carries-by s which w f h c k l = search (rules, same-command, command_framed, sends, held-is, put-is, put-frame)
 
 item-carries : (ms : MasterSettings) (ss : SlaveSettings) (which : End) (x : Entry) (w : List Entry) → x.end ≡ which → IsWorld ms ss (x ∷ w) → Carries (sends (setup_of ms ss which)) (item_of x w (items w))
 item-carries ms ss which x w h so_far =

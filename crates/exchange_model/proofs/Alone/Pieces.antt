@@ -1,15 +1,11 @@
 -- What a master has sent in its session, by its own frames alone: the pieces of its payloads, in order. Lists of frames
 -- are newest first.
-use Rattle.exchange_model.proofs.Common.{AfterConnection, AfterSession, Answers, Command, Deed, Did, Expires, IsInSession, IsRun, MasterFirstData, MasterGoesOn, MasterMoreData, MasterNextPhase, MasterSettings, MasterStarts, Move, OfConnection, OfMaster, OfParameter, OfSession, PeerResets, Reaction, Refuses, ResetsItself, SendsAgain, Setup, State, Taking, count_in, frame_of, is_empty, master_answers, own, padded, padded_len, phase_of_frame, phase_sent, piece, piece_len, reacted, sends, since, takes_frame, with_answer}
-use Rattle.std.proofs.Common.{◌≡◌, ℕ, suc, zero, ◌+◌, ◌-◌, ◌*◌, ◌≤◌, List, [], ◌∷◌, ◌++◌, length, take, drop, replicate, Bool, true, false, if◌then◌else◌, refl, sym, ap, subst, ◌∙◌, arith, inl, inr}
-use Rattle.std.proofs.lemmas.List.{length-take, take-replicate}
-use Rattle.std.proofs.lemmas.Bool.Decides.{eqb_tells}
-use Rattle.std.proofs.Math.Seq.{take-append-add}
+use Rattle.exchange_model.proofs.Common.{AfterConnection, AfterSession, Answers, Command, Deed, Did, Expires, IsInSession, IsRun, MasterFirstData, MasterGoesOn, MasterMoreData, MasterNextPhase, MasterSettings, MasterStarts, Move, OfConnection, OfMaster, OfParameter, OfSession, PeerResets, Reaction, Refuses, ResetsItself, SendsAgain, Setup, State, Taking, count_in, frame_of, is_empty, length-take, own, padded, padded_len, phase_of_frame, phase_sent, piece, piece_len, reacted, sends, since, take-append-add, take-replicate, with_answer}
+use Rattle.std.proofs.Common.{◌≡◌, ℕ, suc, zero, ◌+◌, ◌-◌, ◌*◌, ◌≤◌, List, [], ◌∷◌, ◌++◌, length, take, drop, replicate, Bool, false, if◌then◌else◌, refl, sym, ap, subst, ◌∙◌, arith, rules}
 use Rattle.fsoe_base.specs.declared.command.State.TheVariants as state
 use Rattle.fsoe_base.specs.declared.command.Command.TheVariants as command
-use Rattle.param_load.specs.declared.entry.Move.TheVariants as move
 use Rattle.exchange_model.proofs.Joint.Joint.{is_guarded_in, session, carried_by}
-use Rattle.exchange_model.proofs.Alone.Framed.{IsFrame, IsData, Zeros, Offers, phase_framed, piece_fits, connection_of, parameters_of, IsPiece, pieces_of, piece_sent, data_sent}
+use Rattle.exchange_model.proofs.Alone.Framed.{IsFrame, IsData, phase_framed, piece_fits, connection_of, parameters_of, IsPiece, pieces_of, piece_sent, data_sent}
 
 -- the first k pieces of a payload, each filled up with zeros
 abbrev pub front : List ℕ → ℕ → ℕ → List ℕ
@@ -47,55 +43,34 @@ piece_filled s p k = padded_len (piece p (piece_len s) k) (sends s) (piece_in s 
 
 -- the part of a frame with a piece
 part-is : (ms : MasterSettings) (c : Command) (p : List ℕ) (k : ℕ) (f : List ℕ) → IsPiece ms c p k f → take (piece_len (OfMaster ms)) (frame_of (sends (OfMaster ms)) f).load ≡ padded (piece p (piece_len (OfMaster ms)) k) (piece_len (OfMaster ms))
-part-is ms c p k f h =
-    ap (take (piece_len (OfMaster ms))) h.carries ∙ take_padded (piece p (piece_len (OfMaster ms)) k) (piece_len (OfMaster ms)) (sends (OfMaster ms)) (piece_short p (piece_len (OfMaster ms)) k) (piece_fits (OfMaster ms))
+part-is ms c p k f h = search (rules, take_padded, piece_short)
 
 pub none_sent : (ms : MasterSettings) → Sent ms []
 none_sent ms = record { connection = refl; parameters = refl; order = (refl, refl) }
 
-before-payloads : (now : State) (k n k' n' : ℕ) → is_guarded_in now ≡ false → InOrder now k n k' n' → (k ≡ 0) × (k' ≡ 0)
-before-payloads state.Reset k n k' n' g o = o
-before-payloads state.Session k n k' n' g o = o
-before-payloads _ k n k' n' g o = cc
-
 sent-session : (ms : MasterSettings) (load f : List ℕ) (frames : List (List ℕ)) → IsFrame (sends (OfMaster ms)) command.Session load f → is_guarded_in (phase_sent frames) ≡ false → Sent ms frames → Sent ms (f ∷ frames)
-sent-session ms load f frames h g m =
-    let b : phase_of_frame f ≡ state.Session = phase_framed _ command.Session load f h in
-    record {
-      connection = simp b m.connection;
-      parameters = simp b m.parameters;
-      order = simp b (before-payloads (phase_sent frames) _ _ _ _ g m.order);
-    }
+sent-session ms load f frames h k l = grind arith
 
 sent-connection : (ms : MasterSettings) (f : List ℕ) (frames : List (List ℕ)) → IsPiece ms command.Connection (connection_of ms) (suc (count_in state.Connection frames)) f → count_in state.Parameter frames ≡ 0
     → Sent ms frames → Sent ms (f ∷ frames)
 sent-connection ms f frames g z m =
     let b : phase_of_frame f ≡ state.Connection = phase_framed _ command.Connection _ f g in
     let q = part-is ms command.Connection (connection_of ms) (suc (count_in state.Connection frames)) f g in
-    record {
-      connection = simp (b, q, m.connection);
-      parameters = simp b m.parameters;
-      order = simp b z;
-    }
+    search rules
 
 sent-parameter : (ms : MasterSettings) (f : List ℕ) (frames : List (List ℕ)) → IsPiece ms command.Parameter (parameters_of ms) (suc (count_in state.Parameter frames)) f → pieces_of ms (connection_of ms) ≤ count_in state.Connection frames
     → Sent ms frames → Sent ms (f ∷ frames)
 sent-parameter ms f frames g z m =
     let b : phase_of_frame f ≡ state.Parameter = phase_framed _ command.Parameter _ f g in
     let q = part-is ms command.Parameter (parameters_of ms) (suc (count_in state.Parameter frames)) f g in
-    record {
-      connection = simp b m.connection;
-      parameters = simp (b, q, m.parameters);
-      order = simp b z;
-    }
+    search rules
 
 sent-data : (ms : MasterSettings) (f : List ℕ) (frames : List (List ℕ)) → phase_of_frame f ≡ state.Data → pieces_of ms (connection_of ms) ≤ count_in state.Connection frames → pieces_of ms (parameters_of ms) ≤ count_in state.Parameter frames
     → Sent ms frames → Sent ms (f ∷ frames)
 sent-data ms f frames b x y m = record { connection = simp b m.connection; parameters = simp b m.parameters; order = simp b (x, y) }
 
 pub data_phase : (s : Setup) (e : List Deed) (f : List ℕ) → IsData s e f → phase_of_frame f ≡ state.Data
-data_phase s e f (Zeros h g) = phase_framed _ command.FailSafeData _ f g
-data_phase s e f (Offers h g) = phase_framed _ command.ProcessData _ f g
+data_phase s e f h = grind arith
 
 pub order_at : (now now' : State) (k n k' n' : ℕ) → now ≡ now' → InOrder now k n k' n' → InOrder now' k n k' n'
 order_at now now' k n k' n' h o = subst (λ (x : State). InOrder x k n k' n') h o
@@ -127,9 +102,7 @@ sent_more x e h = let a = h.in_session in let b = h.sent in simp (a, b)
 
 sent-taken : (ms : MasterSettings) (e : List Deed) (bytes load : List ℕ) (c : Command) (f : List ℕ) → IsRun (OfMaster ms) e → Taking e bytes load (OfMaster ms) c f → Sent ms (own (since e))
     → Sent ms (own (since (with_answer bytes c load f e)))
-sent-taken ms e bytes load c f r taking h =
-    subst (Sent ms) (sym (sent_more (deed (move.Deliver bytes) (takes_frame c load) f) e (master_answers e bytes load ms c f taking)))
-    (sent-next ms e bytes load c f r taking h)
+sent-taken ms e bytes load c f h k l = search (rules, sent-next)
 
 sent-kept : (ms : MasterSettings) (e : List Deed) (m : Move) (d : Did) (f : List ℕ) → IsRun (OfMaster ms) e → Sent ms (own (since e)) → Reaction (OfMaster ms) e m d f → Sent ms (own (since (deed m d f ∷ e)))
 sent-kept ms e m d f r h (Answers bytes load c answer taking) = sent-taken ms e bytes load c answer r taking h
@@ -146,12 +119,7 @@ pieces_sent ms [] r = none_sent ms
 pieces_sent ms (x ∷ e) r = sent-kept ms e x.what x.did x.sent r.1 (pieces_sent ms e r.1) (reacted (OfMaster ms) x e r)
 
 session-own-by : (x : Deed) (e : List Deed) (f : List ℕ) → x.sent ≡ f → own (since e) ≡ session (own e) → own (since (x ∷ e)) ≡ session (own (x ∷ e))
-session-own-by x e [] k h = simp k h
-session-own-by x e (b ∷ f) k h =
-    elim (eqb_tells b 0x2A) [
-      | inl p ↦ simp (k, p.0)
-      | inr p ↦ simp (k, p.0, h)
-    ]
+session-own-by x e f h k = grind arith
 
 -- the frames sent in the session are those after the last Reset frame
 pub session_own : (e : List Deed) → own (since e) ≡ session (own e)
@@ -160,12 +128,7 @@ session_own (x ∷ e) = session-own-by x e x.sent refl (session_own e)
 
 -- the newest frame is of the session, or a Reset frame
 pub session_phase : (frames : List (List ℕ)) → phase_sent (session frames) ≡ phase_sent frames
-session_phase ((b ∷ f) ∷ frames) =
-    elim (eqb_tells b 0x2A) [
-      | inl p ↦ simp p.0
-      | inr p ↦ simp p.0
-    ]
-session_phase _ = refl
+session_phase frames = search rules
 
 -- the same of what it had sent up to each of its frames
 abbrev pub AllSent : MasterSettings → List (List ℕ) → Type 0
@@ -173,8 +136,7 @@ AllSent ms [] = Sent ms []
 AllSent ms (f ∷ frames) = Sent ms (session (f ∷ frames)) × AllSent ms frames
 
 all-head : (ms : MasterSettings) (f : List ℕ) (frames : List (List ℕ)) (none : Bool) → Sent ms (session (if none then frames else f ∷ frames)) → AllSent ms frames → AllSent ms (if none then frames else f ∷ frames)
-all-head ms f frames true h all = all
-all-head ms f frames false h all = (h, all)
+all-head ms f frames none h k = grind arith
 
 pub all_sent : (ms : MasterSettings) (e : List Deed) → IsRun (OfMaster ms) e → AllSent ms (own e)
 all_sent ms [] r = none_sent ms

@@ -1,9 +1,7 @@
 -- A test of fairness that computes: where it says yes, a run is fair.
-use Rattle.exchange_model.proofs.Common.{Command, Entry, Fair, IsTakenFrom, Item, OutputsAreDue, Profile, TakesAwaited, Terms, Took, awaited, data_taken, frame_if, items, numbers_taken, of_end, outputs_due, received_len}
-use Rattle.std.proofs.Common.{◌≡◌, ℕ, ◌==◌, nat_eq, List, [], ◌∷◌, Bool, true, false, ◌&&◌, not, Option, Some, None, refl, ap, sym, IsSome, eqb-true}
-use Rattle.std.specs.Cmp.Lexicographic.{pointwise, same_text, other_text}
-use Rattle.std.proofs.lemmas.Bool.{and_parts}
-use Rattle.std.specs.List.{IsDistinct, AllByRecursion}
+use Rattle.exchange_model.proofs.Common.{AllByRecursion, Command, Entry, Fair, IsTakenFrom, Item, OutputsAreDue, Profile, TakesAwaited, Terms, Took, and_parts, awaited, data_taken, frame_if, items, numbers_taken, of_end, outputs_due, pointwise, received_len, same_text}
+use Rattle.std.proofs.Common.{◌≡◌, ℕ, ◌==◌, nat_eq, List, [], ◌∷◌, Bool, true, false, ◌&&◌, not, Option, Some, None, sym, IsSome, arith, rules}
+use Rattle.std.specs.List.{IsDistinct}
 use Rattle.fsoe_base.specs.declared.command.End.TheVariants as end_name
 use Rattle.fsoe_base.specs.declared.command.Command.TheVariants as command
 use Rattle.fsoe_base.specs.declared.lengths.Lengths.{Lengths}
@@ -13,11 +11,6 @@ abbrev same_profile : Profile → Profile → Bool
 same_profile profile.One profile.One = true
 same_profile (profile.Two a) (profile.Two b) = a == b
 same_profile _ _ = false
-
-profiles : (a b : Profile) → same_profile a b ≡ true → a ≡ b
-profiles profile.One profile.One h = refl
-profiles (profile.Two a) (profile.Two b) h = ap profile.Two (eqb-true a b h)
-profiles _ _ h = cc
 
 abbrev terms_with : ℕ → ℕ → ℕ → List ℕ → Profile → Terms
 terms_with conn address watchdog app profile = record { conn = conn; address = address; watchdog = watchdog; app = app; profile = profile }
@@ -30,16 +23,7 @@ abbrev same_terms : Terms → Terms → Bool
 same_terms a b = (a.conn == b.conn) && ((a.address == b.address) && ((a.watchdog == b.watchdog) && (pointwise nat_eq a.app b.app && same_profile a.profile b.profile)))
 
 equal_terms : (a b : Terms) → same_terms a b ≡ true → a ≡ b
-equal_terms a b h =
-    let from_address = (and_parts (a.conn == b.conn) _ h).1 in
-    let from_watchdog = (and_parts (a.address == b.address) _ from_address).1 in
-    let from_app = (and_parts (a.watchdog == b.watchdog) _ from_watchdog).1 in
-    made a.conn b.conn a.address b.address a.watchdog b.watchdog a.app b.app a.profile b.profile
-    (eqb-true a.conn b.conn (and_parts _ _ h).0)
-    (eqb-true a.address b.address (and_parts _ _ from_address).0)
-    (eqb-true a.watchdog b.watchdog (and_parts _ _ from_watchdog).0)
-    (same_text a.app b.app (sym (and_parts _ _ from_app).0))
-    (profiles a.profile b.profile (and_parts (pointwise nat_eq a.app b.app) _ from_app).1)
+equal_terms a b h = search rules
 
 -- whether both ends told terms, and equal ones
 abbrev told_equal : Option Terms → Option Terms → Bool
@@ -47,8 +31,7 @@ told_equal (Some a) (Some b) = same_terms a b
 told_equal _ _ = false
 
 told : (a b : Option Terms) → told_equal a b ≡ true → IsSome a × (a ≡ b)
-told (Some a) (Some b) h = (refl, ap Some (equal_terms a b h))
-told _ _ h = cc
+told a b h = search rules
 
 -- whether two data commands are the same
 abbrev same_data : Command → Command → Bool
@@ -56,25 +39,12 @@ same_data command.ProcessData command.ProcessData = true
 same_data command.FailSafeData command.FailSafeData = true
 same_data _ _ = false
 
-data_commands : (a b : Command) → same_data a b ≡ true → a ≡ b
-data_commands command.ProcessData command.ProcessData h = refl
-data_commands command.FailSafeData command.FailSafeData h = refl
-data_commands _ _ h = cc
-
-abbrev took_of : Command → List ℕ → Took
-took_of c load = record { command = c; load = load }
-
-same_took : (a b : Command) (load load' : List ℕ) → a ≡ b → load ≡ load' → Some (took_of a load) ≡ Some (took_of b load')
-same_took a b load load' h i = cc
-
 abbrev is_frame : Option Took → Took → Bool
 is_frame None t = false
 is_frame (Some made) t = same_data made.command t.command && pointwise nat_eq made.load t.load
 
 framed : (made : Option Took) (t : Took) → is_frame made t ≡ true → made ≡ Some t
-framed None t h = cc
-framed (Some f) t h =
-    same_took f.command t.command f.load t.load (data_commands f.command t.command (and_parts _ _ h).0) (same_text f.load t.load (sym (and_parts (same_data f.command t.command) _ h).1))
+framed made t h = search rules
 
 abbrev is_taken_from : ℕ → Option Took → Option Terms → Option Item → Bool
 is_taken_from l None told i = true
@@ -82,11 +52,7 @@ is_taken_from l (Some t) told None = false
 is_taken_from l (Some t) told (Some i) = is_frame (frame_if l i.offered) t && told_equal i.terms told
 
 taken_from : (l : ℕ) (t : Option Took) (told_after : Option Terms) (i : Option Item) → is_taken_from l t told_after i ≡ true → IsTakenFrom l t told_after i
-taken_from l None told_after i h = tt
-taken_from l (Some t) told_after None h = cc
-taken_from l (Some t) told_after (Some i) h =
-    let both = told i.terms told_after (and_parts (is_frame (frame_if l i.offered) t) _ h).1 in
-    record { same_load = framed (frame_if l i.offered) t (and_parts _ _ h).0; some_terms = both.0; equal_terms = both.1 }
+taken_from l t told_after i h = search (rules, framed, equal_terms)
 
 abbrev takes_awaited : Lengths → List Entry → Bool
 takes_awaited lengths [] = true
@@ -117,8 +83,7 @@ are_distinct [] = true
 are_distinct (n ∷ numbers) = no_number n numbers && are_distinct numbers
 
 is_not : (b : Bool) → not b ≡ true → b ≡ false
-is_not false h = refl
-is_not true h = cc
+is_not b h = grind arith
 
 apart : (n : ℕ) (numbers : List ℕ) → no_number n numbers ≡ true → AllByRecursion (λ m. nat_eq n m ≡ false) numbers
 apart n [] h = tt
@@ -156,16 +121,10 @@ abbrev has_other_load : ℕ → Option Took → Option Item → Bool
 has_other_load l (Some t) (Some i) = not (pointwise nat_eq (load_in (frame_if l i.offered)) t.load)
 has_other_load l _ _ = false
 
-not_from : (l : ℕ) (t : Option Took) (told_after : Option Terms) (i : Option Item) → has_other_load l t i ≡ true → IsTakenFrom l t told_after i → ⊥
-not_from l (Some t) told_after (Some i) h from =
-    other_text (load_in (frame_if l i.offered)) t.load (sym (is_not (pointwise nat_eq (load_in (frame_if l i.offered)) t.load) h)) (ap load_in from.same_load)
-not_from l _ told_after _ h from = cc
-
 -- whether the newest entry takes a data frame with another load
 abbrev pub takes_other_load : Lengths → List Entry → Bool
 takes_other_load lengths [] = false
 takes_other_load lengths (x ∷ w) = has_other_load (received_len lengths x.end) (data_taken x.did.took) (awaited (items w) x.end)
 
 pub unfair : (lengths : Lengths) (w : List Entry) → takes_other_load lengths w ≡ true → Fair lengths w → ⊥
-unfair lengths [] h is_fair = cc
-unfair lengths (x ∷ w) h is_fair = not_from (received_len lengths x.end) (data_taken x.did.took) x.terms (awaited (items w) x.end) h is_fair.from_awaited.0
+unfair lengths w h k = search rules

@@ -2,9 +2,8 @@
 -- awaited answer, under equal terms. It rests on what both ends' items say of one another (Joint), on the pieces that a
 -- master sends (Pieces), on what a slave tests (Uploads) and on what data frames carry (Loads); Told and this file join
 -- them.
-use Rattle.exchange_model.proofs.Common.{Answers, Command, Deed, Did, End, Entry, Event, Fair, IsNextEntry, IsProperEvent, IsTakenFrom, IsWorld, Item, MasterSettings, Move, NoOther, OfSlave, Reaction, SameLengths, Setup, SlaveSettings, TakesAwaited, Taking, Terms, Took, awaited, before_other, command_in, data_after, data_taken, deed_in, deeds, exchange_of, frame_if, frame_of, is_data, is_empty, item_of, items, items_of, peer, phase_of_data, phase_of_frame, received_len, receives, same_end, sends, setup_of, state_of, takes_frame, terms_of, world}
-use Rattle.std.proofs.Common.{◌≡◌, ℕ, List, [], ◌∷◌, length, Bool, true, false, Option, Some, None, is_some, ◌==◌, suc, if◌then◌else◌, refl, sym, ap, subst, ◌∙◌, All}
-use Rattle.std.specs.List.{AllByRecursion}
+use Rattle.exchange_model.proofs.Common.{AllByRecursion, Answers, Command, Deed, Did, End, Entry, Event, Fair, IsNextEntry, IsProperEvent, IsTakenFrom, IsWorld, Item, MasterSettings, Move, NoOther, Reaction, SameLengths, Setup, SlaveSettings, TakesAwaited, Taking, Terms, Took, awaited, before_other, command_in, data_after, data_taken, deed_in, deeds, exchange_of, frame_of, is_data, is_empty, item_of, items, items_of, peer, received_len, receives, same_end, sends, setup_of, state_of, takes_frame, terms_of, world}
+use Rattle.std.proofs.Common.{◌≡◌, ℕ, List, [], ◌∷◌, length, Bool, true, false, Option, Some, None, ◌==◌, suc, if◌then◌else◌, refl, sym, ap, subst, ◌∙◌, All, arith, rules}
 use Rattle.fsoe_base.specs.declared.command.End.TheVariants as end_name
 use Rattle.fsoe_base.specs.declared.command.State.TheVariants as state
 use Rattle.fsoe_base.specs.declared.command.Command.TheVariants as command
@@ -13,41 +12,25 @@ use Rattle.exchange_model.proofs.Worlds.Projection.{same, entry_reacted, world_i
 use Rattle.exchange_model.proofs.Fairness.Shown.{receives_is, outputs_are_due}
 use Rattle.exchange_model.proofs.Fairness.Once.{at_most_once}
 use Rattle.exchange_model.proofs.Worlds.Others.{before_is_clean, before_is_world}
-use Rattle.exchange_model.proofs.Joint.Awaited.{up_to, newest_phase}
-use Rattle.exchange_model.proofs.Alone.Framed.{head_is, phase_by}
+use Rattle.exchange_model.proofs.Joint.Awaited.{up_to}
+use Rattle.exchange_model.proofs.Alone.Framed.{head_is}
 use Rattle.exchange_model.proofs.Alone.Pieces.{deed}
 use Rattle.exchange_model.proofs.Alone.Loads.{Carries, all_carry, all_items}
 use Rattle.exchange_model.proofs.Joint.Taking.{TakesItem, takes_item, data_guarded, NoneOther, none_other}
 use Rattle.exchange_model.proofs.Joint.Related.{Related, related}
-use Rattle.exchange_model.proofs.Terms.Told.{Tells, master_state, master_told, slave_told}
+use Rattle.exchange_model.proofs.Terms.Told.{Tells, slave_told}
 
 -- each item of a master that is of data was sent under its terms
 tells-master : (ms : MasterSettings) (ss : SlaveSettings) (x : Entry) (w : List Entry) → end_name.Master ≡ x.end → IsNextEntry (setup_of ms ss x.end) x (deeds x.end w) → Tells (terms_of ms) (item_of x w (items w))
-tells-master ms ss x w is next =
-    record {
-      tells = λ c h d.
-          master_told ms x (deeds end_name.Master w) (subst (λ (it : End). IsNextEntry (setup_of ms ss it) x (deeds it w)) (sym is) next) (master_state ms (deed_in x) (deeds end_name.Master w) c h d);
-    }
+tells-master ms ss x w h k = search rules
 
 all-tell-master : (ms : MasterSettings) (ss : SlaveSettings) (w : List Entry) → IsWorld ms ss w → AllByRecursion (Tells (terms_of ms)) (items_of end_name.Master (items w))
 all-tell-master ms ss [] h = tt
 all-tell-master ms ss (x ∷ w) h =
     all_items (Tells (terms_of ms)) end_name.Master x w (same_end end_name.Master x.end) (is_empty x.sent) refl (λ mine sent. tells-master ms ss x w (sym (same end_name.Master x.end mine)) h.0) refl (all-tell-master ms ss w h.1)
 
--- a slave's newest item tells its state
-newest-state : (ms : MasterSettings) (ss : SlaveSettings) (x : Entry) (w : List Entry) → x.end ≡ end_name.Slave → is_empty x.sent ≡ false → Related ms ss (x ∷ w) → phase_of_frame x.sent ≡ state_of (OfSlave ss) (deeds end_name.Slave (x ∷ w))
-newest-state ms ss x w is sent h =
-    let mine : same_end end_name.Slave x.end ≡ true = ap (same_end end_name.Slave) is in
-    let e : items_of end_name.Slave (items (x ∷ w)) ≡ item_of x w (items w) ∷ items_of end_name.Slave (items w) = simp (sent, mine) in
-    ap newest_phase (sym e) ∙ h.newest_is
-
 tells-slave : (ms : MasterSettings) (ss : SlaveSettings) (x : Entry) (w : List Entry) → SameLengths ms ss → IsWorld ms ss (x ∷ w) → Related ms ss (x ∷ w) → x.end ≡ end_name.Slave → is_empty x.sent ≡ false → Tells (terms_of ms) (item_of x w (items w))
-tells-slave ms ss x w lens h k is sent =
-    record {
-      tells = λ c head d.
-          slave_told ms ss x w lens h k is (subst (λ (it : End). IsNextEntry (setup_of ms ss it) x (deeds it w)) is h.0)
-          (sym (newest-state ms ss x w is sent k) ∙ (phase_by x.sent c head ∙ phase_of_data c d));
-    }
+tells-slave ms ss x w h k l m n = search (rules, slave_told)
 
 -- each item of a slave that is of data was sent under the master's terms
 all-tell-slave : (ms : MasterSettings) (ss : SlaveSettings) (w : List Entry) → SameLengths ms ss → IsWorld ms ss w → NoOther w → AllByRecursion (Tells (terms_of ms)) (items_of end_name.Slave (items w))
@@ -66,8 +49,7 @@ at-item P n [] rest j all h = cc
 at-item P n (i ∷ found) rest j all h = at-head (n == suc (length found)) (at-item P n found rest j all.1) h
   where
     at-head : (b : Bool) → (up_to n found ≡ j ∷ rest → P j) → (if b then i ∷ found else up_to n found) ≡ j ∷ rest → P j
-    at-head true later h = let q : i ≡ j = cc in subst P q all.0
-    at-head false later h = later h
+    at-head b h k = grind arith
 
 -- what an entry takes: no data, or a data frame that brings its end into Data or leaves it there
 data Takings (s : Setup) (e : List Deed) (x : Deed) : Type 0 where
@@ -88,28 +70,16 @@ takings s e m d f _ = NoData refl
 -- an end in Data tells the terms of the master's settings
 told-in-data : (ms : MasterSettings) (ss : SlaveSettings) (which : End) (x : Entry) (w : List Entry) → SameLengths ms ss → IsWorld ms ss (x ∷ w) → Related ms ss (x ∷ w) → x.end ≡ which → state_of (setup_of ms ss which) (deed_in x ∷ deeds which w) ≡ state.Data
     → x.terms ≡ Some (terms_of ms)
-told-in-data ms ss end_name.Master x w lens h k is now = master_told ms x (deeds end_name.Master w) (subst (λ (it : End). IsNextEntry (setup_of ms ss it) x (deeds it w)) is h.0) now
-told-in-data ms ss end_name.Slave x w lens h k is now =
-    let e : deeds end_name.Slave (x ∷ w) ≡ deed_in x ∷ deeds end_name.Slave w = ap (λ (end : End). if same_end end_name.Slave end then deed_in x ∷ deeds end_name.Slave w else deeds end_name.Slave w) is in
-    slave_told ms ss x w lens h k is (subst (λ (it : End). IsNextEntry (setup_of ms ss it) x (deeds it w)) is h.0) (ap (state_of (OfSlave ss)) e ∙ now)
+told-in-data ms ss which x w h k l m n = search (rules, slave_told)
 
 -- what an end receives is what its peer sends
 received-sent : (ms : MasterSettings) (ss : SlaveSettings) (which : End) → SameLengths ms ss → received_len ms.lengths which ≡ sends (setup_of ms ss (peer which))
-received-sent ms ss end_name.Master lens = lens.slave
-received-sent ms ss end_name.Slave lens = refl
+received-sent ms ss which h = grind arith
 
 -- data that an entry takes are from the awaited item
 taken-from : (l : ℕ) (c : Command) (bytes load : List ℕ) (told : Option Terms) (t : Terms) (o : Option Item) (j : Item) → is_data c ≡ true → o ≡ Some j → j.bytes ≡ bytes → command_in bytes ≡ Some c → (frame_of l bytes).load ≡ load
     → Carries l j → Tells t j → told ≡ Some t → IsTakenFrom l (data_taken (Some (record { command = c; load = load }))) told o
-taken-from l c bytes load told t o j d is same_bytes head load_is carry tell now =
-    let e : data_taken (Some (record { command = c; load = load })) ≡ Some (record { command = c; load = load }) = simp d in
-    let its : command_in j.bytes ≡ Some c = ap command_in same_bytes ∙ head in
-    let load_too : frame_if l j.offered ≡ Some (record { command = c; load = load }) =
-    carry.carries c its d ∙ (ap (λ b. Some (record { command = c; load = (frame_of l b).load })) same_bytes ∙ ap (λ v. Some (record { command = c; load = v })) load_is) in
-    let terms_are : j.terms ≡ Some t = tell.tells c its d in
-    subst (λ (took : Option Took). IsTakenFrom l took told o) (sym e)
-    (subst (λ (o : Option Item). IsTakenFrom l (Some (record { command = c; load = load })) told o) (sym is)
-    (record { same_load = load_too; some_terms = ap is_some terms_are; equal_terms = terms_are ∙ sym now }))
+taken-from l c bytes load told t o j h k m n p q r s = grind arith
 
 taken-head : (ms : MasterSettings) (ss : SlaveSettings) (x : Entry) (w : List Entry) → SameLengths ms ss → IsWorld ms ss (x ∷ w) → NoOther (x ∷ w) → Takings (setup_of ms ss x.end) (deeds x.end w) (deed_in x)
     → IsTakenFrom (received_len ms.lengths x.end) (data_taken x.did.took) x.terms (awaited (items w) x.end)
@@ -145,5 +115,4 @@ fair_run ms ss events lens proper n = fair_world ms ss (world ms ss events) lens
 
 -- each run over proper events is fair before its first other entry
 pub fair_before : (ms : MasterSettings) (ss : SlaveSettings) (events : List Event) → SameLengths ms ss → All (IsProperEvent ms ss) events → Fair ms.lengths (before_other (world ms ss events))
-fair_before ms ss events lens proper =
-    fair_world ms ss (before_other (world ms ss events)) lens (before_is_world ms ss (world ms ss events) (world_is_world ms ss events proper)) (before_is_clean (world ms ss events))
+fair_before ms ss events h k = search (rules, fair_world, before_is_world, world_is_world, before_is_clean)

@@ -1,10 +1,8 @@
 -- No awaited item gives data twice: an end that takes data sends a frame, so that the next item it awaits answers a
 -- newer one.
-use Rattle.exchange_model.proofs.Common.{Answers, Deed, Did, End, Entry, IsWorld, Item, MasterSettings, Move, Reaction, Setup, SlaveSettings, Took, answer_among, answer_sent, answers_to, awaited, data_taken, deeds, has_command, is_empty, item_of, items, items_of, newest, newest_answer, numbers_taken, peer, same_end, setup_of, with_number}
-use Rattle.std.proofs.Common.{◌≡◌, ℕ, suc, ◌<◌, ◌≤◌, ◌==◌, nat_eq, List, [], ◌∷◌, length, Bool, true, false, ◌&&◌, not, Option, Some, None, is_some, if◌then◌else◌, refl, ap, subst, sym, ◌∙◌, eqb-true, arith}
-use Rattle.std.proofs.lemmas.Bool.{and_parts, eq-eqb}
-use Rattle.std.proofs.lemmas.Bool.Decides.{nat_tests}
-use Rattle.std.specs.List.{IsDistinct, AllByRecursion}
+use Rattle.exchange_model.proofs.Common.{AllByRecursion, Deed, Did, End, Entry, IsWorld, Item, MasterSettings, Move, Reaction, Setup, SlaveSettings, Took, answer_among, answer_sent, answers_to, awaited, data_taken, deeds, has_command, is_empty, item_of, items, items_of, newest, newest_answer, numbers_taken, peer, same_end, setup_of, with_number}
+use Rattle.std.proofs.Common.{◌≡◌, ℕ, suc, ◌<◌, ◌≤◌, ◌==◌, nat_eq, List, [], ◌∷◌, length, Bool, true, false, ◌&&◌, not, Option, Some, None, is_some, if◌then◌else◌, refl, ap, subst, sym, ◌∙◌, eqb-true, arith, rules}
+use Rattle.std.specs.List.{IsDistinct}
 use Rattle.fsoe_base.specs.declared.command.Command.TheVariants as command
 use Rattle.exchange_model.proofs.Worlds.Projection.{entry_reacted}
 use Rattle.exchange_model.proofs.Worlds.Numbered.{Numbered, Grown, Same, More, next_number, grown}
@@ -21,13 +19,8 @@ record Used (count : ℕ) (theirs : List Item) (n : ℕ) : Type 0 where
   pub answered : answer_of n theirs ≡ Some at
   pub earlier : at < count
 
-older : (n number : ℕ) (found : List Item) → number ≡ suc (length found) → n ≤ length found → (number == n) ≡ false
-older n number found h k = grind (arith, nat_tests)
-
 used-more : (count n : ℕ) (i : Item) (theirs : List Item) → i.number ≡ suc (length theirs) → Used count theirs n → Used count (i ∷ theirs) n
-used-more count n i theirs h u =
-    let other : (i.number == n) ≡ false = older n i.number theirs h u.within in
-    record { within = let k : n ≤ length theirs = u.within in omega arith; at = u.at; answered = simp other u.answered; earlier = u.earlier }
+used-more count n i theirs h k = grind arith
 
 used-later : (count more n : ℕ) (theirs : List Item) → count ≤ more → Used count theirs n → Used more theirs n
 used-later count more n theirs h u = record { within = u.within; at = u.at; answered = u.answered; earlier = let k : u.at < count = u.earlier in omega arith }
@@ -45,24 +38,9 @@ record AnswersNewest (k : ℕ) (theirs : List Item) (j : Item) : Type 0 where
   pub within : j.number ≤ length theirs
   pub answered : answer_of j.number theirs ≡ Some k
 
-is-answer : (k : ℕ) (o : Option ℕ) → answers_to k o ≡ true → o ≡ Some k
-is-answer k None h = cc
-is-answer k (Some n) h = ap Some (eqb-true n k h)
-
 answer-head : (k : ℕ) (i : Item) (theirs : List Item) (j : Item) (b : Bool) → (not (has_command command.Reset i.bytes) && answers_to k i.answers) ≡ b
     → Numbered (i ∷ theirs) → (newest_answer k theirs ≡ Some j → AnswersNewest k theirs j) → (if b then Some i else newest_answer k theirs) ≡ Some j → AnswersNewest k (i ∷ theirs) j
-answer-head k i theirs j true is numbered rest h =
-    let it : i ≡ j = cc in
-    let same_number : (i.number == i.number) ≡ true = eq-eqb i.number i.number refl in
-    let number : i.number ≡ suc (length theirs) = numbered.0 in
-    subst (AnswersNewest k (i ∷ theirs)) it (record {
-      within = omega arith;
-      answered = simp same_number (is-answer k i.answers (and_parts (not (has_command command.Reset i.bytes)) (answers_to k i.answers) is).1);
-    })
-answer-head k i theirs j false is numbered rest h =
-    let older_one : AnswersNewest k theirs j = rest h in
-    let other : (i.number == j.number) ≡ false = older j.number i.number theirs numbered.0 older_one.within in
-    record { within = let l : j.number ≤ length theirs = older_one.within in omega arith; answered = simp other older_one.answered }
+answer-head k i theirs j b h l m n = grind arith
 
 answers : (k : ℕ) (theirs : List Item) (j : Item) → Numbered theirs → newest_answer k theirs ≡ Some j → AnswersNewest k theirs j
 answers k [] j numbered h = cc
@@ -124,12 +102,10 @@ once-taken mine theirs ns j i h next o =
 
 -- a deed that took a frame sent one
 sends : (s : Setup) (e : List Deed) (m : Move) (d : Did) (f : List ℕ) → Reaction s e m d f → is_some d.took ≡ true → is_empty f ≡ false
-sends s e m d f (Answers bytes load c answer taking) h = answer_sent e bytes load s c answer taking
-sends s e m d f _ h = cc
+sends s e m d f h k = search (rules, answer_sent)
 
 took-some : (t : Option Took) → is_some (data_taken t) ≡ true → is_some t ≡ true
-took-some None h = cc
-took-some (Some t) h = refl
+took-some t h = grind arith
 
 mine-grows : (which : End) (x : Entry) (w : List Entry) → same_end which x.end ≡ true → is_empty x.sent ≡ false → items_of which (items (x ∷ w)) ≡ item_of x w (items w) ∷ items_of which (items w)
 mine-grows which x w h k = simp (k, h)

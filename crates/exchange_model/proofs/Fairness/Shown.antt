@@ -1,7 +1,6 @@
 -- In each world the outputs are those that looking back over the entries gives.
-use Rattle.exchange_model.proofs.Common.{Answers, Command, Deed, Did, End, Entry, IsRun, IsWorld, MasterSettings, Move, OutputsAreDue, Reaction, SameLengths, Setup, SlaveSettings, State, Terms, Took, data_after, deed_in, deeds, entries, entry_of, held_up, is_data, is_process, looking_back, of_end, out, out_after, outputs_after, outputs_at, outputs_by, outputs_due, reacted, received_len, receives, setup_of, state_of, terms, ticked, told_in, zeros}
-use Rattle.std.proofs.Common.{◌≡◌, ℕ, List, [], ◌∷◌, ◌&&◌, nat_lt, Option, Some, None, is_some, if◌then◌else◌, refl, ap, subst, sym, ◌∙◌}
-use Rattle.fsoe_base.specs.declared.command.End.TheVariants as end_name
+use Rattle.exchange_model.proofs.Common.{Answers, Deed, Did, End, Entry, IsRun, IsWorld, MasterSettings, Move, OutputsAreDue, Reaction, SameLengths, Setup, SlaveSettings, Took, data_after, deed_in, deeds, entries, entry_of, held_up, is_data, looking_back, of_end, out, out_after, outputs_after, outputs_at, outputs_due, reacted, received_len, receives, setup_of, state_of, terms, ticked, told_in, zeros}
+use Rattle.std.proofs.Common.{◌≡◌, ℕ, List, [], ◌∷◌, Option, Some, None, is_some, if◌then◌else◌, refl, ap, sym, ◌∙◌, arith}
 use Rattle.fsoe_base.specs.declared.command.State.TheVariants as state
 use Rattle.fsoe_base.specs.declared.command.Command.TheVariants as command
 use Rattle.exchange_model.proofs.Worlds.Projection.{next_told, next_run, told}
@@ -15,15 +14,9 @@ in-data : (s : Setup) (e : List Deed) (m : Move) (d : Did) (f : List ℕ) → Re
 in-data s e m d f (Answers bytes load c answer taking) = λ h. data_after e bytes load s c answer taking (ap is_data h)
 in-data s e m d f _ = tt
 
-shown-by : (s : Setup) (n : ℕ) (now : State) (t : Terms) (c : Command) (load : List ℕ) → (c ≡ command.ProcessData → now ≡ state.Data)
-    → outputs_by (zeros s) n (told_in now t) c load ≡ (if is_process c && nat_lt n t.watchdog then load else zeros s)
-shown-by s n now t command.ProcessData load h = subst (λ (now : State). outputs_by (zeros s) n (told_in now t) command.ProcessData load ≡ (if nat_lt n t.watchdog then load else zeros s)) (sym (h refl)) refl
-shown-by s n now t _ load h = refl
-
 shown-at : (s : Setup) (e : List Deed) (n : ℕ) (took : Option Took) (told_before by_deeds : List ℕ) → IsInData s e took → told_before ≡ by_deeds
     → outputs_at (zeros s) n (told_in (state_of s e) (terms s e)) took told_before ≡ held_up s e n took by_deeds
-shown-at s e n None told_before by_deeds h same = same
-shown-at s e n (Some t) told_before by_deeds h same = shown-by s n (state_of s e) (terms s e) t.command t.load h
+shown-at s e n took told_before by_deeds h k = grind arith
 
 due-after : (s : Setup) (e : List Deed) (n : ℕ) → IsRun s e → outputs_after (zeros s) n (entries s e) ≡ out_after s n e
 due-after s [] n h = refl
@@ -36,8 +29,7 @@ pub due_is_out : (s : Setup) (e : List Deed) → IsRun s e → outputs_due (rece
 due_is_out s e h = due-after s e 0 h
 
 pub receives_is : (ms : MasterSettings) (ss : SlaveSettings) (which : End) → SameLengths ms ss → received_len ms.lengths which ≡ receives (setup_of ms ss which)
-receives_is ms ss end_name.Master h = refl
-receives_is ms ss end_name.Slave h = h.master
+receives_is ms ss which h = grind arith
 
 -- after each entry of a world the outputs are those that looking back gives
 pub outputs_are_due : (ms : MasterSettings) (ss : SlaveSettings) (w : List Entry) → SameLengths ms ss → IsWorld ms ss w → OutputsAreDue ms.lengths w

@@ -1,9 +1,6 @@
 -- The first pieces of a payload: how many bytes they are, and that they begin as the payload with zeros after it.
-use Rattle.exchange_model.proofs.Common.{all_zero, number_at, padded, padded_len, piece, pieces, pieces_for}
+use Rattle.exchange_model.proofs.Common.{all_zero, append-nil, common_steps, drop-append-add, drop-replicate, drop_all, length-append, mul-le-mul_left, number_at, padded, padded_len, piece, pieces, pieces_for, replicate-append-replicate}
 use Rattle.std.proofs.Common.{◌≡◌, ℕ, zero, suc, ◌+◌, ◌-◌, ◌*◌, ◌/◌, ◌<◌, ◌≤◌, ◌==◌, List, [], ◌∷◌, ◌++◌, length, take, drop, replicate, true, ◌&&◌, refl, sym, ap, ap₂, ◌∙◌, arith, append_assoc}
-use Rattle.std.proofs.lemmas.List.{append-nil, length-append, get_or_append_left, take-append-le, drop-append-le, length-drop, drop_all, drop-replicate, replicate-append-replicate}
-use Rattle.std.proofs.Math.Nat.{mul-le-mul_left}
-use Rattle.std.proofs.Math.Seq.{drop-append-add}
 use Rattle.exchange_model.proofs.Alone.Pieces.{front, piece_short}
 use Rattle.exchange_model.proofs.Terms.Agree.{front_whole}
 use Rattle.exchange_model.proofs.Honest.ResetFrames.{zeros_all}
@@ -42,16 +39,11 @@ front_begun p c k h =
 
 -- a number within these bytes is the payload's
 pub number_in : (u p : List ℕ) (b : IsBegun u p) (i : ℕ) → suc i < length u → number_at i u ≡ number_at i (p ++ replicate b.zeros 0)
-number_in u p b i h =
-    let k : i + 1 < length u = omega arith in
-    let j : i < length u = omega arith in
-    ap₂ (λ (x y : ℕ). x + 256 * y) (sym (get_or_append_left u b.rest 0 i j)) (sym (get_or_append_left u b.rest 0 (i + 1) k)) ∙ ap (number_at i) b.is
+number_in u p b i h = grind (arith, common_steps)
 
 -- so are the bytes from a place on
 pub part_in : (u p : List ℕ) (b : IsBegun u p) (m n : ℕ) → m + n ≤ length u → take n (drop m u) ≡ take n (drop m (p ++ replicate b.zeros 0))
-part_in u p b m n h =
-    let j : n ≤ length (drop m u) = omega (arith, length-drop m u) in
-    sym (take-append-le n (drop m u) b.rest j) ∙ (ap (take n) (sym (drop-append-le m u b.rest (omega arith))) ∙ ap (λ t. take n (drop m t)) b.is)
+part_in u p b m n h = grind (arith, common_steps)
 
 zeros-front : (u rest : List ℕ) (n : ℕ) → u ++ rest ≡ replicate n 0 → all_zero u ≡ true
 zeros-front [] rest n h = refl
@@ -78,11 +70,7 @@ pub all_come : (n c k : ℕ) → 0 < c → pieces_for n c ≤ k → n ≤ k * c
 all_come n c k h g = let m : c * ((n + c - 1) / c) ≤ c * k = mul-le-mul_left c g in omega arith
 
 pub some_piece : (n c : ℕ) → 0 < c → 0 < n → 0 < pieces_for n c
-some_piece n c h g = positive (pieces_for n c) (λ k. let z : n ≤ 0 * c = all_come n c 0 h k in omega arith)
-  where
-    positive : (q : ℕ) → (q ≤ 0 → ⊥) → 0 < q
-    positive zero f = absurd (f (omega arith))
-    positive (suc q) f = omega arith
+some_piece n c h k = grind arith
 
 -- past a piece in a frame there are zeros
 pub drop_padded : (q : List ℕ) (c l : ℕ) → length q ≤ c → all_zero (drop c (padded q l)) ≡ true

@@ -1,13 +1,9 @@
 -- A master takes the answer that is on its way, and sends the next frame.
-use Rattle.exchange_model.proofs.Common.{Command, Deed, Frame, IsValid, MasterSettings, OfMaster, State, after_phase, answer, code, command_of, connection_payload, contents, count_in, download_frame, has_conn, held, id_sent, is_echo, is_padded, is_reset, master_allows, nonce, offer, own, padded, padded_len, parameter_payload, phase_of, piece, pieces, pieces_for, received, seal, sealed, session_id, session_payload, since, with_data}
-use Rattle.std.proofs.Common.{◌≡◌, ℕ, suc, ◌+◌, ◌<◌, ◌≤◌, nat_lt, List, [], ◌∷◌, length, replicate, Bool, true, false, Some, None, if◌then◌else◌, refl, sym, ap, ap₂, subst, ◌∙◌, arith, unwrap_or}
-use Rattle.std.specs.Option.{option_or}
-use Rattle.std.proofs.lemmas.Bool.{eq-eqb, ltb-true, ltb-false}
-use Rattle.std.proofs.lemmas.List.{length-replicate}
-use Rattle.std.specs.Cmp.Lexicographic.{bytes_decides}
+use Rattle.exchange_model.proofs.Common.{Command, Deed, Frame, IsValid, MasterSettings, OfMaster, State, after_phase, answer, command_of, connection_payload, contents, count_in, download_frame, has_conn, held, id_sent, is_echo, is_reset, length-replicate, ltb-false, ltb-true, master_allows, nonce, offer, option_or, own, padded, padded_len, parameter_payload, phase_of, piece, pieces, pieces_for, received, seal, sealed, session_id, session_payload, since, with_data}
+use Rattle.std.proofs.Common.{◌≡◌, ℕ, suc, ◌+◌, ◌<◌, ◌≤◌, nat_lt, List, [], ◌∷◌, length, replicate, Bool, true, false, Some, None, if◌then◌else◌, refl, sym, ap, ap₂, subst, ◌∙◌, arith, unwrap_or, rules}
 use Rattle.fsoe_base.specs.declared.command.State.TheVariants as state
 use Rattle.fsoe_base.specs.declared.command.Command.TheVariants as command
-use Rattle.exchange_model.proofs.Alone.Pieces.{piece_in, piece_filled}
+use Rattle.exchange_model.proofs.Alone.Pieces.{piece_filled}
 use Rattle.exchange_model.proofs.Alone.Framed.{command_back}
 use Rattle.exchange_model.proofs.Honest.OnItsWay.{OnItsWay, fits_on, answering}
 use Rattle.exchange_model.proofs.Honest.ResetFrames.{zeros_all}
@@ -15,40 +11,20 @@ use Rattle.exchange_model.proofs.Honest.SlaveTurn.{Replies, Carries, parts_with}
 use Rattle.exchange_model.proofs.Honest.Turns.{session_long, parameters_long, Partner, master_of, slave_of, width, session_pieces, connection_pieces, parameter_pieces, more, Turn, MoreSession, FirstConnection, MoreConnection, FirstParameter, MoreParameter, FirstZeros, FirstValues, MoreZeros, MoreValues, Spot, InSession, InConnection, InParameter, InData, MasterAt}
 
 answers-allowed : (c : Command) → is_reset c ≡ false → master_allows (phase_of c) c ≡ true
-answers-allowed command.Reset n = cc
-answers-allowed _ n = refl
+answers-allowed c h = grind arith
 
 conn-right : (ms : MasterSettings) (id : ℕ) (e : List Deed) (c : Command) (a b d conn : ℕ) (load : List ℕ) → Replies ms id c a b d conn load → has_conn (OfMaster ms) e c conn ≡ true
-conn-right ms id e command.Reset a b d conn load k = absurd k
-conn-right ms id e command.Session a b d conn load k = eq-eqb conn 0 k.0
-conn-right ms id e command.ProcessData a b d conn load k = eq-eqb conn ms.conn k
-conn-right ms id e _ a b d conn load k = eq-eqb conn ms.conn k.0
+conn-right ms id e c a b d conn load h = grind arith
 
 pub id_of : (ms : MasterSettings) (id : ℕ) (e : List Deed) → id_sent (OfMaster ms) e ≡ Some id → session_id (OfMaster ms) e ≡ id
 id_of ms id e h = ap (λ o. unwrap_or o (nonce (OfMaster ms) e)) h
 
 echoes : (q load : List ℕ) (l : ℕ) → length q ≤ l → load ≡ padded q l → is_echo q load ≡ true
-echoes q load l h e =
-    let long : length load ≡ l = ap length e ∙ padded_len q l h in
-    (bytes_decides load (padded q (length load))).1 (e ∙ ap (padded q) (sym long))
-
-unless-true : (b : Bool) (n : ℕ) → b ≡ true → (if b then None else Some (code n)) ≡ None
-unless-true true n h = refl
-unless-true false n h = cc
+echoes q load l h k = search (rules, padded_len)
 
 contents-right : (ms : MasterSettings) (r : Partner ms) (id : ℕ) (e : List Deed) (c : Command) (p : State) (a b d conn : ℕ) (load crcs : List ℕ) → MasterAt ms id e p a b d → Replies ms id c a b d conn load
     → contents (OfMaster ms) e c (parts_with conn c load crcs) ≡ None
-contents-right ms r id e command.Reset p a b d conn load crcs h k = absurd k
-contents-right ms r id e command.Session p a b d conn load crcs h k =
-    unless-true _ 0x07 (ap₂ (λ (i n : ℕ). is_padded (piece (session_payload i ms.profile) (width ms) n) load) (id_of ms id e h.id_is) h.session ∙ k.1)
-contents-right ms r id e command.Connection p a b d conn load crcs h k =
-    unless-true _ 0x07 (ap (λ n. is_echo (piece (connection_payload ms.conn ms.address) (width ms) n) load) h.connection
-    ∙ echoes (piece (connection_payload ms.conn ms.address) (width ms) b) load ms.lengths.slave (piece_in (slave_of ms r) (connection_payload ms.conn ms.address) b) k.1)
-contents-right ms r id e command.Parameter p a b d conn load crcs h k =
-    unless-true _ 0x07 (ap (λ n. is_echo (piece (parameter_payload ms.watchdog ms.profile ms.app) (width ms) n) load) h.parameters
-    ∙ echoes (piece (parameter_payload ms.watchdog ms.profile ms.app) (width ms) d) load ms.lengths.slave (piece_in (slave_of ms r) (parameter_payload ms.watchdog ms.profile ms.app) d) k.1)
-contents-right ms r id e command.FailSafeData p a b d conn load crcs h k = unless-true _ 0x07 k.1
-contents-right ms r id e command.ProcessData p a b d conn load crcs h k = refl
+contents-right ms r id e c p a b d conn load crcs h k = search (rules, echoes)
 
 -- the answer passes all tests of the master
 pub master_valid : (ms : MasterSettings) (r : Partner ms) (id : ℕ) (u e : List Deed) (c : Command) (p : State) (a b d conn : ℕ) (load g : List ℕ) → is_reset c ≡ false → phase_of c ≡ p
@@ -103,16 +79,7 @@ data-next ms id e g c load p a b d m true long t t' h =
       carries = (refl, zeros_all ms.lengths.master);
     }
 data-next ms id e g c load p a b d m false long t t' h =
-    record {
-      conn = ms.conn;
-      command = command.ProcessData;
-      made = offer (OfMaster ms) e;
-      in_session = refl;
-      turn = t';
-      long = long;
-      is = ap (λ (b : Bool). if b then sealed (OfMaster ms) (received g c load e) command.FailSafeData (replicate ms.lengths.master 0) else sealed (OfMaster ms) (received g c load e) command.ProcessData (offer (OfMaster ms) e)) h;
-      carries = refl;
-    }
+    search rules
 
 below : (k n k' n' : ℕ) → k ≡ k' → n ≡ n' → nat_lt k n ≡ true → k' < n'
 below k n k' n' e f h = let i : k < n = ltb-true k n h in omega arith

@@ -1,11 +1,7 @@
 -- A sealed frame on its way from one end to the other, whose chains agree. s sends it, r receives it, and u and v are
 -- the deeds of both in their sessions.
-use Rattle.exchange_model.proofs.Common.{Command, Deed, Frame, IsOtherThanNewest, NeighboursDiffer, Setup, command_byte, count_crcs, count_groups, fits, frame_len, frame_of, groups, has_command, is_length, is_reset, kept, low_high, newest_crc, own, own_link, read_back, receives, seal, sends, taken, taken_link, takes_frame, valid_length, with_crcs}
-use Rattle.std.proofs.Common.{◌≡◌, ◌≢◌, ℕ, suc, ◌+◌, ◌*◌, ◌/◌, List, [], ◌∷◌, length, true, false, Option, Some, None, IsTrue, refl, sym, ap, ap₂, subst, ◌∙◌, arith, inl, inr}
-use Rattle.std.proofs.lemmas.Bool.{cases_eq}
-use Rattle.std.proofs.lemmas.Bool.Decides.{nat_tests}
-use Rattle.std.proofs.lemmas.List.{length-append}
-use Rattle.std.specs.Cmp.Lexicographic.{bytes_decides}
+use Rattle.exchange_model.proofs.Common.{Command, Deed, IsOtherThanNewest, NeighboursDiffer, Setup, command_byte, common_steps, count_crcs, count_groups, fits, frame_len, frame_of, groups, has_command, is_reset, kept, newest_crc, own, own_link, read_back, receives, seal, sends, taken, taken_link, takes_frame, with_crcs}
+use Rattle.std.proofs.Common.{◌≡◌, ◌≢◌, ℕ, ◌+◌, ◌*◌, List, [], ◌∷◌, length, true, false, Option, Some, None, refl, sym, ap, ap₂, subst, ◌∙◌, arith, rules}
 use Rattle.fsoe_base.specs.declared.command.Command.TheVariants as command
 use Rattle.seq_chain.specs.declared.link.Link.{Link}
 use Rattle.seq_chain.specs.Cover.{first_of}
@@ -52,9 +48,7 @@ OnItsWay s r u v conn c load f = IsBetween s r (chained s u) (chained r v) conn 
 
 -- the frame passes the test of its CRCs
 pub fits_on : (s r : Setup) (u v : List Deed) (conn : ℕ) (c : Command) (load f : List ℕ) → sends s ≡ receives r → OnItsWay s r u v conn c load f → fits r v (frame_of (receives r) f) ≡ true
-fits_on s r u v conn c load f k o =
-    let g : Frame = sealing.sealed (newest_crc (sends r) (own v)) (taken_link r v) conn (command_byte c) load in
-    ap (fits r v) (ap (λ l. frame_of l f) (sym k) ∙ o.frame) ∙ (bytes_decides g.crcs g.crcs).1 refl
+fits_on s r u v conn c load f h k = search rules
 
 -- the bytes of a frame
 pub groups_long : (load crcs : List ℕ) → length crcs ≡ length (groups load) → length (with_crcs (groups load) crcs) ≡ length load + 2 * length (groups load)
@@ -63,16 +57,8 @@ groups_long (d ∷ []) (k ∷ []) h = refl
 groups_long (d ∷ d' ∷ load) (k ∷ crcs) h = let e = groups_long load crcs (omega arith) in omega arith
 groups_long (d ∷ _) _ h = absurd (omega arith)
 
-pub lengths_add : (l n m : ℕ) → IsTrue (is_length l) → n ≡ (l + 1) / 2 → m ≡ l + 2 * n → suc (m + 2) ≡ frame_len l
-lengths_add l n m h i j = elim (cases_eq l 1) [ inl one ↦ grind (arith, nat_tests) | inr other ↦ grind (arith, nat_tests) ]
-
 pub sealed_long : (s : Setup) (e : List Deed) (conn : ℕ) (c : Command) (load : List ℕ) → length load ≡ sends s → length (seal s e conn c load) ≡ frame_len (sends s)
-sealed_long s e conn c load h =
-    let g : Frame = sealing.sealed (newest_crc (receives s) (taken e)) (own_link s e) conn (command_byte c) load in
-    let a : length g.crcs ≡ length (groups load) = count_crcs _ conn _ (command_byte c) 0 (groups load) in
-    let b : length (with_crcs (groups load) g.crcs) ≡ length load + 2 * length (groups load) = groups_long load g.crcs a in
-    ap suc (length-append (with_crcs (groups load) g.crcs) (low_high conn))
-    ∙ lengths_add (sends s) (length (groups load)) (length (with_crcs (groups load) g.crcs)) (valid_length s) (count_groups load ∙ ap (λ n. (n + 1) / 2) h) (b ∙ ap (λ n. n + 2 * length (groups load)) h)
+sealed_long s e conn c load h = grind (arith, common_steps, count_crcs, groups_long, count_groups)
 
 -- nothing is of a session
 pub record IsFresh (u : Chained) : Type 0 where
@@ -100,14 +86,11 @@ link-more : (r : Setup) (f : List ℕ) (c : Command) (load g : List ℕ) (v : Li
 link-more r f c load g v n = simp n
 
 pub head_on : (c : Command) → is_reset c ≡ false → has_command command.Reset (command_byte c ∷ []) ≡ false
-head_on command.Reset n = cc
-head_on _ n = refl
+head_on c h = grind arith
 
 -- the next frame isn't the one that was taken last
 newer : (l : ℕ) (o : Option (List ℕ)) (g : List ℕ) (frames : List (List ℕ)) → has_command command.Reset g ≡ false → IsOtherThanNewest l (first_of (frame_of l g).crcs) frames → IsNewestIfAny o frames → o ≢ Some g
-newer l None g frames n h k = λ e. cc
-newer l (Some x) g [] n h k = λ e. let same : x ≡ g = cc in let b : has_command command.Reset g ≡ true = ap (has_command command.Reset) (sym same) ∙ k in cc
-newer l (Some x) g (y ∷ frames) n h k = λ e. let same : g ≡ y = cc in h (ap (λ z. first_of (frame_of l z).crcs) same)
+newer l o g frames h k m = grind arith
 
 -- the receiver takes the frame and seals its answer, which is then on its way
 pub next_on_its_way : (s r : Setup) (u v : List Deed) (conn : ℕ) (c : Command) (load f : List ℕ) (conn' : ℕ) (c' : Command) (load' load'' : List ℕ) → sends s ≡ receives r → is_reset c ≡ false → is_reset c' ≡ false
@@ -116,8 +99,7 @@ pub next_on_its_way : (s r : Setup) (u v : List Deed) (conn : ℕ) (c : Command)
     → OnItsWay r s (answering f c load'' (seal r (answering f c load'' [] ∷ v) conn' c' load') ∷ v) u conn' c' load' (seal r (answering f c load'' [] ∷ v) conn' c' load')
 next_on_its_way s r u v conn c load f conn' c' load' load'' k n n' h o differ =
     let g : List ℕ = seal r (answering f c load'' [] ∷ v) conn' c' load' in
-    let same : first_of (frame_of (receives r) f).crcs ≡ newest_crc (sends s) (own u) =
-    ap (λ l. first_of (frame_of l f).crcs) (sym k) ∙ sym (ap (newest_crc (sends s)) o.newest) in
+    let same : first_of (frame_of (receives r) f).crcs ≡ newest_crc (sends s) (own u) = search (rules, first_of, sends, own) in
     let crc : (d : List ℕ) → newest_crc (receives r) (taken (answering f c load'' d ∷ v)) ≡ newest_crc (sends s) (own u) =
     λ d. ap (newest_crc (receives r)) (taken-more f c load'' d v n) ∙ same in
     record {

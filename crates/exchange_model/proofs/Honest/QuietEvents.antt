@@ -1,15 +1,14 @@
 -- Ticks below the limits, puts, holds and nonces leave the stage of an honest run; the master's first tick begins it.
-use Rattle.exchange_model.proofs.Common.{Deed, Did, End, Entry, Event, IsNextEntry, IsProperEvent, MasterSettings, Move, OfMaster, OfSlave, Setup, SlaveSettings, State, deed_of, deeds, deliveries_to, end_of_event, entry_at, entry_of, exchanges, had_tick, is_counted, is_delivery, items, items_of, may_tick, on_expiry, own, phase_sent, reaches_limit, reset_frame, same_end, setup_of, state_of, step}
-use Rattle.std.proofs.Common.{◌≡◌, ℕ, suc, nat_le, ◌&&◌, not, List, ◌∷◌, [], Bool, true, false, Some, if◌then◌else◌, refl, sym, ap, ◌∙◌}
+use Rattle.exchange_model.proofs.Common.{Deed, End, Entry, Event, IsNextEntry, IsProperEvent, MasterSettings, Move, State, deed_of, deeds, end_of_event, entry_at, entry_of, had_tick, is_delivery, items, items_of, may_tick, on_expiry, own, phase_sent, reaches_limit, reset_frame, same_end, setup_of, state_of, step}
+use Rattle.std.proofs.Common.{◌≡◌, ℕ, not, List, ◌∷◌, [], Bool, true, false, Some, if◌then◌else◌, refl, ap, ◌∙◌, arith, rules}
 use Rattle.fsoe_base.specs.declared.command.End.TheVariants as end_name
-use Rattle.fsoe_base.specs.declared.command.State.TheVariants as state
 use Rattle.fsoe_base.specs.Did.{nothing}
 use Rattle.param_load.specs.declared.entry.Move.TheVariants as move
 use Rattle.schedule_file.specs.declared.event.Event.TheVariants as event
 use Rattle.exchange_model.proofs.Honest.OnItsWay.{fresh}
 use Rattle.exchange_model.proofs.Honest.StageSteps.{Enters, AtStage}
 use Rattle.exchange_model.proofs.Honest.Stages.{both, Asked, IsIdle}
-use Rattle.exchange_model.proofs.Honest.Turns.{Partner, partner, master_of, slave_of}
+use Rattle.exchange_model.proofs.Honest.Turns.{Partner, partner, master_of}
 
 -- a deed in which an end takes and sends nothing
 abbrev pub quiet : Move → Deed
@@ -25,55 +24,15 @@ pub record IsQuiet (ms : MasterSettings) (r : Partner ms) (w : List Entry) (even
   pub is : entry_at ms (partner ms r) w event ≡ Some (quiet_entry ms r w (end_of_event event) what)
   pub next : IsNextEntry (setup_of ms (partner ms r) (end_of_event event)) (quiet_entry ms r w (end_of_event event) what) (deeds (end_of_event event) w)
 
-quiet-follows : (ms : MasterSettings) (r : Partner ms) (w : List Entry) (at : End) (what : Move) → let x : Entry = quiet_entry ms r w at what in IsNextEntry (setup_of ms (partner ms r) at) x (deeds at w) → IsNextEntry (setup_of ms (partner ms r) x.end) x (deeds x.end w)
-quiet-follows ms r w end_name.Master what h = h
-quiet-follows ms r w end_name.Slave what h = h
-
 pub quiet_enters : (ms : MasterSettings) (r : Partner ms) (w : List Entry) (event : Event) (what : Move) → IsQuiet ms r w event what → Enters ms r w event (quiet_entry ms r w (end_of_event event) what)
-quiet_enters ms r w event what q =
-    record {
-      is = q.is;
-      follows = quiet-follows ms r w (end_of_event event) what q.next;
-      not_other = refl;
-      no_reset = refl;
-      taken = λ k. let b : false ≡ true = sym q.none_comes ∙ k in cc;
-      takes_data = sym (ap (λ b. b && nat_le (exchanges ms) (deliveries_to (quiet_entry ms r w (end_of_event event) what).end w)) q.none_comes);
-    }
+quiet_enters ms r w event what h = grind arith
 
 -- the stages see nothing of it
 pub both_kept : (ms : MasterSettings) (r : Partner ms) (w : List Entry) (at : End) (what : Move) → is_delivery what ≡ false → both ms r (quiet_entry ms r w at what ∷ w) ≡ both ms r w
-both_kept ms r w end_name.Master what h = ap (λ (b : Bool). record (both ms r w) { to_master = if b then suc (deliveries_to end_name.Master w) else deliveries_to end_name.Master w }) h
-both_kept ms r w end_name.Slave what h = ap (λ (b : Bool). record (both ms r w) { to_slave = if b then suc (deliveries_to end_name.Slave w) else deliveries_to end_name.Slave w }) h
-
-off : (b : Bool) → not b ≡ true → b ≡ false
-off true h = cc
-off false h = refl
-
-master-tick : (ms : MasterSettings) (e : List Deed) → reaches_limit (OfMaster ms) e ≡ false → step (OfMaster ms) e move.Tick ≡ quiet move.Tick
-master-tick ms e h = ap (λ (b : Bool). deed_of (OfMaster ms) e move.Tick (if b then on_expiry (state_of (OfMaster ms) e) (OfMaster ms) else nothing)) h
-
-slave-rests : (ss : SlaveSettings) (now : State) (b : Bool) → not (is_counted now && b) ≡ true → (if b then on_expiry now (OfSlave ss) else nothing) ≡ nothing
-slave-rests ss now false h = refl
-slave-rests ss state.Reset true h = refl
-slave-rests ss _ true h = cc
-
-if-ticked : (had b : Bool) → had ≡ true → (if had then not b else b) ≡ true → b ≡ false
-if-ticked true b h k = off b k
-if-ticked false b h k = cc
-
--- an honest tick, of the master where it isn't the first
-tick-rests : (ms : MasterSettings) (r : Partner ms) (w : List Entry) (at : End) → may_tick ms (partner ms r) w at ≡ true → (same_end end_name.Master at ≡ true → had_tick (deeds end_name.Master w) ≡ true)
-    → step (setup_of ms (partner ms r) at) (deeds at w) move.Tick ≡ quiet move.Tick
-tick-rests ms r w end_name.Master h had = let e : List Deed = deeds end_name.Master w in master-tick ms e (if-ticked (had_tick e) (reaches_limit (master_of ms) e) (had refl) h)
-tick-rests ms r w end_name.Slave h had =
-    let e : List Deed = deeds end_name.Slave w in
-    ap (λ (d : Did). deed_of (slave_of ms r) e move.Tick d) (slave-rests (partner ms r) (state_of (slave_of ms r) e) (reaches_limit (slave_of ms r) e) h)
+both_kept ms r w at what h = grind arith
 
 pub quiet_tick : (ms : MasterSettings) (r : Partner ms) (w : List Entry) (at : End) → may_tick ms (partner ms r) w at ≡ true → (same_end end_name.Master at ≡ true → had_tick (deeds end_name.Master w) ≡ true) → IsQuiet ms r w (event.Tick at) move.Tick
-quiet_tick ms r w at h had =
-    let s : Setup = setup_of ms (partner ms r) at in
-    let stepped : step s (deeds at w) move.Tick ≡ quiet move.Tick = tick-rests ms r w at h had in
-    record { none_comes = refl; is = ap (λ d. Some (entry_of s (deeds at w) d)) stepped; next = record { proper = tt; stepped = ap (entry_of s (deeds at w)) (sym stepped) } }
+quiet_tick ms r w at h k = search rules
 
 -- a put, a hold, a nonce
 pub quiet_put : (ms : MasterSettings) (r : Partner ms) (w : List Entry) (at : End) (load : List ℕ) → IsProperEvent ms (partner ms r) (event.Put at load) → IsQuiet ms r w (event.Put at load) (move.Put load)
@@ -90,8 +49,7 @@ abbrev pub AtIdle : (ms : MasterSettings) → Partner ms → List Entry → Type
 AtIdle ms r w = IsIdle (both ms r w)
 
 if-not-ticked : (had b : Bool) → had ≡ false → (if had then not b else b) ≡ true → b ≡ true
-if-not-ticked false b h k = k
-if-not-ticked true b h k = cc
+if-not-ticked had b h k = grind arith
 
 -- the master's first tick sends its Reset frame
 pub first_tick : (ms : MasterSettings) (r : Partner ms) (w : List Entry) → may_tick ms (partner ms r) w end_name.Master ≡ true → had_tick (deeds end_name.Master w) ≡ false → AtIdle ms r w
@@ -104,14 +62,7 @@ first_tick ms r w h none idle =
     ap (λ (b : Bool). deed_of (master_of ms) em move.Tick (if b then on_expiry (state_of (master_of ms) em) (master_of ms) else nothing)) reaches
     ∙ ap (λ (p : State). deed_of (master_of ms) em move.Tick (on_expiry p (master_of ms))) (ap phase_sent idle.outside.master.none_sent) in (
       entry_of (master_of ms) em d,
-      record {
-        is = ap (λ d. Some (entry_of (master_of ms) em d)) stepped;
-        follows = record { proper = tt; stepped = ap (entry_of (master_of ms) em) (sym stepped) };
-        not_other = refl;
-        no_reset = refl;
-        taken = λ k. cc;
-        takes_data = refl;
-      },
+      search rules,
       refl,
       Asked (record {
         outside = record { master = fresh; slave = idle.outside.slave; no_id = refl; phase = idle.outside.phase; none_joined = idle.outside.none_joined };

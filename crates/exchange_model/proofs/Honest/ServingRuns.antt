@@ -1,30 +1,22 @@
 -- Under an honest schedule a run of matching ends serves: honest schedules bring both into Data and keep them there.
-use Rattle.exchange_model.proofs.Common.{End, Entry, Event, Fair, HasNoReset, InDataAfter, InDataThroughout, IsHonest, IsNextEntry, IsProperEvent, IsWorld, MasterSettings, Match, Move, NoOther, Profile, Serves, SlaveSettings, State, TakesDataThroughout, TakesDelivery, allows_id, deed_in, deeds, deliveries_to, entry_at, exchanges, first_of_both, going_on, had_tick, if_on, in_turn, is_delivery, is_length, is_plain, is_tick, keeps_time, may_happen, peer, phase_of, phase_sent, same_end, same_phase, setup_of, state_of, state_told, ticks_first, world, world_after}
-use Rattle.std.proofs.Common.{◌≡◌, ℕ, suc, ◌+◌, ◌≤◌, nat_le, nat_lt, List, [], ◌∷◌, length, Bool, true, false, ◌&&◌, ◌||◌, All, Option, if◌then◌else◌, refl, sym, ap, ap₂, subst, ◌∙◌, arith, IsTrue}
-use Rattle.std.specs.List.{list_all}
-use Rattle.std.proofs.lemmas.Bool.{and_parts, eqb-true}
-use Rattle.std.proofs.lemmas.Bool.Decides.{nat_tests}
-use Rattle.std.proofs.lemmas.List.Elements.{All-head, All-tail, All-cons, All-nil}
+use Rattle.exchange_model.proofs.Common.{All-head, All-tail, End, Entry, Event, Fair, HasNoReset, InDataAfter, InDataThroughout, IsHonest, IsNextEntry, IsProperEvent, IsWorld, MasterSettings, Match, Move, NoOther, Profile, Serves, SlaveSettings, State, TakesDataThroughout, TakesDelivery, allows_id, and_parts, deed_in, deeds, deliveries_to, entry_at, eqb-true, exchanges, had_tick, if_on, in_turn, is_delivery, is_length, is_plain, is_tick, keeps_time, list_all, may_happen, peer, phase_of, phase_sent, same_end, same_phase, setup_of, state_of, state_told, ticks_first, world, world_after}
+use Rattle.std.proofs.Common.{◌≡◌, ℕ, suc, ◌+◌, ◌≤◌, nat_le, nat_lt, List, [], ◌∷◌, length, Bool, true, false, ◌&&◌, ◌||◌, All, Option, if◌then◌else◌, refl, sym, ap, subst, ◌∙◌, arith, IsTrue, rules}
 use Rattle.fsoe_base.specs.declared.command.End.TheVariants as end_name
 use Rattle.fsoe_base.specs.declared.command.State.TheVariants as state
 use Rattle.param_load.specs.declared.entry.Move.TheVariants as move
 use Rattle.schedule_file.specs.declared.event.Event.TheVariants as event
-use Rattle.exchange_model.proofs.Worlds.Projection.{same, next_told}
+use Rattle.exchange_model.proofs.Worlds.Projection.{same}
 use Rattle.exchange_model.proofs.Honest.QuietEvents.{quiet_entry, quiet_enters, both_kept, quiet_tick, quiet_put, quiet_hold, quiet_nonce, AtIdle, first_tick}
 use Rattle.exchange_model.proofs.Honest.SlaveTurn.{Accepts}
 use Rattle.exchange_model.proofs.Honest.StageSteps.{AtStage, Enters, Goes, asked_delivered, replied_delivered, down_delivered, up_delivered, some_session, some_connection, some_parameter}
 use Rattle.exchange_model.proofs.Honest.Stages.{Both, both, IsOutside, Stage, IsIdle, Asked, Replied, Down, Up}
 use Rattle.exchange_model.proofs.Honest.Turns.{Partner, partner, session_pieces, connection_pieces, parameter_pieces, spot_after, spot_data, turn_data, at_least, none_yet}
 use Rattle.exchange_model.proofs.Fairness.Headline.{fair_run}
-use Rattle.exchange_model.proofs.Honest.OnItsWay.{fresh}
 
 told-head : (ms : MasterSettings) (ss : SlaveSettings) (which : End) (x : Entry) (w : List Entry) (mine : Bool) → IsNextEntry (setup_of ms ss x.end) x (deeds x.end w)
     → state_told which w ≡ state_of (setup_of ms ss which) (deeds which w) → same_end which x.end ≡ mine
     → (if mine then x.state else state_told which w) ≡ state_of (setup_of ms ss which) (if mine then deed_in x ∷ deeds which w else deeds which w)
-told-head ms ss which x w false next before other = before
-told-head ms ss which x w true next before mine =
-    let told : x.state ≡ state_of (setup_of ms ss x.end) (deed_in x ∷ deeds x.end w) = ap (λ (x : Entry). x.state) (next_told (setup_of ms ss x.end) x (deeds x.end w) next) in
-    subst (λ (it : End). x.state ≡ state_of (setup_of ms ss it) (deed_in x ∷ deeds it w)) (same which x.end mine) told
+told-head ms ss which x w mine h k l = grind arith
 
 -- the state that an end told last is the one that its deeds say
 told-state : (ms : MasterSettings) (ss : SlaveSettings) (which : End) (w : List Entry) → IsWorld ms ss w → state_told which w ≡ state_of (setup_of ms ss which) (deeds which w)
@@ -33,10 +25,10 @@ told-state ms ss end_name.Slave [] h = refl
 told-state ms ss which (x ∷ w) h = told-head ms ss which x w (same_end which x.end) h.0 (told-state ms ss which w h.1) refl
 
 more-than : (a b c m : ℕ) → nat_lt (a + b + c) m ≡ nat_lt (1 + a + b + c) (suc m)
-more-than a b c m = grind (arith, nat_tests)
+more-than a b c m = grind arith
 
 not-more : (a b c m : ℕ) → m ≤ 1 → nat_lt (1 + a + b + c) m ≡ false
-not-more a b c m h = grind (arith, nat_tests)
+not-more a b c m h = grind arith
 
 -- what an end told, and how many deliveries came to it
 opens : (test : ℕ → Bool) (told p : State) (m k : ℕ) → told ≡ p → m ≡ k → same_phase state.Data p ≡ test k → same_phase state.Data told ≡ test m
@@ -82,15 +74,7 @@ pub record Served (ms : MasterSettings) (r : Partner ms) (w : List Entry) : Type
   pub takes_data : TakesDataThroughout (exchanges ms) w
 
 served-more : (ms : MasterSettings) (r : Partner ms) (w : List Entry) (event : Event) (x : Entry) → Enters ms r w event x → InDataAfter (exchanges ms) (x ∷ w) → Served ms r w → Served ms r (x ∷ w)
-served-more ms r w event x enters opened h =
-    record {
-      is_world = (enters.follows, h.is_world);
-      no_other = ap₂ (λ (o : Option ℕ) (b : Bool). first_of_both o b (suc (length w))) h.no_other enters.not_other;
-      no_reset = All-cons HasNoReset x w enters.no_reset h.no_reset;
-      taken = All-cons TakesDelivery x w enters.taken h.taken;
-      reaches_data = (opened, h.reaches_data);
-      takes_data = (enters.takes_data, h.takes_data);
-    }
+served-more ms r w event x h k l = grind arith
 
 -- a run that goes on has served at its end, and stopped at no event
 pub record ServesOn (ms : MasterSettings) (r : Partner ms) (events : List Event) (w : List Entry) : Type 0 where
@@ -98,12 +82,7 @@ pub record ServesOn (ms : MasterSettings) (r : Partner ms) (events : List Event)
   pub whole : length (world_after ms (partner ms r) events w) ≡ length events + length w
 
 goes-on : (ms : MasterSettings) (r : Partner ms) (w : List Entry) (event : Event) (events : List Event) (x : Entry) → Enters ms r w event x → ServesOn ms r events (x ∷ w) → ServesOn ms r (event ∷ events) w
-goes-on ms r w event events x enters h =
-    let e : world_after ms (partner ms r) (event ∷ events) w ≡ world_after ms (partner ms r) events (x ∷ w) = ap (λ (o : Option Entry). going_on w o (world_after ms (partner ms r) events)) enters.is in
-    record {
-      served = subst (λ (v : List Entry). Served ms r v) (sym e) h.served;
-      whole = ap length e ∙ (h.whole ∙ omega arith);
-    }
+goes-on ms r w event events x h k = grind arith
 
 -- the frame on its way is delivered
 delivery-goes : (ms : MasterSettings) (r : Partner ms) (w : List Entry) (next : End) → Accepts ms r → IsWorld ms (partner ms r) w → AtStage ms r w next → Goes ms r w (event.Deliver next 1) (peer next)
@@ -113,9 +92,7 @@ delivery-goes ms r w next accepts world (Down h) = down_delivered ms r w accepts
 delivery-goes ms r w next accepts world (Up h) = up_delivered ms r w world h
 
 deliver-goes : (ms : MasterSettings) (r : Partner ms) (w : List Entry) (next to : End) (back : ℕ) → Accepts ms r → IsWorld ms (partner ms r) w → to ≡ next → back ≡ 1 → AtStage ms r w next → Goes ms r w (event.Deliver to back) (peer next)
-deliver-goes ms r w next to back accepts world h k stage =
-    subst (λ (to : End). Goes ms r w (event.Deliver to back) (peer next)) (sym h)
-    (subst (λ (back : ℕ). Goes ms r w (event.Deliver next back) (peer next)) (sym k) (delivery-goes ms r w next accepts world stage))
+deliver-goes ms r w next to back h k l m n = search (rules, delivery-goes)
 
 -- what is left of an honest schedule: the master's first tick comes, or the frame on its way is delivered next
 pub data Ready (ms : MasterSettings) (r : Partner ms) (w : List Entry) (events : List Event) : Type 0 where
@@ -123,20 +100,11 @@ pub data Ready (ms : MasterSettings) (r : Partner ms) (w : List Entry) (events :
   Runs : (next : End) → had_tick (deeds end_name.Master w) ≡ true → AtStage ms r w next → in_turn next events ≡ true → Ready ms r w events
 
 ready-opens : (ms : MasterSettings) (r : Partner ms) (w : List Entry) (events : List Event) → IsWorld ms (partner ms r) w → Ready ms r w events → InDataAfter (exchanges ms) w
-ready-opens ms r w events world (Waits none idle turn first) = idle_opens ms r w world idle
-ready-opens ms r w events world (Runs next had stage turn) = stage-opens ms r w next world stage
+ready-opens ms r w events h k = grind (arith, idle_opens, stage-opens)
 
 -- a master that had a tick has had it
 ticked-more : (x : Entry) (w : List Entry) → had_tick (deeds end_name.Master w) ≡ true → had_tick (deeds end_name.Master (x ∷ w)) ≡ true
-ticked-more x w h = by-end (same_end end_name.Master x.end)
-  where
-    or-true : (a b : Bool) → b ≡ true → (a || b) ≡ true
-    or-true true b h = refl
-    or-true false b h = h
-
-    by-end : (mine : Bool) → had_tick (if mine then deed_in x ∷ deeds end_name.Master w else deeds end_name.Master w) ≡ true
-    by-end true = or-true (is_tick x.what) (had_tick (deeds end_name.Master w)) h
-    by-end false = h
+ticked-more x w h = grind arith
 
 stage-kept : (ms : MasterSettings) (r : Partner ms) (w : List Entry) (at : End) (what : Move) (next : End) → is_delivery what ≡ false → AtStage ms r w next → AtStage ms r (quiet_entry ms r w at what ∷ w) next
 stage-kept ms r w at what next h stage = subst (λ (x : Both). Stage ms r x next) (sym (both_kept ms r w at what h)) stage
@@ -195,17 +163,9 @@ serves_on ms r (event ∷ events) w accepts served ready proper plain time =
     (serves_on ms r events (x ∷ w) accepts (served-more ms r w event x enters (ready-opens ms r (x ∷ w) events (enters.follows, served.is_world) next.2) served) next.2
     (All-tail (IsProperEvent ms (partner ms r)) event events proper) p.1 kept)
 
-at-first : (ms : MasterSettings) (r : Partner ms) → AtIdle ms r []
-at-first ms r = record { outside = record { master = fresh; slave = fresh; no_id = refl; phase = refl; none_joined = λ phase. refl }; master_count = refl; slave_count = refl }
-
-served-none : (ms : MasterSettings) (r : Partner ms) → Served ms r []
-served-none ms r = record { is_world = tt; no_other = refl; no_reset = All-nil HasNoReset; taken = All-nil TakesDelivery; reaches_data = idle_opens ms r [] tt (at-first ms r); takes_data = tt }
-
 -- a partner's run serves
 partner-serves : (ms : MasterSettings) (r : Partner ms) (events : List Event) → Accepts ms r → All (IsProperEvent ms (partner ms r)) events → IsHonest ms (partner ms r) events → Serves ms events (world ms (partner ms r) events)
-partner-serves ms r events accepts proper honest =
-    let h : ServesOn ms r events [] = serves_on ms r events [] accepts (served-none ms r) (Waits refl (at-first ms r) honest.turns honest.begun) proper honest.plain honest.time in
-    record { whole = h.whole ∙ omega arith; no_other = h.served.no_other; no_reset = h.served.no_reset; taken = h.served.taken; reaches_data = h.served.reaches_data; takes_data = h.served.takes_data }
+partner-serves ms r events h k l = search (rules, serves_on)
 
 -- what holds of the settings with these lengths, this address and this profile, and the rest of a slave's, holds of the
 -- slave's own

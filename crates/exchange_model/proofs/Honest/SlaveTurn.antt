@@ -1,8 +1,7 @@
 -- A slave takes the master's frame that is on its way, and answers it: the frame passes all tests, and what the slave
 -- took after it tells the answer that it seals.
-use Rattle.exchange_model.proofs.Common.{Command, Deed, Frame, IsValid, MasterSettings, OfMaster, Profile, State, all_zero, allows, answer, code, command_byte, command_of, conn_id, conn_in, connection_payload, contents, contents_fault, count_in, first_conn, frame_of, has_conn, held, id_len, id_piece, is_padded, is_reset, is_slave_conn, joined, number_at, offer, padded, parameter_payload, phase_of, piece, pieces_for, received, rule_len, seal, sealed, session_id, session_payload, since, slave_allows, taken, whole, with_data}
-use Rattle.std.proofs.Common.{◌≡◌, ℕ, zero, suc, ◌+◌, ◌*◌, ◌<◌, ◌≤◌, nat_le, List, ◌++◌, length, take, drop, true, false, not, Some, None, if◌then◌else◌, refl, sym, ap, ap₂, subst, ◌∙◌, arith, ◌-◌, [], ◌∷◌, min, replicate, Bool, Option, unwrap_or}
-use Rattle.std.proofs.lemmas.Bool.{eq-eqb}
+use Rattle.exchange_model.proofs.Common.{Command, Deed, Frame, IsValid, MasterSettings, OfMaster, Profile, State, all_zero, allows, answer, code, command_byte, command_of, common_steps, conn_id, connection_payload, contents, contents_fault, count_in, eq-eqb, frame_of, has_conn, held, id_len, id_piece, is_padded, is_reset, joined, length-replicate, number_at, offer, padded, parameter_payload, phase_of, piece, pieces_for, received, rule_len, seal, sealed, session_id, session_payload, since, slave_allows, taken, whole, with_data}
+use Rattle.std.proofs.Common.{◌≡◌, ℕ, suc, ◌+◌, ◌*◌, ◌<◌, ◌≤◌, nat_le, List, ◌++◌, length, take, drop, true, false, not, Some, None, if◌then◌else◌, refl, sym, ap, ap₂, subst, ◌∙◌, arith, ◌-◌, [], ◌∷◌, replicate, Bool, unwrap_or, rules}
 use Rattle.std.proofs.lemmas.Bool.Decides.{nat_tests}
 use Rattle.fsoe_base.specs.declared.command.State.TheVariants as state
 use Rattle.fsoe_base.specs.declared.command.Command.TheVariants as command
@@ -12,11 +11,9 @@ use Rattle.exchange_model.proofs.Honest.Fronts.{front_long, front_begun, drop_pa
 use Rattle.exchange_model.proofs.Alone.Framed.{piece_fits, command_back}
 use Rattle.exchange_model.proofs.Honest.OnItsWay.{OnItsWay, fits_on, answering}
 use Rattle.exchange_model.proofs.Alone.Pieces.{front, piece_short, take_padded, piece_filled}
-use Rattle.exchange_model.proofs.Honest.ResetFrames.{some_bytes, zeros_all}
-use Rattle.exchange_model.proofs.Honest.Turns.{session_long, Partner, master_of, slave_of, width, session_pieces, connection_pieces, parameter_pieces, Turn, Starts, MoreSession, FirstConnection, MoreConnection, FirstParameter, MoreParameter, FirstZeros, FirstValues, conn_after, SlaveAt, partner, more}
+use Rattle.exchange_model.proofs.Honest.ResetFrames.{zeros_all}
+use Rattle.exchange_model.proofs.Honest.Turns.{session_long, Partner, master_of, slave_of, width, session_pieces, connection_pieces, parameter_pieces, Turn, MoreSession, FirstConnection, MoreConnection, FirstParameter, MoreParameter, FirstZeros, FirstValues, SlaveAt, partner, more}
 use Rattle.exchange_model.proofs.Honest.UploadTests.{session_passes, connection_passes, parameters_pass, parameters_count}
-use Rattle.std.specs.Option.{option_or}
-use Rattle.std.proofs.lemmas.List.{length-replicate, length-take, length-drop}
 
 -- what a frame of the master carries in its turn
 abbrev pub Carries : MasterSettings → ℕ → Command → ℕ → ℕ → ℕ → ℕ → List ℕ → Type 0
@@ -28,10 +25,7 @@ Carries ms id command.FailSafeData a b d conn load = (conn ≡ ms.conn) × (all_
 Carries ms id command.ProcessData a b d conn load = conn ≡ ms.conn
 
 pub some_width : (ms : MasterSettings) → 0 < width ms
-some_width ms =
-    let a : 0 < ms.lengths.master = some_bytes ms.lengths.master ms.lengths.valid_master in
-    let b : 0 < ms.lengths.slave = some_bytes ms.lengths.slave ms.lengths.valid_slave in
-    omega arith
+some_width ms = search rules
 
 -- whether so many pieces are a whole payload
 not-done : (n c k : ℕ) (u : List ℕ) → 0 < c → k < pieces_for n c → length u ≡ k * c → nat_le n (length u) ≡ false
@@ -104,19 +98,9 @@ passes-contents ms r id e command.Parameter p a b d conn load crcs m h k =
 passes-contents ms r id e command.FailSafeData p a b d conn load crcs m h k = ap (λ b. if b then None else Some (code 0x07)) k.1
 passes-contents ms r id e command.ProcessData p a b d conn load crcs m h k = refl
 
-known-conn : (conn b : ℕ) → 0 < conn → is_slave_conn (conn_after conn b) conn ≡ true
-known-conn conn zero h = grind (arith, nat_tests)
-known-conn conn (suc b) h = eq-eqb conn conn refl
-
-conn-fits : (ms : MasterSettings) (id : ℕ) (v : List Deed) (p : State) (a b d conn : ℕ) → SlaveAt ms id v p a b d → conn ≡ ms.conn → is_slave_conn (first_conn ms.lengths.master (taken v)) conn ≡ true
-conn-fits ms id v p a b d conn h e = ap₂ is_slave_conn h.conn e ∙ known-conn ms.conn b ms.some_conn
-
 has-conn : (ms : MasterSettings) (r : Partner ms) (id : ℕ) (e : List Deed) (c : Command) (p : State) (a b d conn : ℕ) (load : List ℕ) → SlaveAt ms id (since e) p a b d → Carries ms id c a b d conn load
     → has_conn (slave_of ms r) e c conn ≡ true
-has-conn ms r id e command.Reset p a b d conn load h k = absurd k
-has-conn ms r id e command.Session p a b d conn load h k = eq-eqb conn 0 k.0
-has-conn ms r id e command.ProcessData p a b d conn load h k = conn-fits ms id (since e) p a b d conn h k
-has-conn ms r id e _ p a b d conn load h k = conn-fits ms id (since e) p a b d conn h k.0
+has-conn ms r id e c p a b d conn load h k = search (rules, eq-eqb)
 
 -- the frame in turn passes all tests of the slave
 pub slave_valid : (ms : MasterSettings) (r : Partner ms) (id : ℕ) (u e : List Deed) (c : Command) (p : State) (a b d k conn : ℕ) (load f : List ℕ) → Accepts ms r → OnItsWay (master_of ms) (slave_of ms r) u (since e) conn c load f
@@ -131,62 +115,15 @@ slave_valid ms r id u e c p a b d k conn load f m o h t carries =
       is_sound = ap (contents (slave_of ms r) e c) o.frame ∙ passes-contents ms r id e c p a b d conn load _ m h carries;
     }
 
-some-none : (o : Option ℕ) → option_or o None ≡ o
-some-none None = refl
-some-none (Some n) = refl
-
-same-conn : (conn b : ℕ) → option_or (conn_after conn b) (Some conn) ≡ Some conn
-same-conn conn zero = refl
-same-conn conn (suc b) = refl
-
 -- one more piece of a payload was joined
 joined-more : (ms : MasterSettings) (p : List ℕ) (k : ℕ) (before load : List ℕ) → before ≡ front p (width ms) k → load ≡ padded (piece p (width ms) (suc k)) ms.lengths.master → before ++ take (width ms) load ≡ front p (width ms) (suc k)
 joined-more ms p k before load h is = ap₂ (λ (t u : List ℕ). t ++ take (width ms) u) h is ∙ ap (λ t. front p (width ms) k ++ t) (take_padded (piece p (width ms) (suc k)) (width ms) ms.lengths.master (piece_short p (width ms) (suc k)) (piece_fits (OfMaster ms)))
-
--- frames past the connection id tell no other one
-same-first : (ms : MasterSettings) (v : List Deed) (b : ℕ) (c : Command) (f tail : List ℕ) → first_conn ms.lengths.master (taken v) ≡ conn_after ms.conn b → f ≡ command_byte c ∷ tail → conn_in ms.lengths.master (command_byte c ∷ tail) ≡ None
-    → first_conn ms.lengths.master (f ∷ taken v) ≡ conn_after ms.conn b
-same-first ms v b c f tail h head none = ap (λ f. first_conn ms.lengths.master (f ∷ taken v)) head ∙ (ap (option_or (first_conn ms.lengths.master (taken v))) none ∙ (some-none (first_conn ms.lengths.master (taken v)) ∙ h))
 
 -- what a slave took with one more frame
 pub slave_after : (ms : MasterSettings) (id : ℕ) (v : List Deed) (c : Command) (p : State) (a b d conn : ℕ) (load f g tail : List ℕ) → SlaveAt ms id v p a b d → f ≡ command_byte c ∷ tail
     → (frame_of ms.lengths.master f).conn ≡ conn → Carries ms id c a b d conn load
     → SlaveAt ms id (answering f c load g ∷ v) (phase_of c) (more state.Session c a) (more state.Connection c b) (more state.Parameter c d)
-slave_after ms id v command.Reset p a b d conn load f g tail h head n k = absurd k
-slave_after ms id v command.Session p a b d conn load f g tail h head n k =
-    record {
-      phase = refl;
-      session = joined-more ms (session_payload id ms.profile) a _ load h.session k.1;
-      connection = h.connection;
-      parameters = h.parameters;
-      ids = ap (λ f. count_in state.Session (f ∷ taken v)) head ∙ ap suc h.ids;
-      conn = same-first ms v b command.Session f tail h.conn head refl;
-    }
-slave_after ms id v command.Connection p a b d conn load f g tail h head n k =
-    record {
-      phase = refl;
-      session = h.session;
-      connection = joined-more ms (connection_payload ms.conn ms.address) b _ load h.connection k.1;
-      parameters = h.parameters;
-      ids = ap (λ f. count_in state.Session (f ∷ taken v)) head ∙ h.ids;
-      conn = ap₂ option_or h.conn (guarded-conn f tail head ∙ ap Some (n ∙ k.0)) ∙ same-conn ms.conn b;
-    }
-  where
-    guarded-conn : (f tail : List ℕ) → f ≡ 0x64 ∷ tail → conn_in ms.lengths.master f ≡ Some (frame_of ms.lengths.master f).conn
-    guarded-conn f tail head = subst (λ (f : List ℕ). conn_in ms.lengths.master f ≡ Some (frame_of ms.lengths.master f).conn) (sym head) refl
-slave_after ms id v command.Parameter p a b d conn load f g tail h head n k =
-    record {
-      phase = refl;
-      session = h.session;
-      connection = h.connection;
-      parameters = joined-more ms (parameter_payload ms.watchdog ms.profile ms.app) d _ load h.parameters k.1;
-      ids = ap (λ f. count_in state.Session (f ∷ taken v)) head ∙ h.ids;
-      conn = same-first ms v b command.Parameter f tail h.conn head refl;
-    }
-slave_after ms id v command.FailSafeData p a b d conn load f g tail h head n k =
-    record { phase = refl; session = h.session; connection = h.connection; parameters = h.parameters; ids = ap (λ f. count_in state.Session (f ∷ taken v)) head ∙ h.ids; conn = same-first ms v b command.FailSafeData f tail h.conn head refl }
-slave_after ms id v command.ProcessData p a b d conn load f g tail h head n k =
-    record { phase = refl; session = h.session; connection = h.connection; parameters = h.parameters; ids = ap (λ f. count_in state.Session (f ∷ taken v)) head ∙ h.ids; conn = same-first ms v b command.ProcessData f tail h.conn head refl }
+slave_after ms id v c p a b d conn load f g tail h k l m = search (rules, joined-more)
 
 -- what an answer carries, after these pieces
 abbrev pub Replies : MasterSettings → ℕ → Command → ℕ → ℕ → ℕ → ℕ → List ℕ → Type 0
@@ -210,9 +147,7 @@ pub record Reply (ms : MasterSettings) (r : Partner ms) (id : ℕ) (e : List Dee
 
 -- the bytes of a piece are as many as those of the same piece of a payload that is as long
 piece-long : (p q : List ℕ) (c k : ℕ) → length p ≡ length q → length (piece p c k) ≡ length (piece q c k)
-piece-long p q c k h =
-    length-take c (drop ((k - 1) * c) p)
-    ∙ (ap (min c) (length-drop ((k - 1) * c) p ∙ (ap (λ n. n - (k - 1) * c) h ∙ sym (length-drop ((k - 1) * c) q))) ∙ sym (length-take c (drop ((k - 1) * c) q)))
+piece-long p q c k h = grind (arith, common_steps)
 
 echo-long : (q : List ℕ) (c l m : ℕ) (load : List ℕ) → length q ≤ c → c ≤ l → c ≤ m → load ≡ padded q l → padded (take c load) m ≡ padded q m
 echo-long q c l m load h i j e = ap (λ t. padded (take c t) m) e ∙ (ap (λ t. padded t m) (take_padded q c l h i) ∙ padded_twice q c m h j)
@@ -237,16 +172,7 @@ data-reply ms r id e f load c a b d true n p is conn long h =
       replies = (conn, zeros_all ms.lengths.slave);
     }
 data-reply ms r id e f load c a b d false n p is conn long h =
-    record {
-      conn = conn_id (slave_of ms r) (received f c load e);
-      command = command.ProcessData;
-      made = offer (slave_of ms r) e;
-      in_session = refl;
-      same = sym p;
-      long = long;
-      is = is ∙ ap (λ (b : Bool). if b then sealed (slave_of ms r) (received f c load e) command.FailSafeData (replicate ms.lengths.slave 0) else sealed (slave_of ms r) (received f c load e) command.ProcessData (offer (slave_of ms r) e)) h;
-      replies = conn;
-    }
+    search rules
 
 -- past the session id a connection id has come
 abbrev SomeConn : Command → ℕ → Type 0
@@ -256,16 +182,11 @@ SomeConn command.Connection b = Unit {0}
 SomeConn _ b = 0 < b
 
 pub some_conn : (n n' n'' : ℕ) (c : Command) (p : State) (a b d k : ℕ) → 0 < n' → Turn n n' n'' c p a b d k → SomeConn c b
-some_conn n n' n'' c p a b d k h Starts = tt
-some_conn n n' n'' c p a b d k h (MoreSession _ g) = tt
-some_conn n n' n'' c p a b d k h FirstConnection = tt
-some_conn n n' n'' c p a b d k h (MoreConnection _ _ g e) = tt
-some_conn n n' n'' c p a b d k h _ = h
+some_conn n n' n'' c p a b d k h l = grind arith
 
 conn-known : (ms : MasterSettings) (r : Partner ms) (id : ℕ) (e : List Deed) (f load : List ℕ) (c : Command) (p : State) (a b d : ℕ) → is_reset c ≡ false → 0 < b → SlaveAt ms id (answering f c load [] ∷ since e) p a b d
     → conn_id (slave_of ms r) (received f c load e) ≡ ms.conn
-conn-known ms r id e f load c p a zero d n some h = absurd (omega arith)
-conn-known ms r id e f load c p a (suc b) d n some h = known ms r id e f load c p a b d n h
+conn-known ms r id e f load c p a b d h k l = grind arith
 
 -- an answer that echoes the k-th piece of a payload
 echo-reply : (ms : MasterSettings) (r : Partner ms) (id : ℕ) (e : List Deed) (f load : List ℕ) (c : Command) (a b d : ℕ) (p : List ℕ) (k : ℕ) → is_reset c ≡ false
@@ -274,8 +195,7 @@ echo-reply : (ms : MasterSettings) (r : Partner ms) (id : ℕ) (e : List Deed) (
     → (padded (take (width ms) load) ms.lengths.slave ≡ padded (piece p (width ms) k) ms.lengths.slave → Replies ms id c a b d (conn_id (slave_of ms r) (received f c load e)) (padded (take (width ms) load) ms.lengths.slave))
     → Reply ms r id e f c load a b d
 echo-reply ms r id e f load c a b d p k n is carried replies =
-    let same : padded (take (width ms) load) ms.lengths.slave ≡ padded (piece p (width ms) k) ms.lengths.slave =
-    echo-long (piece p (width ms) k) (width ms) ms.lengths.master ms.lengths.slave load (piece_short p (width ms) k) (piece_fits (OfMaster ms)) (piece_fits (slave_of ms r)) carried in
+    let same : padded (take (width ms) load) ms.lengths.slave ≡ padded (piece p (width ms) k) ms.lengths.slave = search (rules, padded, take, echo-long, piece_short, piece_fits) in
     record { conn = _; command = c; made = _; in_session = n; same = refl; long = ap length same ∙ piece_filled (slave_of ms r) p k; is = is; replies = replies same }
 
 -- the answer to the frame in turn
@@ -286,8 +206,7 @@ reply ms r id e f load command.Reset a b d conn long some k h = absurd k
 reply ms r id e f load command.Session a b d conn long some k h =
     let sid : ℕ = session_id (slave_of ms r) (received f command.Session load e) in
     let q : List ℕ = id_piece (partner ms r) (received f command.Session load e) in
-    let same : length (piece (session_payload id ms.profile) (width ms) (suc a)) ≡ length q =
-    piece-long (session_payload id ms.profile) (session_payload sid ms.profile) (width ms) (suc a) (session_long id ms.profile ∙ sym (session_long sid ms.profile)) ∙ ap (λ n. length (piece (session_payload sid ms.profile) (width ms) n)) (sym h.ids) in
+    let same : length (piece (session_payload id ms.profile) (width ms) (suc a)) ≡ length q = search (rules, piece-long, session_long) in
     record {
       conn = 0;
       command = command.Session;

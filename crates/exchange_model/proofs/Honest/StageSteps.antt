@@ -1,10 +1,8 @@
 -- Each delivery of an honest run brings the next stage: of a Reset frame, and of a frame of a session, which its
 -- receiver answers.
-use Rattle.exchange_model.proofs.Common.{Command, Deed, End, Entry, Event, Frame, HasNoReset, IsNext, IsNextEntry, IsProper, IsRun, IsValid, IsWorld, Item, MasterSettings, NeighboursDiffer, OfMaster, Profile, Setup, State, TakesDataAfter, TakesDelivery, answer, answer_among, answers_to, back_th, count_in, data_taken, deeds, delivery, entry_at, entry_of, entry_on, exchanges, first_conn, frame_of, has_bytes, has_command, id_len, is_guarded, is_guarded_frame, is_other, is_reset, items, items_of, newest, nonce, number_if, offer_len, own, padded, phase_of, phase_sent, piece, received, reset_frame, same_phase, seal, sends, session_id, session_payload, setup_of, since, step}
-use Rattle.std.proofs.Common.{◌≡◌, ℕ, suc, List, [], ◌∷◌, length, Bool, true, false, not, ◌&&◌, Option, Some, None, if◌then◌else◌, refl, sym, ap, ap₂, ◌∙◌, nat_le, is_some, unwrap_or, ◌≢◌, ◌+◌, ◌<◌, subst, arith}
-use Rattle.std.specs.Option.{option_or}
-use Rattle.std.proofs.lemmas.Bool.{eq-eqb}
-use Rattle.std.specs.Cmp.Lexicographic.{bytes_decides}
+use Rattle.exchange_model.proofs.Common.{Command, Deed, End, Entry, Event, Frame, HasNoReset, IsNext, IsNextEntry, IsProper, IsRun, IsValid, IsWorld, Item, MasterSettings, NeighboursDiffer, OfMaster, Setup, State, TakesDataAfter, TakesDelivery, answer, answer_among, bytes_decides, count_in, data_taken, deeds, delivery, entry_at, entry_of, entry_on, exchanges, first_conn, frame_of, has_bytes, has_command, id_len, is_guarded, is_other, is_reset, items, items_of, newest, nonce, number_if, offer_len, option_or, own, padded, phase_of, phase_sent, piece, received, reset_frame, same_phase, seal, sends, session_id, session_payload, setup_of, since, step}
+use Rattle.black_channel.specs.Altered.{back_th}
+use Rattle.std.proofs.Common.{◌≡◌, ℕ, suc, List, [], ◌∷◌, length, Bool, true, false, not, ◌&&◌, Some, None, if◌then◌else◌, refl, sym, ap, ◌∙◌, nat_le, is_some, unwrap_or, ◌≢◌, ◌+◌, ◌<◌, subst, arith, rules}
 use Rattle.fsoe_base.specs.declared.command.End.TheVariants as end_name
 use Rattle.fsoe_base.specs.declared.command.State.TheVariants as state
 use Rattle.fsoe_base.specs.declared.command.Command.TheVariants as command
@@ -17,7 +15,6 @@ use Rattle.exchange_model.proofs.Honest.Passing.{slave_rejoins, master_starts, t
 use Rattle.exchange_model.proofs.Honest.ResetFrames.{zero_load, is_reset_frame}
 use Rattle.exchange_model.proofs.Honest.Stages.{both, NewestAnswers, IsAsked, IsReplied, Stage, Replied, Down, IsDown, IsUp, Up}
 use Rattle.exchange_model.proofs.Honest.Turns.{Partner, partner, master_of, slave_of, width, Starts, none_yet, session_pieces, connection_pieces, parameter_pieces, more, Spot, spot_after, SlaveAt, MasterAt, at_least, spot_data}
-use Rattle.param_load.specs.declared.profile.Profile.TheVariants as profile
 use Rattle.end_model.proofs.Neighbours.{neighbours}
 use Rattle.exchange_model.proofs.Worlds.Projection.{deeds_are_run}
 use Rattle.exchange_model.proofs.Alone.Uploads.{since_on}
@@ -41,18 +38,6 @@ pub record Enters (ms : MasterSettings) (r : Partner ms) (w : List Entry) (event
 abbrev pub Goes : (ms : MasterSettings) → Partner ms → List Entry → Event → End → Type 0
 Goes ms r w event next = (x : Entry) × Enters ms r w event x × AtStage ms r (x ∷ w) next
 
--- an answer that is the newest of its end is the awaited one
-awaited-newest : (mine theirs : List Item) (f : List ℕ) (h : NewestAnswers mine theirs f) → answer_among mine (newest theirs) ≡ Some h.newest.item
-awaited-newest mine theirs f h =
-    ap₂ (λ (xs ys : List Item). answer_among xs (newest ys)) h.newest.is h.theirs_are
-    ∙ answers-head (has_command command.Reset h.newest.item.bytes) (answers_to h.answered.number h.newest.item.answers) _ _ (ap (has_command command.Reset) h.newest.bytes_are ∙ h.in_session)
-    (ap (answers_to h.answered.number) h.answers ∙ eq-eqb h.answered.number h.answered.number refl)
-  where
-    answers-head : (a b : Bool) (x y : Option Item) → a ≡ false → b ≡ true → (if not a && b then x else y) ≡ x
-    answers-head false true x y h k = refl
-    answers-head true b x y h k = cc
-    answers-head false false x y h k = cc
-
 bytes-found : (f : List ℕ) (i : Item) → i.bytes ≡ f → has_bytes f (Some i) ≡ true
 bytes-found f i h = (bytes_decides i.bytes f).1 h
 
@@ -61,25 +46,14 @@ number-found f i h = ap (λ b. if b then Some i.number else None) (bytes-found f
 
 -- the number of the item that is taken: the newest of the peer, whatever its command
 pub taken_number : (mine theirs : List Item) (f : List ℕ) (c : Command) (h : NewestAnswers mine theirs f) → number_if f (if is_guarded c then answer_among mine (newest theirs) else newest mine) ≡ Some h.newest.item.number
-taken_number mine theirs f c h = by-guard (is_guarded c)
-  where
-    by-guard : (b : Bool) → number_if f (if b then answer_among mine (newest theirs) else newest mine) ≡ Some h.newest.item.number
-    by-guard true = ap (number_if f) (awaited-newest mine theirs f h) ∙ number-found f h.newest.item h.newest.bytes_are
-    by-guard false = ap (λ xs. number_if f (newest xs)) h.newest.is ∙ number-found f h.newest.item h.newest.bytes_are
+taken_number mine theirs f c h = search rules
 
 pub none_other : (a b : Bool) (mine theirs : List Item) (f : List ℕ) → NewestAnswers mine theirs f → (a && b && not (has_bytes f (answer_among mine (newest theirs)))) ≡ false
-none_other a b mine theirs f h = all-three a b (has_bytes f (answer_among mine (newest theirs))) (ap (has_bytes f) (awaited-newest mine theirs f h) ∙ bytes-found f h.newest.item h.newest.bytes_are)
-  where
-    all-three : (a b c : Bool) → c ≡ true → (a && b && not c) ≡ false
-    all-three true true true h = refl
-    all-three true false true h = refl
-    all-three false b true h = refl
-    all-three a b false h = cc
+none_other a b mine theirs f h = search rules
 
 -- a frame that is taken is of data exactly where its phase is Data
 pub data_phase_taken : (c : Command) (load : List ℕ) → is_some (data_taken (Some (record { command = c; load = load }))) ≡ same_phase state.Data (phase_of c)
-data_phase_taken command.Reset load = refl
-data_phase_taken _ load = refl
+data_phase_taken c load = grind arith
 
 -- the entry of a delivery
 pub delivered_entry : (s : Setup) (e : List Deed) (frames older : List (List ℕ)) (f : List ℕ) (d : Deed) → frames ≡ f ∷ older → step s e (move.Deliver f) ≡ d → entry_on s e (delivery (back_th 1 frames)) ≡ Some (entry_of s e d)
@@ -102,19 +76,7 @@ asked_delivered ms r w h =
         taken = λ k. refl;
         takes_data = sym (ap (nat_le (exchanges ms)) h.slave_count ∙ none_yet (session_pieces ms) (connection_pieces ms) (parameter_pieces ms));
       },
-      Replied (record {
-        outside = record {
-          master = h.outside.master;
-          slave = fresh;
-          no_id = h.outside.no_id;
-          phase = refl;
-          none_joined = λ phase. refl;
-        };
-        last = record { older = own es; is = refl };
-        newest = record { item = _; older = items_of end_name.Slave (items w); is = refl; bytes_are = refl };
-        master_count = h.master_count;
-        slave_count = ap suc h.slave_count;
-      }),
+      Replied (search (rules, fresh, own, newest)),
     )
 
 -- the slave's Reset frame comes to the master
@@ -132,14 +94,7 @@ replied_delivered ms r w h =
     let stepped : step (master_of ms) em (move.Deliver f) ≡ d =
     master_starts ms em f _ (ap phase_sent h.outside.master.none_sent) (is_reset_frame (master_of ms) em ms.lengths.valid_slave h.outside.master.none_kept) in (
       entry_of (master_of ms) em d,
-      record {
-        is = delivered_entry (master_of ms) em (own es) h.last.older f d h.last.is stepped;
-        follows = record { proper = tt; stepped = ap (entry_of (master_of ms) em) (sym stepped) };
-        not_other = refl;
-        no_reset = refl;
-        taken = λ k. refl;
-        takes_data = sym (ap (nat_le (exchanges ms)) h.master_count ∙ none_yet (session_pieces ms) (connection_pieces ms) (parameter_pieces ms));
-      },
+      search (rules, delivered_entry, own, none_yet),
       Down (record {
         id = id;
         command = command.Session;
@@ -194,11 +149,7 @@ differ s e f d r h what n =
     subst (λ (u : List Deed). NeighboursDiffer (sends s) (own u)) (since_on d e n) (neighbours s (d ∷ e) (next, r))
 
 pub some_session : (ms : MasterSettings) → 0 < session_pieces ms
-some_session ms = some_piece (id_len ms.profile) (width ms) (some_width ms) (by-profile ms.profile)
-  where
-    by-profile : (p : Profile) → 0 < id_len p
-    by-profile profile.One = omega arith
-    by-profile (profile.Two word) = omega arith
+some_session ms = search rules
 
 pub some_connection : (ms : MasterSettings) → 0 < connection_pieces ms
 some_connection ms = some_piece 4 (width ms) (some_width ms) (omega arith)
@@ -228,15 +179,7 @@ down_delivered ms r w accepts world h =
     let spot : Spot (session_pieces ms) (connection_pieces ms) (parameter_pieces ms) (phase_of c) (more state.Session c h.a) (more state.Connection c h.b) (more state.Parameter c h.d) (suc h.k) =
     spot_after _ _ _ c h.p h.a h.b h.d h.k (some_session ms) (some_connection ms) (some_parameter ms) h.turn in (
       entry_of (slave_of ms r) es d,
-      record {
-        is = delivered_entry (slave_of ms r) es (own em) h.last.older f d h.last.is stepped;
-        follows = record { proper = tt; stepped = ap (entry_of (slave_of ms r) es) (sym stepped) };
-        not_other = none_other (not (is_reset c)) (is_guarded_frame f) (items_of end_name.Master (items w)) (items_of end_name.Slave (items w)) f h.newest;
-        no_reset = refl;
-        taken = λ k. refl;
-        takes_data = data_phase_taken c h.load
-            ∙ (spot_data _ _ _ (phase_of c) _ _ _ (suc h.k) spot ∙ (at_least (session_pieces ms) (connection_pieces ms) (parameter_pieces ms) (suc h.k) ∙ ap (nat_le (exchanges ms)) (sym h.slave_count)));
-      },
+      search (rules, delivered_entry, own, none_other, data_phase_taken, spot_data, at_least),
       Up (record {
         id = h.id;
         command = x.command;
@@ -286,15 +229,7 @@ up_delivered ms r w world h =
     takes_valid (master_of ms) em f h.load c (other-command c h.in_session) valid ∙ ap (answering f c h.load) x.is in
     let in_session : has_command command.Reset g ≡ false = head_on x.command x.in_session in (
       entry_of (master_of ms) em d,
-      record {
-        is = delivered_entry (master_of ms) em (own es) h.last.older f d h.last.is stepped;
-        follows = record { proper = tt; stepped = ap (entry_of (master_of ms) em) (sym stepped) };
-        not_other = none_other (not (is_reset c)) (is_guarded_frame f) (items_of end_name.Slave (items w)) (items_of end_name.Master (items w)) f h.newest;
-        no_reset = refl;
-        taken = λ k. refl;
-        takes_data = data_phase_taken c h.load
-            ∙ (spot_data _ _ _ (phase_of c) _ _ _ h.k h.spot ∙ (at_least (session_pieces ms) (connection_pieces ms) (parameter_pieces ms) h.k ∙ ap (nat_le (exchanges ms)) (sym h.master_count)));
-      },
+      search (rules, delivered_entry, own, none_other, data_phase_taken, spot_data, at_least),
       Down (record {
         id = h.id;
         command = x.command;

@@ -1,12 +1,9 @@
 -- Where a handshake stands: the pieces of each payload that were sent and taken so far, and whose turn it is.
 use Rattle.exchange_model.proofs.Common.{AppRule, Command, Deed, MasterSettings, OfMaster, OfSlave, Profile, Setup, SlaveSettings, State, allows_id, connection_payload, count_in, exchanges, first_conn, id_len, id_sent, is_acceptable, is_length, joined, own, parameter_payload, pay, phase_of, phase_sent, phase_taken, piece_len, pieces, pieces_for, same_phase, session_payload, since, taken}
-use Rattle.std.proofs.Common.{◌≡◌, ℕ, zero, suc, ◌+◌, ◌<◌, ◌≤◌, List, length, Bool, true, false, nat_lt, Option, Some, None, IsTrue, if◌then◌else◌, arith, nat_le, refl}
-use Rattle.std.proofs.lemmas.Bool.Decides.{nat_tests}
-use Rattle.std.proofs.lemmas.Bool.{lt-ltb, le-ltb}
+use Rattle.std.proofs.Common.{◌≡◌, ℕ, zero, suc, ◌+◌, ◌<◌, ◌≤◌, List, length, false, nat_lt, Option, Some, None, IsTrue, if◌then◌else◌, arith, nat_le, refl}
 use Rattle.fsoe_base.specs.declared.command.State.TheVariants as state
 use Rattle.fsoe_base.specs.declared.command.Command.TheVariants as command
 use Rattle.exchange_model.proofs.Alone.Pieces.{front}
-use Rattle.param_load.specs.declared.profile.Profile.TheVariants as profile
 
 -- what a slave whose settings match a master's has of its own
 pub record Partner (ms : MasterSettings) : Type 0 where
@@ -97,32 +94,17 @@ spot_after n n' n'' c p a b d k i i' i'' (MoreValues _ e) = InData (suc k) (omeg
 
 -- an end is in Data exactly after the last piece
 pub spot_data : (n n' n'' : ℕ) (p : State) (a b d m : ℕ) → Spot n n' n'' p a b d m → same_phase state.Data p ≡ nat_lt (n + n' + n'') m
-spot_data n n' n'' p a b d m (InSession _ h) = sym-lt (le-ltb (n + n' + n'') m (omega arith))
-  where
-    sym-lt : {x y : Bool} → x ≡ y → y ≡ x
-    sym-lt h = cc
-spot_data n n' n'' p a b d m (InConnection _ _ h e) = let f : nat_lt (n + n' + n'') m ≡ false = le-ltb (n + n' + n'') m (omega arith) in cc
-spot_data n n' n'' p a b d m (InParameter _ _ h e) = let f : nat_lt (n + n' + n'') m ≡ false = le-ltb (n + n' + n'') m (omega arith) in cc
-spot_data n n' n'' p a b d m (InData _ h) = let f : nat_lt (n + n' + n'') m ≡ true = lt-ltb (n + n' + n'') m (omega arith) in cc
+spot_data n n' n'' p a b d m h = grind arith
 
 pub turn_data : (n n' n'' : ℕ) (c : Command) (p : State) (a b d k : ℕ) → Turn n n' n'' c p a b d k → same_phase state.Data p ≡ nat_lt (n + n' + n'') k
-turn_data n n' n'' c p a b d k Starts = let f : nat_lt (n + n' + n'') 0 ≡ false = le-ltb (n + n' + n'') 0 (omega arith) in cc
-turn_data n n' n'' c p a b d k (MoreSession _ h) = let f : nat_lt (n + n' + n'') k ≡ false = le-ltb (n + n' + n'') k (omega arith) in cc
-turn_data n n' n'' c p a b d k FirstConnection = let f : nat_lt (n + n' + n'') k ≡ false = le-ltb (n + n' + n'') k (omega arith) in cc
-turn_data n n' n'' c p a b d k (MoreConnection _ _ h e) = let f : nat_lt (n + n' + n'') k ≡ false = le-ltb (n + n' + n'') k (omega arith) in cc
-turn_data n n' n'' c p a b d k (FirstParameter _ e) = let f : nat_lt (n + n' + n'') k ≡ false = le-ltb (n + n' + n'') k (omega arith) in cc
-turn_data n n' n'' c p a b d k (MoreParameter _ _ h e) = let f : nat_lt (n + n' + n'') k ≡ false = le-ltb (n + n' + n'') k (omega arith) in cc
-turn_data n n' n'' c p a b d k (FirstZeros _ e) = let f : nat_lt (n + n' + n'') k ≡ false = le-ltb (n + n' + n'') k (omega arith) in cc
-turn_data n n' n'' c p a b d k (FirstValues _ e) = let f : nat_lt (n + n' + n'') k ≡ false = le-ltb (n + n' + n'') k (omega arith) in cc
-turn_data n n' n'' c p a b d k (MoreZeros _ h) = let f : nat_lt (n + n' + n'') k ≡ true = lt-ltb (n + n' + n'') k h in cc
-turn_data n n' n'' c p a b d k (MoreValues _ h) = let f : nat_lt (n + n' + n'') k ≡ true = lt-ltb (n + n' + n'') k h in cc
+turn_data n n' n'' c p a b d k h = grind arith
 
 -- the numbers of deliveries that bring an end into Data
 pub at_least : (a b c m : ℕ) → nat_lt (a + b + c) m ≡ nat_le (1 + a + b + c) m
-at_least a b c m = grind (arith, nat_tests)
+at_least a b c m = grind arith
 
 pub none_yet : (a b c : ℕ) → nat_le (1 + a + b + c) 0 ≡ false
-none_yet a b c = grind (arith, nat_tests)
+none_yet a b c = grind arith
 
 -- the connection id that came with b pieces of its payload, if some came
 abbrev pub conn_after : ℕ → ℕ → Option ℕ
@@ -154,12 +136,10 @@ MasterAt ms id e p a b d = HasSent id (own (since e)) (id_sent (OfMaster ms) e) 
 
 -- how long the payloads are
 pub session_long : (id : ℕ) (p : Profile) → length (session_payload id p) ≡ id_len p
-session_long id profile.One = refl
-session_long id (profile.Two word) = refl
+session_long id p = grind arith
 
 pub parameters_long : (w : ℕ) (p : Profile) (app : List ℕ) → length (parameter_payload w p app) ≡ id_len p + 4 + length app
-parameters_long w profile.One app = omega arith
-parameters_long w (profile.Two word) app = omega arith
+parameters_long w p app = grind arith
 
 -- the exchanges before the first data are one of Reset frames and one for each piece
 pub are_pieces : (ms : MasterSettings) (id : ℕ)

@@ -1,9 +1,6 @@
 -- The first pieces of a master's payloads pass a slave's tests of their contents, where the settings of both match.
-use Rattle.exchange_model.proofs.Common.{AppRule, Code, Profile, all_zero, allows, code, connection_payload, contents_fault, expected_len, fails, id_len, number_at, padding_fault, parameter_payload, rule_len, session_payload, word_is}
-use Rattle.std.proofs.Common.{◌≡◌, ℕ, ◌+◌, ◌*◌, ◌/◌, ◌%◌, ◌<◌, ◌≤◌, ◌==◌, nat_le, nat_lt, List, ◌++◌, length, take, drop, replicate, Bool, true, false, ◌&&◌, not, Option, Some, None, if◌then◌else◌, refl, sym, ap, ap₂, ◌∙◌, arith}
-use Rattle.std.specs.Option.{option_or}
-use Rattle.std.proofs.lemmas.Bool.{eq-eqb, lt-ltb, le-leb, ltb-true}
-use Rattle.std.proofs.Math.Seq.{take-append_seam}
+use Rattle.exchange_model.proofs.Common.{AppRule, Code, Profile, all_zero, allows, code, common_steps, connection_payload, contents_fault, eq-eqb, expected_len, fails, id_len, le-leb, lt-ltb, ltb-true, number_at, option_or, padding_fault, parameter_payload, rule_len, session_payload, take-append_seam, word_is}
+use Rattle.std.proofs.Common.{◌≡◌, ℕ, ◌+◌, ◌*◌, ◌/◌, ◌%◌, ◌<◌, ◌≤◌, ◌==◌, nat_le, nat_lt, List, ◌++◌, length, take, drop, replicate, Bool, true, false, ◌&&◌, Option, Some, None, if◌then◌else◌, refl, sym, ap, ap₂, ◌∙◌, arith, rules}
 use Rattle.param_load.specs.declared.contents.Expected.{Expected}
 use Rattle.param_load.specs.declared.contents.Expected.TheVariants as expected
 use Rattle.param_load.specs.declared.profile.Profile.TheVariants as profile
@@ -13,36 +10,25 @@ use Rattle.exchange_model.proofs.Honest.Fronts.{IsBegun, number_in, part_in, pad
 number-back : (n : ℕ) → n % 256 + 256 * (n / 256) ≡ n
 number-back n = omega arith
 
-not-failing : (a b holds : Bool) → (b ≡ true → holds ≡ true) → (a && b && not holds) ≡ false
-not-failing true true false h = let k : false ≡ true = h refl in cc
-not-failing _ _ _ h = refl
-
 -- a field that holds wherever its last byte has come doesn't fail
 no-fault : (before : ℕ) (u : List ℕ) (last : ℕ) (holds : Bool) → (last < length u → holds ≡ true) → fails before u last holds ≡ false
-no-fault before u last holds h = not-failing (nat_le before last) (nat_lt last (length u)) holds (λ k. h (ltb-true last (length u) k))
+no-fault before u last holds h = search (rules, ltb-true)
 
 two-pass : (a b : Bool) (x y : Code) → a ≡ false → b ≡ false → (if a then Some x else if b then Some y else None) ≡ None
-two-pass false false x y h i = refl
-two-pass _ _ x y h i = cc
+two-pass a b x y h k = grind arith
 
 four-pass : (a b c d : Bool) (x y z w : Code) → a ≡ false → b ≡ false → c ≡ false → d ≡ false → (if a then Some x else if b then Some y else if c then Some z else if d then Some w else None) ≡ None
-four-pass false false false false x y z w h i j k = refl
-four-pass _ _ _ _ x y z w h i j k = cc
+four-pass a b c d x y z w h k l m = grind arith
 
 one-passes : (a : Bool) (x : Code) → a ≡ false → (if a then Some x else None) ≡ None
-one-passes false x h = refl
-one-passes true x h = cc
-
-both-zero : (a b : Bool) (x : Code) → a ≡ true → b ≡ true → (if a && b then None else Some x) ≡ None
-both-zero true true x h i = refl
-both-zero _ _ x h i = cc
+one-passes a x h = grind arith
 
 none-of : (a b : Option Code) → a ≡ None → b ≡ None → option_or a b ≡ None
 none-of a b h i = ap₂ option_or h i
 
 -- the padding of a frame whose bytes begin the payload
 padding-passes : (e : Expected) (u p rest : List ℕ) → length p ≡ expected_len e → IsBegun u p → all_zero rest ≡ true → padding_fault e u rest ≡ None
-padding-passes e u p rest h b z = both-zero _ _ (code 0x07) (ap (λ n. all_zero (drop n u)) (sym h) ∙ padding_in u p b) z
+padding-passes e u p rest h k l = search (rules, code, padding_in)
 
 pub session_passes : (id : ℕ) (p : Profile) (rule : AppRule) (before : ℕ) (u rest : List ℕ) → IsBegun u (session_payload id p) → all_zero rest ≡ true → contents_fault (expected.Session p) rule before u rest ≡ None
 session_passes id p rule before u rest b z = padding-passes (expected.Session p) u (session_payload id p) rest (session_long id p) b z
@@ -57,12 +43,10 @@ connection_passes conn address rule before u rest b z =
 
 -- what the first bytes of the parameters say
 first-is : (w : ℕ) (p : Profile) (app zs : List ℕ) → number_at 0 (parameter_payload w p app ++ zs) ≡ id_len p
-first-is w profile.One app zs = refl
-first-is w (profile.Two word) app zs = refl
+first-is w p app zs = grind arith
 
 watchdog-is : (w : ℕ) (p : Profile) (app zs : List ℕ) → number_at 2 (parameter_payload w p app ++ zs) ≡ w
-watchdog-is w profile.One app zs = number-back w
-watchdog-is w (profile.Two word) app zs = number-back w
+watchdog-is w p app zs = grind arith
 
 count-is : (w : ℕ) (p : Profile) (app zs : List ℕ) → number_at (id_len p + 2) (parameter_payload w p app ++ zs) ≡ length app
 count-is w profile.One app zs = number-back (length app)
@@ -73,8 +57,7 @@ app-is w profile.One app zs = take-append_seam app zs
 app-is w (profile.Two word) app zs = take-append_seam app zs
 
 word-holds : (w : ℕ) (p : Profile) (app u : List ℕ) → IsBegun u (parameter_payload w p app) → id_len p + 1 < length u → word_is p u ≡ true
-word-holds w profile.One app u b h = refl
-word-holds w (profile.Two word) app u b h = eq-eqb _ _ (number_in u (parameter_payload w (profile.Two word) app) b 4 h ∙ number-back word)
+word-holds w p app u h k = grind (arith, common_steps)
 
 accepted : (w most : ℕ) → 0 < w → w ≤ most → (nat_lt 0 w && nat_le w most) ≡ true
 accepted w most h k = ap₂ (λ (a b : Bool). a && b) (lt-ltb 0 w h) (le-leb w most k)

@@ -2,8 +2,7 @@
 -- the master's, l the safe data bytes of a master's frame, c those of a piece. Pieces don't matter here: what a slave
 -- has uploaded is what the master's own frames carried, up to the item that the slave's newest item answers.
 use Rattle.exchange_model.proofs.Common.{Item, State, frame_of, has_command, phase_of_frame, same_phase}
-use Rattle.std.proofs.Common.{◌≡◌, ℕ, suc, ◌≤◌, List, [], ◌∷◌, ◌++◌, length, take, Bool, true, false, Option, Some, None, if◌then◌else◌, ◌==◌, refl, sym, ap, subst, ◌∙◌, inl, inr}
-use Rattle.std.proofs.lemmas.Bool.Decides.{eqb_tells}
+use Rattle.std.proofs.Common.{◌≡◌, ℕ, suc, ◌≤◌, List, [], ◌∷◌, ◌++◌, length, take, Bool, true, false, Option, Some, None, if◌then◌else◌, ◌==◌, sym, subst, arith, rules}
 use Rattle.fsoe_base.specs.declared.command.State.TheVariants as state
 use Rattle.fsoe_base.specs.declared.command.Command.TheVariants as command
 use Rattle.exchange_model.proofs.Worlds.Frames.{bytes_in}
@@ -85,29 +84,13 @@ pub record Joint (l c : ℕ) (now : State) (uploads : State → List ℕ) (s m :
   pub newest_is : newest_phase s ≡ now
   pub standing : Standing l c now uploads s m
 
--- a guarded frame is no Reset frame
-pub no_reset : (f : List ℕ) → is_guarded_in (phase_of_frame f) ≡ true → has_command command.Reset f ≡ false
-no_reset [] h = cc
-no_reset (b ∷ f) h = elim (eqb_tells b 0x2A) [ inl p ↦ absurd (let q : is_guarded_in (phase_of_frame (0x2A ∷ f)) ≡ true = ap (λ x. is_guarded_in (phase_of_frame (x ∷ f))) (sym p.1) ∙ h in cc) | inr p ↦ p.0 ]
-
--- a guarded item adds its part
-pub carried_next : (phase : State) (l c : ℕ) (j : Item) (rest : List Item) → is_guarded_in (phase_of_frame j.bytes) ≡ true → carried phase l c (j ∷ rest) ≡ with_part phase l c j.bytes (carried phase l c rest)
-carried_next phase l c j rest g = ap (carried_by phase l c) (in-session (no_reset j.bytes g))
-  where
-    in-session : has_command command.Reset j.bytes ≡ false → session (bytes_in (j ∷ rest)) ≡ j.bytes ∷ session (bytes_in rest)
-    in-session h = simp h
-
 -- an item among the master's has its place
 pub placed_at : (l c n : ℕ) (s m rest : List Item) (j : Item) → AllPlaced l c s m → up_to n m ≡ j ∷ rest → Placed l c s rest j
 placed_at l c n s [] rest j p h = cc
 placed_at l c n s (i ∷ m) rest j p h = placed-head (n == suc (length m)) (placed_at l c n s m rest j p.1) h
   where
     placed-head : (b : Bool) → (up_to n m ≡ j ∷ rest → Placed l c s rest j) → (if b then i ∷ m else up_to n m) ≡ j ∷ rest → Placed l c s rest j
-    placed-head true later h =
-        let a : i ≡ j = cc in
-        let b : m ≡ rest = cc in
-        subst (λ (x : Item). Placed l c s rest x) a (subst (λ (x : List Item). Placed l c s x i) b p.0)
-    placed-head false later h = later h
+    placed-head b h k = grind arith
 
 -- a slave that takes a frame uploads its part
 abbrev pub Uploads : ℕ → ℕ → List ℕ → (State → List ℕ) → (State → List ℕ) → Type 0
@@ -116,22 +99,12 @@ Uploads l c f before after = (phase : State) → is_loading phase ≡ true → a
 -- the frame that a slave takes is the one after those that it mirrors
 mirrors-next : (l c : ℕ) (before after : State → List ℕ) (rest : List Item) (j : Item) → is_guarded_in (phase_of_frame j.bytes) ≡ true → Uploads l c j.bytes before after
     → ((phase : State) → is_loading phase ≡ true → before phase ≡ carried phase l c rest) → Mirrors l c (phase_of_frame j.bytes) after (j ∷ rest)
-mirrors-next l c before after rest j g u h =
-    record { phase_is = refl; same = λ phase k. u phase k ∙ (ap (with_part phase l c j.bytes) (h phase k) ∙ sym (carried_next phase l c j rest g)) }
+mirrors-next l c before after rest j h k m = grind arith
 
 -- the awaited item follows what the slave mirrors
 uploaded-before : (l c : ℕ) (now : State) (before : State → List ℕ) (s m rest : List Item) → up_to (length rest) m ≡ rest → newest_phase s ≡ now
     → Standing l c now before s m → Place l c s rest (length s) → (phase : State) → is_loading phase ≡ true → before phase ≡ carried phase l c rest
-uploaded-before l c now before s m rest b e (Before x none) (First a nothing) = λ phase k. none phase k ∙ sym (nothing phase k)
-uploaded-before l c now before s m rest b e (Before x none) (Next a k) =
-    absurd (let q : true ≡ false = sym a ∙ (ap (λ t. is_guarded_in (newest_phase t)) (up_to_all s) ∙ (ap is_guarded_in e ∙ x)) in cc)
-uploaded-before l c now before s m rest b e (Past x r) (First a nothing) =
-    absurd (let q : false ≡ true = sym a ∙ (ap (λ t. is_guarded_in (newest_phase t)) (up_to_all s) ∙ (ap is_guarded_in e ∙ x)) in cc)
-uploaded-before l c now before s m rest b e (Past x r) (Next a k) =
-    let same_item : Some r.item ≡ Some (length rest) = sym r.is ∙ (ap newest_answers (sym (up_to_all s)) ∙ k) in
-    let n : r.item ≡ length rest = cc in
-    let t : up_to r.item m ≡ rest = ap (λ n. up_to n m) n ∙ b in
-    λ phase i. r.mirrors.same phase i ∙ ap (carried phase l c) t
+uploaded-before l c now before s m rest h k n o phase p = search (rules, up_to_all)
 
 -- a slave that takes the awaited frame mirrors the master up to it
 pub slave_takes : (l c : ℕ) (now : State) (before after : State → List ℕ) (s m : List Item) (j : Item) → is_guarded_in (phase_of_frame j.bytes) ≡ true → Uploads l c j.bytes before after

@@ -1,13 +1,12 @@
 -- Each change of the items of both ends keeps what they say of one another.
 use Rattle.exchange_model.proofs.Common.{Item, State, phase_of_frame}
-use Rattle.std.proofs.Common.{◌≡◌, ℕ, ◌≤◌, List, [], ◌∷◌, length, true, false, Some, sym, ap, subst, ◌∙◌, arith}
-use Rattle.exchange_model.proofs.Joint.Awaited.{up_to, up_to_more, up_to_all, newest_phase, Found}
-use Rattle.exchange_model.proofs.Joint.Joint.{is_guarded_in, is_loading, newest_answers, NoneCarried, Place, First, Next, Placed, AllPlaced, Mirrors, Answering, Standing, Before, Past, Joint, Uploads, slave_takes}
+use Rattle.std.proofs.Common.{◌≡◌, ℕ, ◌≤◌, List, [], ◌∷◌, length, true, false, Some, arith, rules}
+use Rattle.exchange_model.proofs.Joint.Awaited.{up_to_all, newest_phase, Found}
+use Rattle.exchange_model.proofs.Joint.Joint.{is_guarded_in, is_loading, NoneCarried, Place, Placed, AllPlaced, Standing, Before, Past, Joint, Uploads, slave_takes}
 
 -- one more item of the slave
 place-more : (l c : ℕ) (i : Item) (s rest : List Item) (n : ℕ) → n ≤ length s → Place l c s rest n → Place l c (i ∷ s) rest n
-place-more l c i s rest n h (First a b) = First (ap (λ t. is_guarded_in (newest_phase t)) (up_to_more n i s h) ∙ a) b
-place-more l c i s rest n h (Next a b) = Next (ap (λ t. is_guarded_in (newest_phase t)) (up_to_more n i s h) ∙ a) (ap newest_answers (up_to_more n i s h) ∙ b)
+place-more l c i s rest n h k = search rules
 
 placed-more : (l c : ℕ) (i : Item) (s m : List Item) → AllPlaced l c s m → AllPlaced l c (i ∷ s) m
 placed-more l c i s [] h = tt
@@ -19,19 +18,8 @@ placed-more l c i s (j ∷ m) h = (
   placed-more l c i s m h.1,
 )
 
--- one more item of the master
-answering-more : (l c : ℕ) (now : State) (uploads : State → List ℕ) (s m : List Item) (i : Item) → Answering l c now uploads s m → Answering l c now uploads s (i ∷ m)
-answering-more l c now uploads s m i a =
-    let h : a.item ≤ length m = a.within in
-    record { item = a.item; is = a.is; within = omega arith; mirrors = subst (λ t. Mirrors l c now uploads t) (sym (up_to_more a.item i m a.within)) a.mirrors }
-
-standing-more : (l c : ℕ) (now : State) (uploads : State → List ℕ) (s m : List Item) (i : Item) → Standing l c now uploads s m → Standing l c now uploads s (i ∷ m)
-standing-more l c now uploads s m i (Before a none) = Before a none
-standing-more l c now uploads s m i (Past a h) = Past a (answering-more l c now uploads s m i h)
-
 pub master_adds : (l c : ℕ) (now : State) (uploads : State → List ℕ) (s m : List Item) (i : Item) → Placed l c s m i → Joint l c now uploads s m → Joint l c now uploads s (i ∷ m)
-master_adds l c now uploads s m i p j =
-    record { placed = (p, j.placed); newest_is = j.newest_is; standing = standing-more l c now uploads s m i j.standing }
+master_adds l c now uploads s m i h k = search rules
 
 -- an item that isn't guarded has no place to keep
 pub unguarded_placed : (l c : ℕ) (s m : List Item) (i : Item) → ((n : ℕ) → i.answers ≡ Some n → n ≤ length s) → is_guarded_in (phase_of_frame i.bytes) ≡ false → Placed l c s m i
@@ -39,20 +27,11 @@ unguarded_placed l c s m i h g = record { within = h; place = λ n e k. cc }
 
 -- the item of a master that takes the awaited frame
 pub next_placed : (l c : ℕ) (s m : List Item) (i j : Item) → is_guarded_in (phase_of_frame j.bytes) ≡ true → Found (length m) s j → i.answers ≡ Some j.number → Placed l c s m i
-next_placed l c s m i j g k a =
-    let next : Place l c s m j.number = Next (ap (λ t. is_guarded_in (newest_phase t)) k.is ∙ g) (ap newest_answers k.is ∙ k.answers) in
-    record {
-      within = λ n e. let q : j.number ≡ n = cc in let h : j.number ≤ length s = k.within in omega arith;
-      place = λ n e g. let q : j.number ≡ n = cc in subst (λ (n : ℕ). Place l c s m n) q next;
-    }
+next_placed l c s m i j h k n = grind arith
 
 -- the item of a master that takes a Session frame, where it has sent nothing past the session id
 pub first_placed : (l c : ℕ) (s m : List Item) (i : Item) → ((n : ℕ) → i.answers ≡ Some n → (n ≡ length s) × (is_guarded_in (newest_phase s) ≡ false)) → NoneCarried l c m → Placed l c s m i
-first_placed l c s m i h none =
-    record {
-      within = λ n e. let q : n ≡ length s = (h n e).0 in omega arith;
-      place = λ n e k. First (ap (λ n. is_guarded_in (newest_phase (up_to n s))) ((h n e).0) ∙ (ap (λ t. is_guarded_in (newest_phase t)) (up_to_all s) ∙ (h n e).1)) none;
-    }
+first_placed l c s m i h k = search (rules, up_to_all)
 
 -- a slave that sends a frame in Reset or Session
 pub slave_before : (l c : ℕ) (now after : State) (before uploads : State → List ℕ) (s m : List Item) (i : Item) → phase_of_frame i.bytes ≡ after → is_guarded_in after ≡ false
@@ -62,8 +41,7 @@ slave_before l c now after before uploads s m i p g none j = record { placed = p
 -- what a slave in Reset or Session uploaded
 pub none_uploaded : (l c : ℕ) (now : State) (uploads : State → List ℕ) (s m : List Item) → is_guarded_in now ≡ false → Standing l c now uploads s m
     → (phase : State) → is_loading phase ≡ true → uploads phase ≡ []
-none_uploaded l c now uploads s m g (Before a none) = none
-none_uploaded l c now uploads s m g (Past a h) = absurd (let q : false ≡ true = sym g ∙ a in cc)
+none_uploaded l c now uploads s m h k phase n = grind arith
 
 -- a slave that takes the awaited frame, and answers it with one of the same phase
 pub slave_past : (l c : ℕ) (now : State) (before after : State → List ℕ) (s m : List Item) (i j : Item) → is_guarded_in (phase_of_frame j.bytes) ≡ true → phase_of_frame i.bytes ≡ phase_of_frame j.bytes

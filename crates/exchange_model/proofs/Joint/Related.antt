@@ -1,6 +1,6 @@
 -- Each entry of a world that isn't other keeps what both ends' items say of one another.
-use Rattle.exchange_model.proofs.Common.{AfterConnection, AfterSession, Answers, Command, Deed, Did, End, Entry, Expires, IsInSession, IsNextEntry, IsReaction, IsRun, IsValid, IsWorld, Item, MasterFirstData, MasterGoesOn, MasterMoreData, MasterNextPhase, MasterSettings, MasterStarts, Move, NoOther, OfConnection, OfMaster, OfParameter, OfSession, OfSlave, PeerResets, Reaction, Refuses, ResetsItself, SameLengths, SendsAgain, Setup, SlaveSettings, State, Taking, answer_is, answer_sent, command_in, deed_in, deeds, entry_of, exchange_of, is_empty, is_guarded, is_other, item_of, items, items_of, newest, number_if, own, phase_of, phase_of_data, phase_of_frame, phase_sent, piece_len, received, receives, reset_frame, sends, setup_of, since, slave_allows, state_of, takes_frame, uploaded}
-use Rattle.std.proofs.Common.{◌≡◌, ◌≢◌, ℕ, List, [], ◌∷◌, length, Bool, true, false, Option, Some, None, refl, sym, ap, subst, ◌∙◌, arith}
+use Rattle.exchange_model.proofs.Common.{AfterConnection, AfterSession, Answers, Command, Deed, Did, End, Entry, Expires, IsInSession, IsNextEntry, IsReaction, IsRun, IsValid, IsWorld, Item, MasterFirstData, MasterGoesOn, MasterMoreData, MasterNextPhase, MasterSettings, MasterStarts, Move, NoOther, OfConnection, OfMaster, OfParameter, OfSession, OfSlave, PeerResets, Reaction, Refuses, ResetsItself, SameLengths, SendsAgain, Setup, SlaveSettings, State, Taking, answer_is, answer_sent, command_in, deed_in, deeds, entry_of, exchange_of, is_empty, is_guarded, is_other, item_of, items, items_of, newest, number_if, own, phase_of, phase_of_frame, phase_sent, piece_len, received, receives, reset_frame, sends, setup_of, since, slave_allows, state_of, takes_frame, uploaded}
+use Rattle.std.proofs.Common.{◌≡◌, ◌≢◌, ℕ, List, [], ◌∷◌, length, Bool, true, false, Option, Some, None, refl, sym, ap, subst, ◌∙◌, arith, rules}
 use Rattle.fsoe_base.specs.declared.command.End.TheVariants as end_name
 use Rattle.fsoe_base.specs.declared.command.State.TheVariants as state
 use Rattle.fsoe_base.specs.declared.command.Command.TheVariants as command
@@ -11,8 +11,8 @@ use Rattle.exchange_model.proofs.Worlds.Numbered.{numbered}
 use Rattle.exchange_model.proofs.Joint.Awaited.{IsNewest, newest_is}
 use Rattle.exchange_model.proofs.Joint.Joint.{is_guarded_in, is_loading, session, carried, with_part, Placed, Joint, Before, Uploads}
 use Rattle.exchange_model.proofs.Joint.JointSteps.{master_adds, unguarded_placed, next_placed, first_placed, slave_before, slave_past, none_uploaded}
-use Rattle.exchange_model.proofs.Alone.Framed.{head_is, phase_by, phase_framed, IsFrame, connection_of, parameters_of, SlaveSends, Echoes, Gives, slave_sends, piece_sent}
-use Rattle.exchange_model.proofs.Alone.Pieces.{front, order_at, Sent, pieces_sent, session_own, deed, data_phase}
+use Rattle.exchange_model.proofs.Alone.Framed.{head_is, phase_by, phase_framed, IsFrame, SlaveSends, slave_sends, piece_sent}
+use Rattle.exchange_model.proofs.Alone.Pieces.{Sent, pieces_sent, session_own, deed}
 use Rattle.exchange_model.proofs.Alone.Uploads.{uploads_next, state_next}
 use Rattle.exchange_model.proofs.Joint.Taking.{TakesItem, takes_item, answers_newest, data_guarded, NoneOther, none_other}
 
@@ -52,32 +52,15 @@ session-placed ms ss w bytes load c f given g u =
     (λ n e. let k : IsNewest n bytes (items_of end_name.Slave (items w)) = newest-answered w bytes n _ (answers_newest w x bytes c load (record { what_is = refl; did_is = refl }) u) e in let q : n ≡ length (items_of end_name.Slave (items w)) = k.number_is in omega arith)
     (ap is_guarded_in (phase_framed _ command.Session _ f g))
 
--- the lengths of both ends are equal
-pub record Lengths (ms : MasterSettings) (ss : SlaveSettings) : Type 0 where
-  pub sent_is : sends (OfMaster ms) ≡ receives (OfSlave ss)
-  pub back_is : sends (OfSlave ss) ≡ receives (OfMaster ms)
-  pub piece_is : piece_len (OfMaster ms) ≡ piece_len (OfSlave ss)
-
-pub lengths : (ms : MasterSettings) (ss : SlaveSettings) → SameLengths ms ss → Lengths ms ss
-lengths ms ss h = let a = h.master in let b = h.slave in record { sent_is = a; back_is = sym b; piece_is = simp (a, b) }
-
 -- what a master's items carried, in either end's lengths
 pub carried_is : (ms : MasterSettings) (ss : SlaveSettings) (phase : State) (found : List Item) → SameLengths ms ss
     → carried phase (receives (OfSlave ss)) (piece_len (OfSlave ss)) found ≡ carried phase (sends (OfMaster ms)) (piece_len (OfMaster ms)) found
-carried_is ms ss phase found h =
-    let k : Lengths ms ss = lengths ms ss h in
-    ap (λ (l : ℕ). carried phase l (piece_len (OfSlave ss)) found) (sym k.sent_is) ∙ ap (λ (c : ℕ). carried phase (sends (OfMaster ms)) c found) (sym k.piece_is)
+carried_is ms ss phase found h = grind arith
 
 -- a master in state Session has sent nothing of a connection or of parameters
 none-sent : (ms : MasterSettings) (ss : SlaveSettings) (m : List Item) (phase : State) → SameLengths ms ss → is_loading phase ≡ true → Sent ms (session (bytes_in m)) → phase_sent (session (bytes_in m)) ≡ state.Session
     → carried phase (receives (OfSlave ss)) (piece_len (OfSlave ss)) m ≡ []
-none-sent ms ss m state.Connection same k h now =
-    let z = order_at _ state.Session _ _ _ _ now h.order in
-    carried_is ms ss state.Connection m same ∙ (h.connection ∙ ap (front (connection_of ms) (piece_len (OfMaster ms))) z.0)
-none-sent ms ss m state.Parameter same k h now =
-    let z = order_at _ state.Session _ _ _ _ now h.order in
-    carried_is ms ss state.Parameter m same ∙ (h.parameters ∙ ap (front (parameters_of ms) (piece_len (OfMaster ms))) z.1)
-none-sent ms ss m _ same k h now = cc
+none-sent ms ss m phase h k l n = grind arith
 
 -- the frames of a master's session, by its items and by its deeds
 session-frames : (w : List Entry) → session (bytes_in (items_of end_name.Master (items w))) ≡ own (since (deeds end_name.Master w))
@@ -120,10 +103,7 @@ master-placed ms ss w bytes load c f same r o (MasterMoreData _ _ _ is now x) = 
 
 master-takes : (ms : MasterSettings) (ss : SlaveSettings) (w : List Entry) (bytes load : List ℕ) (c : Command) (f : List ℕ) → SameLengths ms ss → IsRun (OfMaster ms) (deeds end_name.Master w) → Related ms ss w
     → Taking (deeds end_name.Master w) bytes load (OfMaster ms) c f → is_other (items w) (of_master ms w (move.Deliver bytes) (takes_frame c load) f) ≡ false → Related ms ss (of_master ms w (move.Deliver bytes) (takes_frame c load) f ∷ w)
-master-takes ms ss w bytes load c f same r h taking o =
-    let e : List Deed = deeds end_name.Master w in
-    master-grows ms ss w (move.Deliver bytes) (takes_frame c load) f (answer_sent e bytes load (OfMaster ms) c f taking)
-    (master-placed ms ss w bytes load c f same r o taking) h
+master-takes ms ss w bytes load c f h k l m n = search (rules, master-grows, answer_sent, master-placed)
 
 -- each entry of a master keeps it
 master-keeps : (ms : MasterSettings) (ss : SlaveSettings) (w : List Entry) (m : Move) (d : Did) (f : List ℕ) → SameLengths ms ss → IsRun (OfMaster ms) (deeds end_name.Master w) → Related ms ss w
@@ -144,30 +124,21 @@ slave-grows : (ms : MasterSettings) (ss : SlaveSettings) (w : List Entry) (m : M
 slave-grows ms ss w m d f k h = simp k h
 
 slave-resets : (ms : MasterSettings) (ss : SlaveSettings) (w : List Entry) (m : Move) (d : Did) (n : ℕ) → Related ms ss w → Related ms ss (of_slave ss w m d (reset_frame n (sends (OfSlave ss))) ∷ w)
-slave-resets ms ss w m d n h =
-    slave-grows ms ss w m d (reset_frame n (sends (OfSlave ss))) refl
-    (slave_before _ _ _ state.Reset _ _ (items_of end_name.Slave (items w)) (items_of end_name.Master (items w)) (item_of (of_slave ss w m d (reset_frame n (sends (OfSlave ss)))) w (items w)) refl refl (λ phase k. refl) h)
+slave-resets ms ss w m d n h = search (rules, slave_before)
 
 session-allowed : (now : State) (done : Bool) → slave_allows now done command.Session ≡ true → is_guarded_in now ≡ false
-session-allowed state.Reset done h = refl
-session-allowed state.Session done h = refl
-session-allowed _ done h = cc
+session-allowed now done h = grind arith
 
 -- the phase of a slave's answer
 answer-phase : (ss : SlaveSettings) (e : List Deed) (c : Command) (f : List ℕ) → SlaveSends ss e c f → phase_of_frame f ≡ phase_of c
-answer-phase ss e c f (Echoes load d g) = phase_framed _ c load f g
-answer-phase ss e c f (Gives d g) = data_phase (OfSlave ss) e f g ∙ sym (phase_of_data c d)
+answer-phase ss e c f h = grind arith
 
 -- a frame of the session id brings nothing of a connection or of parameters
 unloaded : (phase : State) (l c : ℕ) (bytes before : List ℕ) → is_loading phase ≡ true → phase_of_frame bytes ≡ state.Session → before ≡ [] → with_part phase l c bytes before ≡ []
-unloaded state.Connection l c bytes before k h e = simp h e
-unloaded state.Parameter l c bytes before k h e = simp h e
-unloaded _ l c bytes before k h e = cc
+unloaded phase l c bytes before h k m = grind arith
 
 unguarded-is : (c : Command) → c ≢ command.Reset → is_guarded c ≡ false → c ≡ command.Session
-unguarded-is command.Reset n g = absurd (n refl)
-unguarded-is command.Session n g = refl
-unguarded-is _ n g = cc
+unguarded-is c h k = grind arith
 
 -- all that is known of a slave that takes a frame of a session and answers it
 record SlaveTakes (ms : MasterSettings) (ss : SlaveSettings) (w : List Entry) (bytes load : List ℕ) (c : Command) (f : List ℕ) : Type 0 where

@@ -1,12 +1,10 @@
 -- What a monitor with lists has after an entry is what the definitions say of the entries with it, by the newest of
 -- listed items.
-use Rattle.exchange_model.proofs.Common.{End, Entry, Item, ListView, ListsEntry, Sent, Side, answer_among, answer_in, delivered, first_of_both, first_other, is_answer_to, is_empty, is_other_to, item_of, item_taken, items, items_of, kept_of, last_answer, last_sent, later, list_after, list_of, listed, listed_next, listing, lists_after, looked_up, newest, newest_answer, next_sent, number_taken, peer, sent_of, side_in}
-use Rattle.std.proofs.Common.{◌≡◌, ℕ, suc, List, [], ◌∷◌, ◌++◌, length, Bool, true, false, Option, Some, None, if◌then◌else◌, refl, sym, ap, ap₂, ◌∙◌, ◌+◌, ◌<◌, take, get_or, arith, take_all}
+use Rattle.exchange_model.proofs.Common.{End, Entry, Item, ListView, ListsEntry, Sent, Side, answer_among, answer_in, common_steps, delivered, first_of_both, first_other, is_answer_to, is_empty, is_other_to, item_of, items, items_of, kept_of, last_answer, last_sent, later, list_after, list_of, listed, listed_next, listing, lists_after, looked_up, newest, newest_answer, next_sent, number_taken, peer, sent_of, take_more}
+use Rattle.std.proofs.Common.{◌≡◌, ℕ, suc, List, [], ◌∷◌, ◌++◌, length, Bool, Option, Some, if◌then◌else◌, refl, sym, ap, ap₂, ◌∙◌, ◌+◌, ◌<◌, take, get_or, arith, take_all, rules}
 use Rattle.fsoe_base.specs.declared.command.End.TheVariants as end_name
 use Rattle.exchange_model.specs.declared.list_monitor.Listed.{Listed}
 use Rattle.exchange_model.proofs.Worlds.Numbered.{numbered}
-use Rattle.exchange_model.proofs.Monitors.Noted.{newest_next, number_taken_is, other_is}
-use Rattle.std.proofs.lemmas.List.{take_more}
 
 -- one more item
 pub last_sent_more : (found : List Listed) (i : Listed) → last_sent (found ++ (i ∷ [])) ≡ Some i.sent
@@ -14,9 +12,7 @@ last_sent_more [] i = refl
 last_sent_more (j ∷ found) i = ap (λ o. later o j.sent) (last_sent_more found i)
 
 chosen-later : (b c : Bool) (o : Option Sent) (s t : Sent) → (if b then later (if c then Some s else o) t else (if c then Some s else o)) ≡ (if c then Some s else (if b then later o t else o))
-chosen-later true true o s t = refl
-chosen-later false true o s t = refl
-chosen-later _ _ o s t = refl
+chosen-later b c o s t = grind arith
 
 pub last_answer_more : (n : ℕ) (found : List Listed) (i : Listed) → last_answer n (found ++ (i ∷ [])) ≡ (if is_answer_to n i then Some i.sent else last_answer n found)
 last_answer_more n [] i = refl
@@ -26,21 +22,17 @@ last_answer_more n (j ∷ found) i =
 -- the newest of the first items, by the last of them
 pub last_answer_at : (n k : ℕ) (found : List Listed) (i : Listed) (b : Bool) → k < length found → i ≡ get_or found k i → is_answer_to n i ≡ b
     → last_answer n (take (k + 1) found) ≡ (if b then Some i.sent else last_answer n (take k found))
-last_answer_at n k found i b h is e =
-    ap (last_answer n) (take_more found k i h ∙ ap (λ (j : Listed). take k found ++ (j ∷ [])) (sym is))
-    ∙ (last_answer_more n (take k found) i ∙ ap (λ (b : Bool). if b then Some i.sent else last_answer n (take k found)) e)
+last_answer_at n k found i b h l m = grind (arith, common_steps, last_answer_more)
 
 pub last_sent_at : (k : ℕ) (found : List Listed) (i : Listed) → k < length found → k + 1 ≡ length found → last_sent found ≡ Some (get_or found k i).sent
 last_sent_at k found i h n = ap last_sent (sym (take_all (k + 1) found (omega arith))) ∙ (ap last_sent (take_more found k i h) ∙ last_sent_more (take k found) (get_or found k i))
 
 -- the newest of an end's items
 last-is : (found : List Item) → last_sent (listed found) ≡ sent_of (newest found)
-last-is [] = refl
-last-is (i ∷ found) = last_sent_more (listed found) (listing i)
+last-is found = search (rules, last_sent_more)
 
 chosen-sent : (b : Bool) (i : Item) (o : Option Item) → (if b then Some (listing i).sent else sent_of o) ≡ sent_of (if b then Some i else o)
-chosen-sent true i o = refl
-chosen-sent false i o = refl
+chosen-sent b i o = grind arith
 
 -- the newest that answers
 answer-is : (n : ℕ) (found : List Item) → last_answer n (listed found) ≡ sent_of (newest_answer n found)
@@ -49,36 +41,23 @@ answer-is n (i ∷ found) =
     last_answer_more n (listed found) (listing i) ∙ (ap (λ o. if is_answer_to n (listing i) then Some (listing i).sent else o) (answer-is n found) ∙ chosen-sent (is_answer_to n (listing i)) i (newest_answer n found))
 
 answer-in : (found : List Item) (o : Option Item) → answer_in (listed found) (sent_of o) ≡ sent_of (answer_among found o)
-answer-in found None = refl
-answer-in found (Some mine) = answer-is mine.number found
-
-side-is : (mine theirs : List Item) → side_in (listed mine) (listed theirs) ≡ (let s : Side = record { newest = sent_of (newest mine); awaited = sent_of (answer_among theirs (newest mine)) } in s)
-side-is mine theirs =
-    ap₂ (λ (n a : Option Sent). let s : Side = record { newest = n; awaited = a } in s) (last-is mine) (ap (answer_in (listed theirs)) (last-is mine) ∙ answer-in theirs (newest mine))
+answer-in found o = search (rules, answer-is)
 
 -- the lists hold what a monitor keeps
 looked-up-is : (which : End) (w : List Entry) → looked_up which (list_of w) ≡ kept_of which (items w)
-looked-up-is end_name.Master w = side-is (items_of end_name.Master (items w)) (items_of end_name.Slave (items w))
-looked-up-is end_name.Slave w = side-is (items_of end_name.Slave (items w)) (items_of end_name.Master (items w))
+looked-up-is which w = search (rules, newest, last-is, listed, answer-in)
 
 listing-is : (which : End) (x : Entry) (w : List Entry) → x.end ≡ which
     → (let l : Listed = record { sent = next_sent (kept_of which (items w)).newest x.sent; answers = number_taken (kept_of which (items w)) (kept_of (peer which) (items w)) (delivered x.what) x.did.took } in l) ≡ listing (item_of x w (items w))
-listing-is which x w h =
-    ap₂ (λ (n : ℕ) (answers : Option ℕ). let l : Listed = record { sent = record { number = n; bytes = x.sent }; answers = answers } in l)
-    (newest_next (items_of which (items w)) (numbered which w) ∙ ap (λ (it : End). suc (length (items_of it (items w)))) (sym h))
-    (number_taken_is which (items w) (delivered x.what) x.did.took ∙ ap (λ (it : End). item_taken (items w) it (delivered x.what) x.did.took) (sym h))
+listing-is which x w h = search (rules, numbered)
 
 mine-by : (which : End) (x : Entry) (w : List Entry) (none : Bool) → x.end ≡ which
     → (if none then listed (items_of which (items w)) else listed (items_of which (items w)) ++ (record { sent = next_sent (kept_of which (items w)).newest x.sent; answers = number_taken (kept_of which (items w)) (kept_of (peer which) (items w)) (delivered x.what) x.did.took } ∷ []))
     ≡ listed (items_of which (if none then items w else item_of x w (items w) ∷ items w))
-mine-by which x w true h = refl
-mine-by end_name.Master x w false h = ap (λ (l : Listed). listed (items_of end_name.Master (items w)) ++ (l ∷ [])) (listing-is end_name.Master x w h) ∙ simp h refl
-mine-by end_name.Slave x w false h = ap (λ (l : Listed). listed (items_of end_name.Slave (items w)) ++ (l ∷ [])) (listing-is end_name.Slave x w h) ∙ simp h refl
+mine-by which x w none h = search (rules, listing-is)
 
 theirs-by : (which : End) (x : Entry) (w : List Entry) (none : Bool) → x.end ≡ which → listed (items_of (peer which) (items w)) ≡ listed (items_of (peer which) (if none then items w else item_of x w (items w) ∷ items w))
-theirs-by which x w true h = refl
-theirs-by end_name.Master x w false h = simp h
-theirs-by end_name.Slave x w false h = simp h
+theirs-by which x w none h = grind arith
 
 mine-is : (which : End) (x : Entry) (w : List Entry) → x.end ≡ which
     → list_after (looked_up which (list_of w)) (looked_up (peer which) (list_of w)) x (listed (items_of which (items w))) ≡ listed (items_of which (items (x ∷ w)))
@@ -86,8 +65,7 @@ mine-is which x w h =
     ap₂ (λ (own other_side : Side). list_after own other_side x (listed (items_of which (items w)))) (looked-up-is which w) (looked-up-is (peer which) w) ∙ mine-by which x w (is_empty x.sent) h
 
 other-in : (which : End) (x : Entry) (w : List Entry) → x.end ≡ which → first_of_both (first_other w) (is_other_to (looked_up which (list_of w)) x.did.passed (delivered x.what)) (suc (length w)) ≡ first_other (x ∷ w)
-other-in which x w h =
-    ap (λ (own : Side). first_of_both (first_other w) (is_other_to own x.did.passed (delivered x.what)) (suc (length w))) (looked-up-is which w) ∙ ap (λ (b : Bool). first_of_both (first_other w) b (suc (length w))) (other_is which x w h)
+other-in which x w h = search (rules, looked-up-is)
 
 same-lists : (n : ℕ) (other other' : Option ℕ) (a a' b b' : List Listed) → other ≡ other' → a ≡ a' → b ≡ b'
     → (let v : ListView = record { noted = n; other = other; master = a; slave = b } in v) ≡ record { noted = n; other = other'; master = a'; slave = b' }

@@ -1,9 +1,6 @@
 -- What a monitor keeps after an entry is what the definitions say of the entries with it.
-use Rattle.exchange_model.proofs.Common.{Did, End, Entry, HasParts, Item, MonitorView, NotesEntry, NotesParts, Sent, Side, Took, answer_among, answers_to, awaited, delivered, first_of_both, first_other, has, has_bytes, has_command, heard_next, is_answer, is_empty, is_guarded, is_guarded_frame, is_other, is_other_to, item_number, item_of, item_taken, items, items_of, kept_of, master_after, newest, newest_answer, next_number, noted_next, number_if, number_of, number_taken, own_after, peer, peer_after, same_end, sent_next, sent_number, sent_of, side_of, slave_after, view_of}
-use Rattle.std.proofs.Common.{◌≡◌, ℕ, suc, ◌≤◌, nat_eq, List, [], ◌∷◌, length, Bool, true, false, ◌&&◌, not, Option, Some, None, if◌then◌else◌, refl, sym, ap, ap₂, subst, ◌∙◌, arith}
-use Rattle.std.specs.Cmp.Lexicographic.{pointwise}
-use Rattle.std.specs.List.{AllByRecursion}
-use Rattle.std.proofs.lemmas.Bool.Decides.{nat_tests}
+use Rattle.exchange_model.proofs.Common.{AllByRecursion, Did, End, Entry, HasParts, Item, MonitorView, NotesEntry, NotesParts, Sent, Side, Took, answers_to, awaited, delivered, has_command, is_answer, is_empty, is_guarded, is_other, is_other_to, item_number, item_of, item_taken, items, items_of, kept_of, newest, newest_answer, next_number, noted_next, number_if, number_taken, own_after, peer, peer_after, same_end, sent_next, sent_number, sent_of, side_of, view_of}
+use Rattle.std.proofs.Common.{◌≡◌, ℕ, suc, ◌≤◌, List, [], ◌∷◌, length, Bool, true, false, ◌&&◌, not, Option, Some, None, if◌then◌else◌, refl, sym, ap, ap₂, subst, ◌∙◌, arith, rules}
 use Rattle.fsoe_base.specs.declared.command.End.TheVariants as end_name
 use Rattle.fsoe_base.specs.declared.command.Command.TheVariants as command
 use Rattle.exchange_model.proofs.Worlds.Projection.{same}
@@ -23,12 +20,7 @@ record HasNumber (k : ℕ) (o : Option Item) : Type 0 where
   pub number_is : item.number ≡ k
 
 number-found : (bytes : List ℕ) (o : Option Item) (k : ℕ) → number_if bytes o ≡ Some k → HasNumber k o
-number-found bytes None k h = cc
-number-found bytes (Some i) k h = by-bytes (pointwise nat_eq i.bytes bytes) h
-  where
-    by-bytes : (b : Bool) → (if b then Some i.number else None) ≡ Some k → HasNumber k (Some i)
-    by-bytes true h = record { item = i; is = refl; number_is = cc }
-    by-bytes false h = cc
+number-found bytes o k h = grind arith
 
 taken-within : (w : List Entry) (which : End) (bytes : List ℕ) (took : Option Took) (k : ℕ) → item_taken (items w) which bytes took ≡ Some k → k ≤ length (items_of (peer which) (items w))
 taken-within w which bytes None k h = cc
@@ -62,12 +54,10 @@ answers-within which (x ∷ w) =
     refl (all-within _ _ _ more (answers-within which w))
 
 no-answer : (n : ℕ) (o : Option ℕ) → ((k : ℕ) → o ≡ Some k → k ≤ n) → answers_to (suc n) o ≡ false
-no-answer n None h = refl
-no-answer n (Some k) h = let q : k ≤ n = h k refl in grind (arith, nat_tests)
+no-answer n o h = grind arith
 
 skipped : (b c : Bool) (i : Item) (o : Option Item) → c ≡ false → o ≡ None → (if b && c then Some i else o) ≡ None
-skipped true c i o h k = simp h k
-skipped false c i o h k = k
+skipped b c i o h k = grind arith
 
 -- no item answers the next one yet
 none-answers : (n : ℕ) (found : List Item) → AllByRecursion (Within n) found → newest_answer (suc n) found ≡ None
@@ -78,13 +68,11 @@ abbrev side : Option Sent → Option Sent → Side
 side n a = record { newest = n; awaited = a }
 
 pub newest_next : (found : List Item) → Numbered found → next_number (sent_of (newest found)) ≡ suc (length found)
-newest_next [] num = refl
-newest_next (i ∷ found) num = ap suc num.0
+newest_next found h = grind arith
 
 -- an end that sends an item
 own-items : (which : End) (i : Item) (found : List Item) → i.end ≡ which → kept_of which (i ∷ found) ≡ side (sent_of (Some i)) (sent_of (newest_answer i.number (items_of (peer which) found)))
-own-items end_name.Master i found h = simp h
-own-items end_name.Slave i found h = simp h
+own-items which i found h = grind arith
 
 own-kept-by : (which : End) (x : Entry) (w : List Entry) (none : Bool) → x.end ≡ which → is_empty x.sent ≡ none
     → (if none then kept_of which (items w) else sent_next (kept_of which (items w)) x.sent) ≡ kept_of which (if none then items w else item_of x w (items w) ∷ items w)
@@ -103,75 +91,26 @@ own-kept-by which x w false h k =
 own-kept : (which : End) (x : Entry) (w : List Entry) → x.end ≡ which → own_after (kept_of which (items w)) x.sent ≡ kept_of which (items (x ∷ w))
 own-kept which x w h = own-kept-by which x w (is_empty x.sent) h refl
 
--- its peer
-chosen : (b c : Bool) (i : Item) (o : Option Item) → sent_of (if b && c then Some i else o) ≡ (if b && c then sent_of (Some i) else sent_of o)
-chosen true true i o = refl
-chosen _ _ i o = refl
-
-unanswered : (b : Bool) (s o : Option Sent) → o ≡ (if b && false then s else o)
-unanswered true s o = refl
-unanswered false s o = refl
-
-peer-awaits : (i : Item) (found : List Item) (o : Option Item) → sent_of (answer_among (i ∷ found) o) ≡ (if not (has_command command.Reset i.bytes) && is_answer (sent_of o) i.answers then sent_of (Some i) else sent_of (answer_among found o))
-peer-awaits i found None = unanswered (not (has_command command.Reset i.bytes)) (sent_of (Some i)) None
-peer-awaits i found (Some mine) = chosen (not (has_command command.Reset i.bytes)) (answers_to mine.number i.answers) i (newest_answer mine.number found)
-
 peer-items : (which : End) (i : Item) (found : List Item) → i.end ≡ which
     → kept_of (peer which) (i ∷ found) ≡ side (kept_of (peer which) found).newest (if not (has_command command.Reset i.bytes) && is_answer (kept_of (peer which) found).newest i.answers then sent_of (Some i) else (kept_of (peer which) found).awaited)
-peer-items end_name.Master i found h = simp h (ap (side (kept_of end_name.Slave found).newest) (peer-awaits i (items_of end_name.Master found) (newest (items_of end_name.Slave found))))
-peer-items end_name.Slave i found h = simp h (ap (side (kept_of end_name.Master found).newest) (peer-awaits i (items_of end_name.Slave found) (newest (items_of end_name.Master found))))
-
-number-is : (bytes : List ℕ) (o : Option Item) → number_of bytes (sent_of o) ≡ number_if bytes o
-number-is bytes None = refl
-number-is bytes (Some i) = refl
-
-if-sent : (b : Bool) (o p : Option Item) → (if b then sent_of o else sent_of p) ≡ sent_of (if b then o else p)
-if-sent true o p = refl
-if-sent false o p = refl
+peer-items which i found h = grind arith
 
 pub number_taken_is : (which : End) (found : List Item) (bytes : List ℕ) (took : Option Took) → number_taken (kept_of which found) (kept_of (peer which) found) bytes took ≡ item_taken found which bytes took
-number_taken_is which found bytes None = refl
-number_taken_is which found bytes (Some t) =
-    ap (number_of bytes) (if-sent (is_guarded t.command) (awaited found which) (newest (items_of (peer which) found)))
-    ∙ number-is bytes (if is_guarded t.command then awaited found which else newest (items_of (peer which) found))
-
-peer-kept-by : (which : End) (x : Entry) (w : List Entry) (none : Bool) → x.end ≡ which → is_empty x.sent ≡ none
-    → (if none then kept_of (peer which) (items w) else heard_next (kept_of which (items w)) (kept_of (peer which) (items w)) x.sent (number_taken (kept_of which (items w)) (kept_of (peer which) (items w)) (delivered x.what) x.did.took))
-    ≡ kept_of (peer which) (if none then items w else item_of x w (items w) ∷ items w)
-peer-kept-by which x w true h k = refl
-peer-kept-by which x w false h k =
-    let i : Item = item_of x w (items w) in
-    let its : List Item = items w in
-    let n : next_number (kept_of which (items w)).newest ≡ suc (length (items_of x.end (items w))) = newest_next (items_of which (items w)) (numbered which w) ∙ ap (λ (it : End). suc (length (items_of it (items w)))) (sym h) in
-    let a : number_taken (kept_of which (items w)) (kept_of (peer which) (items w)) (delivered x.what) x.did.took ≡ item_taken (items w) x.end (delivered x.what) x.did.took = number_taken_is which (items w) (delivered x.what) x.did.took ∙ ap (λ (it : End). item_taken (items w) it (delivered x.what) x.did.took) (sym h) in
-    ap₂ (λ (n : ℕ) (answer : Option ℕ). side (kept_of (peer which) (items w)).newest (if not (has_command command.Reset x.sent) && is_answer (kept_of (peer which) (items w)).newest answer then Some (record { number = n; bytes = x.sent }) else (kept_of (peer which) (items w)).awaited)) n a
-    ∙ sym (peer-items which i (items w) h)
+number_taken_is which found bytes took = grind arith
 
 peer-kept : (which : End) (x : Entry) (w : List Entry) → x.end ≡ which → peer_after (kept_of which (items w)) (kept_of (peer which) (items w)) (delivered x.what) x.did.took x.sent ≡ kept_of (peer which) (items (x ∷ w))
-peer-kept which x w h = peer-kept-by which x w (is_empty x.sent) h refl
-
-has-is : (bytes : List ℕ) (o : Option Item) → has bytes (sent_of o) ≡ has_bytes bytes o
-has-is bytes None = refl
-has-is bytes (Some i) = refl
+peer-kept which x w h = search (rules, next_number, newest_next, numbered, number_taken, delivered, number_taken_is, peer-items)
 
 pub other_is : (which : End) (x : Entry) (w : List Entry) → x.end ≡ which → is_other_to (kept_of which (items w)) x.did.passed (delivered x.what) ≡ is_other (items w) x
-other_is which x w h =
-    ap (λ (b : Bool). x.did.passed && is_guarded_frame (delivered x.what) && not b) (has-is (delivered x.what) (awaited (items w) which) ∙ ap (λ (it : End). has_bytes (delivered x.what) (awaited (items w) it)) (sym h))
+other_is which x w h = grind arith
 
 same-view : (n : ℕ) (other other' : Option ℕ) (a a' b b' : Side) → other ≡ other' → a ≡ a' → b ≡ b'
     → (let v : MonitorView = record { noted = n; other = other; master = a; slave = b } in v) ≡ record { noted = n; other = other'; master = a'; slave = b' }
 same-view n other other' a a' b b' h i j = cc
 
-next-is : (which : End) (x : Entry) (w : List Entry) → x.end ≡ which
-    → (let v : MonitorView = record { noted = suc (length w); other = first_of_both (first_other w) (is_other_to (side_of which (view_of w)) x.did.passed (delivered x.what)) (suc (length w)); master = master_after which (view_of w) (delivered x.what) x.did.took x.sent; slave = slave_after which (view_of w) (delivered x.what) x.did.took x.sent } in v) ≡ view_of (x ∷ w)
-next-is end_name.Master x w h =
-    same-view (suc (length w)) _ _ _ _ _ _ (ap (λ (b : Bool). first_of_both (first_other w) b (suc (length w))) (other_is end_name.Master x w h)) (own-kept end_name.Master x w h) (peer-kept end_name.Master x w h)
-next-is end_name.Slave x w h =
-    same-view (suc (length w)) _ _ _ _ _ _ (ap (λ (b : Bool). first_of_both (first_other w) b (suc (length w))) (other_is end_name.Slave x w h)) (peer-kept end_name.Slave x w h) (own-kept end_name.Slave x w h)
-
 -- a monitor that steps so notes the entry
 notes-entry : (old new : MonitorView) (x : Entry) → new ≡ noted_next old x.end (delivered x.what) x.did x.sent → NotesEntry old x new
-notes-entry old new x h = record { notes = λ w is. h ∙ (ap (λ (v : MonitorView). noted_next v x.end (delivered x.what) x.did x.sent) is ∙ next-is x.end x w refl) }
+notes-entry old new x h = search (rules, noted_next, delivered, same-view, other_is, own-kept, peer-kept)
 
 -- and each entry with the parts by which it steps
 pub notes_by : {old new : MonitorView} {at : End} {came sent : List ℕ} {did : Did} → new ≡ noted_next old at came did sent → NotesParts old at came did sent new
@@ -182,23 +121,11 @@ notes_by {old} {new} {at} {came} {sent} {did} h = record {
 pub notes_whole : (old new : MonitorView) (x : Entry) → NotesParts old x.end (delivered x.what) x.did x.sent new → NotesEntry old x new
 notes_whole old new x noted = noted.notes x (record { end_is = refl; came_is = refl; did_is = refl; sent_is = refl })
 
-number-of-item : (o : Option Item) → sent_number (sent_of o) ≡ item_number o
-number-of-item None = refl
-number-of-item (Some i) = refl
-
 -- the number of the item that an end awaits
 pub awaited_number : (v : MonitorView) (by : End) (w : List Entry) → v ≡ view_of w → sent_number (side_of by v).awaited ≡ item_number (awaited (items w) by)
-awaited_number v end_name.Master w h = ap (λ (v : MonitorView). sent_number v.master.awaited) h ∙ number-of-item (awaited (items w) end_name.Master)
-awaited_number v end_name.Slave w h = ap (λ (v : MonitorView). sent_number v.slave.awaited) h ∙ number-of-item (awaited (items w) end_name.Slave)
+awaited_number v by w h = grind arith
 
 -- whether an entry with these parts is other
 pub tells_other : (v : MonitorView) (at : End) (came : List ℕ) (did : Did) (w : List Entry) (x : Entry) (sent : List ℕ) → v ≡ view_of w → HasParts x at came did sent
     → is_other_to (side_of at v) did.passed came ≡ is_other (items w) x
-tells_other v end_name.Master came did w x sent h parts =
-    ap (λ (v : MonitorView). is_other_to v.master did.passed came) h
-    ∙ ap₂ (λ (d : Did) (bytes : List ℕ). is_other_to (kept_of end_name.Master (items w)) d.passed bytes) (sym parts.did_is) (sym parts.came_is)
-    ∙ other_is end_name.Master x w parts.end_is
-tells_other v end_name.Slave came did w x sent h parts =
-    ap (λ (v : MonitorView). is_other_to v.slave did.passed came) h
-    ∙ ap₂ (λ (d : Did) (bytes : List ℕ). is_other_to (kept_of end_name.Slave (items w)) d.passed bytes) (sym parts.did_is) (sym parts.came_is)
-    ∙ other_is end_name.Slave x w parts.end_is
+tells_other v at came did w x sent h k = search (rules, other_is)

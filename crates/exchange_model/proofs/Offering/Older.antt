@@ -1,7 +1,6 @@
 -- What holds of a run holds of its older entries; and the ticks of an end since.
 use Rattle.exchange_model.proofs.Common.{End, Entry, IsWorld, MasterSettings, Move, NoOther, SlaveSettings, same_end, ticked, ticks_of}
-use Rattle.std.proofs.Common.{◌≡◌, ℕ, ◌+◌, ◌≤◌, List, [], ◌∷◌, ◌++◌, Bool, true, false, if◌then◌else◌, refl, ap, ◌∙◌, arith}
-use Rattle.param_load.specs.declared.entry.Move.TheVariants as move
+use Rattle.std.proofs.Common.{◌≡◌, ℕ, ◌+◌, List, [], ◌∷◌, ◌++◌, Bool, if◌then◌else◌, arith}
 use Rattle.exchange_model.proofs.Joint.Taking.{NoneOther, none_other}
 
 -- the older entries of a world are one
@@ -14,22 +13,8 @@ pub older_clean : (later w : List Entry) → NoOther (later ++ w) → NoOther w
 older_clean [] w n = n
 older_clean (x ∷ later) w n = let o : NoneOther x (later ++ w) = none_other x (later ++ w) n in older_clean later w o.before
 
--- a tick more is one more of the whole, and of either part
-pub ticked_left : (m : Move) (a b : ℕ) → ticked m (a + b) ≡ ticked m a + b
-ticked_left move.Tick a b = omega arith
-ticked_left _ a b = refl
-
-pub ticked_across : (m : Move) (a b : ℕ) → ticked m a + b ≡ a + ticked m b
-ticked_across move.Tick a b = omega arith
-ticked_across _ a b = refl
-
-pub ticked_most : (m : Move) (a b : ℕ) → a ≤ b → ticked m a ≤ ticked m b
-ticked_most move.Tick a b h = omega arith
-ticked_most _ a b h = h
-
 ticks-head : (m : Move) (mine : Bool) (both a b : ℕ) → both ≡ a + b → (if mine then ticked m both else both) ≡ (if mine then ticked m a else a) + b
-ticks-head m true both a b h = ap (ticked m) h ∙ ticked_left m a b
-ticks-head m false both a b h = h
+ticks-head m mine both a b h = grind arith
 
 -- the ticks among joined entries
 pub ticks_joined : (which : End) (later w : List Entry) → ticks_of which (later ++ w) ≡ ticks_of which later + ticks_of which w

@@ -1,13 +1,9 @@
 -- The entry that sent an awaited item: the end that awaits it sent nothing since.
-use Rattle.exchange_model.proofs.Common.{Deed, End, Entry, Item, Setup, Took, answer_among, answers_to, awaited, deed_in, deeds, delivered, has_command, is_empty, is_guarded, item_of, item_taken, items, items_of, newest, newest_answer, number_if, peer, same_end, ticked, ticks, ticks_of}
-use Rattle.std.proofs.Common.{◌≡◌, ℕ, suc, ◌≤◌, List, [], ◌∷◌, ◌++◌, length, nat_eq, Bool, true, false, not, ◌&&◌, Option, Some, None, if◌then◌else◌, refl, ap, sym, subst, ◌∙◌, arith}
-use Rattle.std.specs.Cmp.Lexicographic.{pointwise}
-use Rattle.fsoe_base.specs.declared.command.End.TheVariants as end_name
-use Rattle.fsoe_base.specs.declared.command.Command.TheVariants as command
+use Rattle.exchange_model.proofs.Common.{Deed, End, Entry, Item, Setup, Took, answer_among, awaited, deed_in, deeds, delivered, is_empty, item_of, item_taken, items, items_of, newest, newest_answer, number_if, peer, same_end, ticked, ticks, ticks_of}
+use Rattle.std.proofs.Common.{◌≡◌, ℕ, ◌≤◌, List, [], ◌∷◌, ◌++◌, length, Bool, true, false, Option, Some, if◌then◌else◌, refl, ap, sym, subst, ◌∙◌, arith, rules}
 use Rattle.exchange_model.proofs.Worlds.Projection.{same}
-use Rattle.exchange_model.proofs.Worlds.Numbered.{Numbered, Grown, Same, More, numbered, grown}
+use Rattle.exchange_model.proofs.Worlds.Numbered.{Numbered, Grown, numbered, grown}
 use Rattle.exchange_model.proofs.Joint.Awaited.{Found, awaited_found}
-use Rattle.exchange_model.proofs.Offering.Older.{ticked_most}
 
 -- the entry of an end that sent an item
 pub record SentItem (who : End) (j : Item) (w : List Entry) : Type 0 where
@@ -29,86 +25,48 @@ sent-now k who j x w true mine earlier h =
     record { later = []; sending = x; before = w; parts_are = refl; by_end = same who x.end mine; is_item = q }
 sent-now k who j x w false mine earlier h = one-later who j x w (earlier h)
 
-sent-own : (k : ℕ) (who : End) (j : Item) (x : Entry) (w : List Entry) (mine : Bool) → same_end who x.end ≡ mine → (newest_answer k (items_of who (items w)) ≡ Some j → SentItem who j w)
-    → newest_answer k (if mine then item_of x w (items w) ∷ items_of who (items w) else items_of who (items w)) ≡ Some j → SentItem who j (x ∷ w)
-sent-own k who j x w true mine earlier h =
-    sent-now k who j x w (not (has_command command.Reset x.sent) && answers_to k (item_of x w (items w)).answers) mine earlier h
-sent-own k who j x w false mine earlier h = one-later who j x w (earlier h)
-
 sent-head : (k : ℕ) (who : End) (j : Item) (x : Entry) (w : List Entry) (none : Bool) → (newest_answer k (items_of who (items w)) ≡ Some j → SentItem who j w)
     → newest_answer k (items_of who (if none then items w else item_of x w (items w) ∷ items w)) ≡ Some j → SentItem who j (x ∷ w)
-sent-head k who j x w true earlier h = one-later who j x w (earlier h)
-sent-head k who j x w false earlier h = sent-own k who j x w (same_end who x.end) refl earlier h
+sent-head k who j x w none h l = search (rules, one-later, sent-now)
 
 sent-item : (k : ℕ) (who : End) (j : Item) (w : List Entry) → newest_answer k (items_of who (items w)) ≡ Some j → SentItem who j w
 sent-item k who j [] h = cc
 sent-item k who j (x ∷ w) h = sent-head k who j x w (is_empty x.sent) (λ e. sent-item k who j w e) h
 
 sent-answer : (who : End) (j : Item) (w : List Entry) (mine : List Item) → answer_among (items_of who (items w)) (newest mine) ≡ Some j → SentItem who j w
-sent-answer who j w [] h = cc
-sent-answer who j w (i ∷ mine) h = sent-item i.number who j w h
-
--- an item among these has a number up to theirs
-number-of : (n k : ℕ) (b : Bool) → (if b then Some n else None) ≡ Some k → n ≡ k
-number-of n k true h = cc
-number-of n k false h = cc
+sent-answer who j w mine h = search (rules, sent-item)
 
 number-within : (bytes : List ℕ) (count k : ℕ) (o : Option Item) → ((i : Item) → o ≡ Some i → i.number ≤ count) → number_if bytes o ≡ Some k → k ≤ count
-number-within bytes count k None within h = cc
-number-within bytes count k (Some i) within h =
-    let n : i.number ≡ k = number-of i.number k (pointwise nat_eq i.bytes bytes) h in
-    let l : i.number ≤ count = within i refl in
-    omega arith
+number-within bytes count k o h l = grind arith
 
 pub newest-within : (theirs : List Item) (i : Item) → Numbered theirs → newest theirs ≡ Some i → i.number ≤ length theirs
-newest-within [] i num h = cc
-newest-within (j ∷ theirs) i num h =
-    let q : j ≡ i = cc in
-    let n : j.number ≡ suc (length theirs) = num.0 in
-    subst (λ (it : Item). it.number ≤ length (j ∷ theirs)) q (omega arith)
+newest-within theirs i h k = grind arith
 
 awaited-within : (who : End) (w : List Entry) (i : Item) → awaited (items w) who ≡ Some i → i.number ≤ length (items_of (peer who) (items w))
 awaited-within who w i h =
     let f : Found (length (items_of who (items w))) (items_of (peer who) (items w)) i = awaited_found (items_of who (items w)) (items_of (peer who) (items w)) i (numbered who w) (numbered (peer who) w) h in
     f.within
 
-taken-within : (who : End) (bytes : List ℕ) (w : List Entry) (k : ℕ) (guarded : Bool) → number_if bytes (if guarded then awaited (items w) who else newest (items_of (peer who) (items w))) ≡ Some k
-    → k ≤ length (items_of (peer who) (items w))
-taken-within who bytes w k true h = number-within bytes (length (items_of (peer who) (items w))) k (awaited (items w) who) (awaited-within who w) h
-taken-within who bytes w k false h =
-    number-within bytes (length (items_of (peer who) (items w))) k (newest (items_of (peer who) (items w))) (λ i e. newest-within (items_of (peer who) (items w)) i (numbered (peer who) w) e) h
-
 -- an item answers one that its peer had sent before
 answered-within : (who : End) (bytes : List ℕ) (took : Option Took) (w : List Entry) (k : ℕ) → item_taken (items w) who bytes took ≡ Some k → k ≤ length (items_of (peer who) (items w))
-answered-within who bytes None w k h = cc
-answered-within who bytes (Some t) w k h = taken-within who bytes w k (is_guarded t.command) h
+answered-within who bytes took w k h = search (rules, number-within, awaited-within, newest, newest-within, numbered)
 
 pub grown-length : (old more : List Item) → Grown old more → length old ≤ length more
-grown-length old more (Same e) = let k : length more ≡ length old = ap length e in omega arith
-grown-length old more (More i e n) = let k : length more ≡ suc (length old) = ap length e in omega arith
+grown-length old more h = grind arith
 
 -- the items of an end grow
 older-items : (which : End) (later w : List Entry) → length (items_of which (items w)) ≤ length (items_of which (items (later ++ w)))
 older-items which [] w = omega arith
-older-items which (x ∷ later) w =
-    let a : length (items_of which (items w)) ≤ length (items_of which (items (later ++ w))) = older-items which later w in
-    let b : length (items_of which (items (later ++ w))) ≤ length (items_of which (items (x ∷ (later ++ w)))) = grown-length _ _ (grown which x (later ++ w)) in
-    omega arith
+older-items which (x ∷ later) w = omega (arith, older-items which later w, grown-length _ _ (grown which x (later ++ w)))
 
 -- no item more, no frame sent
 sends-none : (which : End) (x : Entry) (later w : List Entry) (none : Bool) → same_end which x.end ≡ true → is_empty x.sent ≡ none
     → length (items_of which (items (x ∷ (later ++ w)))) ≤ length (items_of which (items w)) → none ≡ true
-sends-none which x later w true mine is h = refl
-sends-none which x later w false mine is h =
-    let e : items_of which (items (x ∷ (later ++ w))) ≡ item_of x (later ++ w) (items (later ++ w)) ∷ items_of which (items (later ++ w)) = simp (is, mine) in
-    let a : length (items_of which (items (x ∷ (later ++ w)))) ≡ suc (length (items_of which (items (later ++ w)))) = ap length e in
-    let b : length (items_of which (items w)) ≤ length (items_of which (items (later ++ w))) = older-items which later w in
-    absurd (omega arith)
+sends-none which x later w none h k l = search (rules, older-items)
 
 pub ticks-head : (s : Setup) (x : Entry) (e : List Deed) (a : ℕ) (mine : Bool) → (mine ≡ true → is_empty x.sent ≡ true) → a ≤ ticks s e
     → (if mine then ticked x.what a else a) ≤ ticks s (if mine then deed_in x ∷ e else e)
-ticks-head s x e a true quiet h = let none : is_empty x.sent ≡ true = quiet refl in simp none (ticked_most x.what a (ticks s e) h)
-ticks-head s x e a false quiet h = h
+ticks-head s x e a mine h k = grind arith
 
 -- an end that sent nothing since counted the ticks since
 ticks-since : (s : Setup) (which : End) (later w : List Entry) → length (items_of which (items (later ++ w))) ≤ length (items_of which (items w)) → ticks_of which later ≤ ticks s (deeds which (later ++ w))
@@ -119,8 +77,7 @@ ticks-since s which (x ∷ later) w h =
     (ticks-since s which later w (omega arith))
 
 peer-back : (which : End) → peer (peer which) ≡ which
-peer-back end_name.Master = refl
-peer-back end_name.Slave = refl
+peer-back which = grind arith
 
 -- the entry that sent an awaited item, and the ticks that its awaiter counted since
 pub record SentLately (s : Setup) (which : End) (j : Item) (w : List Entry) : Type 0 where

@@ -1,35 +1,14 @@
 -- An end takes data before its watchdog expires: the watchdog in the terms that it tells then.
-use Rattle.exchange_model.proofs.Common.{Answers, Command, Deed, Did, IsRun, Move, OfMaster, OfSlave, Reaction, Setup, SlaveFirstData, SlaveGoesOn, SlaveMoreData, SlaveNextPhase, SlaveSettings, State, Taking, Took, age, data_after, data_taken, handshake-data, is_data, limit, next-data, number_at, phase_of_data, slave_age, slave_limit, state_of, terms, ticked, ticks, upload_is_whole, uploaded, whole, with_answer}
+use Rattle.exchange_model.proofs.Common.{Answers, Command, Deed, Did, IsRun, Move, OfSlave, Reaction, Setup, SlaveFirstData, SlaveGoesOn, SlaveMoreData, SlaveNextPhase, SlaveSettings, State, Taking, Took, data_after, data_taken, handshake-data, is_data, next-data, phase_of_data, state_of, terms, ticked, ticks, upload_is_whole, whole, with_answer}
 use Rattle.end_model.specs.Reactions.{IsInSession}
-use Rattle.std.proofs.Common.{◌≡◌, ◌≢◌, ℕ, ◌<◌, List, ◌∷◌, Bool, true, false, Some, None, if◌then◌else◌, refl, sym, ap, ◌∙◌, arith}
+use Rattle.std.proofs.Common.{◌≡◌, ◌≢◌, ℕ, ◌<◌, List, ◌∷◌, Bool, true, Some, None, if◌then◌else◌, refl, sym, ◌∙◌, arith, rules}
 use Rattle.fsoe_base.specs.declared.command.State.TheVariants as state
-use Rattle.fsoe_base.specs.declared.command.Command.TheVariants as command
 use Rattle.end_model.proofs.AgeBelow.{age_below}
 use Rattle.exchange_model.proofs.Alone.Pieces.{deed}
 
--- data leave what a slave uploaded
-data-keeps : (ss : SlaveSettings) (e : List Deed) (bytes load f : List ℕ) (c : Command) → is_data c ≡ true → IsInSession f
-    → uploaded ss state.Parameter (with_answer bytes c load f e) ≡ uploaded ss state.Parameter e
-data-keeps ss e bytes load f command.FailSafeData d k = let a = k.in_session in simp a
-data-keeps ss e bytes load f command.ProcessData d k = let a = k.in_session in simp a
-data-keeps ss e bytes load f _ d k = absurd (cc d)
-
--- a slave outside state Reset counts its ticks
-counted : (now : State) (n : ℕ) → now ≢ state.Reset → slave_age now n ≡ n
-counted state.Reset n h = absurd (h refl)
-counted _ n h = refl
-
-whole-limit : (ss : SlaveSettings) (u : List ℕ) → whole ss.profile state.Parameter u ≡ true → slave_limit ss u ≡ number_at 2 u
-whole-limit ss u h = simp h
-
-below-watchdog : (old now most watchdog told : ℕ) → old < most → old ≡ now → most ≡ watchdog → told ≡ watchdog → now < told
-below-watchdog old now most watchdog told h i j k = omega arith
-
 slave-young : (ss : SlaveSettings) (e : List Deed) (bytes load f : List ℕ) (c : Command) → IsRun (OfSlave ss) e → is_data c ≡ true → state_of (OfSlave ss) e ≢ state.Reset → upload_is_whole ss state.Parameter e ≡ true → IsInSession f
     → ticks (OfSlave ss) e < (terms (OfSlave ss) (with_answer bytes c load f e)).watchdog
-slave-young ss e bytes load f c r d now all k =
-    below-watchdog (age (OfSlave ss) e) (ticks (OfSlave ss) e) (limit (OfSlave ss) e) (number_at 2 (uploaded ss state.Parameter e)) (number_at 2 (uploaded ss state.Parameter (with_answer bytes c load f e)))
-    (age_below (OfSlave ss) e r) (counted (state_of (OfSlave ss) e) (ticks (OfSlave ss) e) now) (whole-limit ss (uploaded ss state.Parameter e) all) (ap (number_at 2) (data-keeps ss e bytes load f c d k))
+slave-young ss e bytes load f c h k l m n = search (rules, age_below)
 
 in-state : (s : Setup) (e : List Deed) (p : State) → state_of s e ≡ p → p ≢ state.Reset → state_of s e ≢ state.Reset
 in-state s e p h n = λ k. n (sym h ∙ k)
@@ -43,8 +22,7 @@ slave-takes ss e bytes load f c r d (SlaveMoreData _ _ _ is now whole x) = slave
 slave-takes ss e bytes load f c r d _ = absurd (cc d)
 
 takes-young : (s : Setup) (e : List Deed) (bytes load f : List ℕ) (c : Command) → IsRun s e → is_data c ≡ true → Taking e bytes load s c f → ticks s e < (terms s (with_answer bytes c load f e)).watchdog
-takes-young (OfMaster ms) e bytes load f c r d taking = age_below (OfMaster ms) e r
-takes-young (OfSlave ss) e bytes load f c r d taking = slave-takes ss e bytes load f c r d taking
+takes-young s e bytes load f c h k l = search (rules, age_below, slave-takes)
 
 -- a deed that takes data: its end is in Data then, the watchdog had not expired before, and the deed is no tick
 pub record TakesYoung (s : Setup) (e : List Deed) (x : Deed) : Type 0 where
@@ -53,8 +31,7 @@ pub record TakesYoung (s : Setup) (e : List Deed) (x : Deed) : Type 0 where
   pub no_tick : (n : ℕ) → ticked x.what n ≡ n
 
 some-data : (b : Bool) (t u : Took) → (if b then Some t else None) ≡ Some u → b ≡ true
-some-data true t u h = refl
-some-data false t u h = cc
+some-data b t u h = grind arith
 
 pub takes_young : (s : Setup) (e : List Deed) (m : Move) (d : Did) (f : List ℕ) (t : Took) → IsRun s e → Reaction s e m d f → data_taken d.took ≡ Some t → TakesYoung s e (deed m d f)
 takes_young s e m d f t r (Answers bytes load c answer taking) h =

@@ -1,11 +1,6 @@
 -- A slave that uploaded what a master downloaded has the master's terms.
-use Rattle.exchange_model.proofs.Common.{MasterSettings, OfMaster, Profile, SlaveSettings, Terms, id_len, number_at, padded, parameter_payload, piece, pieces, terms, terms_in, word_is}
-use Rattle.std.proofs.Common.{◌≡◌, ℕ, suc, zero, ◌+◌, ◌-◌, ◌*◌, ◌/◌, ◌%◌, ◌<◌, ◌≤◌, List, [], ◌++◌, length, take, drop, replicate, true, refl, sym, ap, ap₂, subst, ◌∙◌, arith, inl, inr, append_assoc}
-use Rattle.std.proofs.lemmas.Bool.{eqb-true, cases_lt}
-use Rattle.std.proofs.lemmas.List.{append-nil, length-take, length-drop, take_all, drop_all, replicate-append-replicate}
-use Rattle.std.proofs.Math.Seq.{take-append_seam, take-add}
-use Rattle.std.proofs.Math.Nat.{mul-le-mul_left}
-use Rattle.param_load.specs.declared.profile.Profile.TheVariants as profile
+use Rattle.exchange_model.proofs.Common.{MasterSettings, OfMaster, Profile, SlaveSettings, Terms, append-nil, common_steps, id_len, length-drop, length-take, mul-le-mul_left, number_at, padded, parameter_payload, piece, pieces, replicate-append-replicate, take-add, take-append_seam, take_all, terms, terms_in, word_is}
+use Rattle.std.proofs.Common.{◌≡◌, ℕ, suc, zero, ◌+◌, ◌-◌, ◌*◌, ◌/◌, ◌%◌, ◌<◌, ◌≤◌, List, [], ◌++◌, length, take, drop, replicate, true, sym, ap, ap₂, ◌∙◌, arith, append_assoc, rules}
 use Rattle.exchange_model.proofs.Alone.Framed.{connection_of, parameters_of}
 use Rattle.exchange_model.proofs.Alone.Pieces.{front}
 use Rattle.exchange_model.proofs.Alone.Uploads.{Tested}
@@ -14,20 +9,12 @@ use Rattle.exchange_model.proofs.Alone.Uploads.{Tested}
 abbrev filled : ℕ → List ℕ → List ℕ
 filled m p = take m p ++ replicate (m - length p) 0
 
--- nothing is left of a payload that has ended: a piece of it is zeros
-no-piece : (p : List ℕ) (c m : ℕ) → length p ≤ m → padded (take c (drop m p)) c ≡ replicate c 0
-no-piece p c m h =
-    let none : take c (drop m p) ≡ [] = ap (take c) (drop_all m p h) ∙ take_all c [] (omega arith) in
-    ap (λ t. padded t c) none ∙ (let z : c - 0 ≡ c = omega arith in ap (λ k. replicate k 0) z)
-
 zeros-more : (j c k filler : ℕ) → j + c ≡ k → replicate j filler ++ replicate c filler ≡ replicate k filler
 zeros-more j c k filler h = replicate-append-replicate j c filler ∙ ap (λ k. replicate k filler) h
 
 -- one more piece of a payload that has ended
 past-its-end : (p : List ℕ) (c m n : ℕ) → length p ≤ m → length p ≤ n → (m - length p) + c ≡ n - length p → filled m p ++ padded (take c (drop m p)) c ≡ filled n p
-past-its-end p c m n h long e =
-    ap₂ (λ (t u : List ℕ). (t ++ replicate (m - length p) 0) ++ u) (take_all m p h) (no-piece p c m h)
-    ∙ (append_assoc p (replicate (m - length p) 0) (replicate c 0) ∙ ap₂ (λ (t u : List ℕ). t ++ u) (sym (take_all n p long)) (zeros-more (m - length p) c (n - length p) 0 e))
+past-its-end p c m n h k l = grind (arith, common_steps, zeros-more)
 
 -- one more piece of a payload that has more bytes
 before-its-end : (p : List ℕ) (c m n : ℕ) → m ≤ length p → n ≡ m + c → filled m p ++ padded (take c (drop m p)) c ≡ filled n p
@@ -41,11 +28,7 @@ before-its-end p c m n h e =
     joined ∙ (moved ∙ ap₂ (λ (t u : List ℕ). t ++ u) bytes zeros)
 
 next-piece : (p : List ℕ) (c m n : ℕ) → n ≡ m + c → filled m p ++ padded (take c (drop m p)) c ≡ filled n p
-next-piece p c m n e =
-    elim (cases_lt (length p) m) [
-      | inl h ↦ past-its-end p c m n (omega (arith, h)) (omega (arith, h, e)) (omega (arith, h, e))
-      | inr h ↦ before-its-end p c m n h e
-    ]
+next-piece p c m n h = search (rules, past-its-end, before-its-end)
 
 -- the first k pieces are the first bytes of the payload, then zeros
 front-take : (p : List ℕ) (c k : ℕ) → front p c k ≡ filled (k * c) p
@@ -82,28 +65,12 @@ terms_with ms p = record { conn = ms.conn; address = ms.address; watchdog = ms.w
 abbrev parameters_in : MasterSettings → Profile → List ℕ
 parameters_in ms p = parameter_payload ms.watchdog p ms.app
 
-same-terms : (conn address watchdog conn' address' watchdog' : ℕ) (app app' : List ℕ) (p p' : Profile) (s t : Terms) → s ≡ record { conn = conn; address = address; watchdog = watchdog; app = app; profile = p }
-    → t ≡ record { conn = conn'; address = address'; watchdog = watchdog'; app = app'; profile = p' } → conn ≡ conn' → address ≡ address' → watchdog ≡ watchdog' → app ≡ app' → p ≡ p' → s ≡ t
-same-terms conn address watchdog conn' address' watchdog' app app' p p' s t h k a b c d e = cc
-
 -- a slave's profile is the master's, by the length of the communication parameters and the word among them
 agree-in : (ms : MasterSettings) (q p : Profile) (zc zp : List ℕ) → number_at 0 (parameters_in ms p ++ zp) ≡ id_len q → word_is q (parameters_in ms p ++ zp) ≡ true
     → terms_in q (connection_of ms ++ zc) (parameters_in ms p ++ zp) ≡ terms_with ms p
-agree-in ms profile.One profile.One zc zp v w = same-terms _ _ _ _ _ _ _ _ _ _ _ _ refl refl (number-back ms.conn) (number-back ms.address) (number-back ms.watchdog) (app-back ms.app zp) refl
-agree-in ms (profile.Two word) (profile.Two word') zc zp v w =
-    let k : word' ≡ word = sym (number-back word') ∙ eqb-true _ word w in
-    same-terms _ _ _ _ _ _ _ _ _ _ _ _ refl refl (number-back ms.conn) (number-back ms.address) (number-back ms.watchdog) (app-back ms.app zp) (ap (λ w. profile.Two w) (sym k))
-agree-in ms _ _ zc zp v w = absurd (omega arith)
-
-six : (ms : MasterSettings) (p : Profile) (zp : List ℕ) → 6 ≤ length (parameters_in ms p ++ zp)
-six ms profile.One zp = omega arith
-six ms (profile.Two word) zp = omega arith
+agree-in ms q p zc zp h k = search (rules, app-back)
 
 -- a slave that uploaded both payloads whole has the master's terms
 pub agree : (ms : MasterSettings) (ss : SlaveSettings) (zc zp connection parameters : List ℕ) → connection ≡ connection_of ms ++ zc → parameters ≡ parameters_of ms ++ zp → Tested ss parameters
     → terms_in ss.profile connection parameters ≡ terms (OfMaster ms) []
-agree ms ss zc zp connection parameters a b t =
-    let n : 6 ≤ length parameters = subst (λ (u : List ℕ). 6 ≤ length u) (sym b) (six ms ms.profile zp) in
-    let v : number_at 0 (parameters_in ms ms.profile ++ zp) ≡ id_len ss.profile = ap (number_at 0) (sym b) ∙ t.version (omega arith) in
-    let w : word_is ss.profile (parameters_in ms ms.profile ++ zp) ≡ true = ap (word_is ss.profile) (sym b) ∙ t.word n in
-    ap (λ u. terms_in ss.profile u parameters) a ∙ (ap (λ u. terms_in ss.profile (connection_of ms ++ zc) u) b ∙ agree-in ms ss.profile ms.profile zc zp v w)
+agree ms ss zc zp connection parameters h k l = search (rules, agree-in)

@@ -1,13 +1,12 @@
 -- Both ends tell equal terms in state Data: those of the master's settings.
-use Rattle.exchange_model.proofs.Common.{Command, Deed, End, Entry, IsInSession, IsNextEntry, IsWorld, Item, MasterSettings, OfMaster, OfSlave, SameLengths, SlaveSettings, State, Terms, command_in, deed_in, deeds, is_data, is_length, items, items_of, phase_of_data, phase_sent, piece_len, receives, same_end, state_of, terms, terms_in, terms_of, told_in, uploaded}
-use Rattle.std.proofs.Common.{◌≡◌, ℕ, suc, ◌<◌, List, [], ◌∷◌, length, Bool, true, false, Some, IsTrue, ◌==◌, if◌then◌else◌, refl, sym, ap, subst, ◌∙◌, arith}
-use Rattle.std.proofs.lemmas.Bool.Decides.{nat_tests}
+use Rattle.exchange_model.proofs.Common.{Command, Deed, End, Entry, IsNextEntry, IsWorld, Item, MasterSettings, OfMaster, OfSlave, SameLengths, SlaveSettings, State, Terms, command_in, deed_in, deeds, is_data, items, items_of, phase_of_data, piece_len, receives, same_end, state_of, terms, terms_in, terms_of, told_in, uploaded}
+use Rattle.std.proofs.Common.{◌≡◌, ℕ, suc, ◌<◌, List, [], ◌∷◌, length, Bool, true, false, Some, ◌==◌, if◌then◌else◌, refl, sym, ap, subst, ◌∙◌, rules}
 use Rattle.fsoe_base.specs.declared.command.End.TheVariants as end_name
 use Rattle.fsoe_base.specs.declared.command.State.TheVariants as state
 use Rattle.exchange_model.proofs.Worlds.Projection.{next_told, deeds_are_run}
 use Rattle.exchange_model.proofs.Worlds.Frames.{bytes_in, frames}
 use Rattle.exchange_model.proofs.Joint.Awaited.{up_to}
-use Rattle.exchange_model.proofs.Joint.Joint.{is_guarded_in, session, Mirrors, Standing, Before, Past, no_reset}
+use Rattle.exchange_model.proofs.Joint.Joint.{is_guarded_in, session, Mirrors, Standing, Before, Past}
 use Rattle.exchange_model.proofs.Alone.Framed.{phase_by, connection_of, parameters_of}
 use Rattle.exchange_model.proofs.Alone.Pieces.{order_at, Sent, AllSent, all_sent, session_phase, sent_more}
 use Rattle.exchange_model.proofs.Alone.Uploads.{Tested, tested}
@@ -27,15 +26,8 @@ up-to-sent ms n (i ∷ m) h = up-to-head (n == suc (length m)) (up-to-sent ms n 
     up-to-head true k = h.0
     up-to-head false k = k
 
--- a piece has a byte at least
-some-length : (l : ℕ) → IsTrue (is_length l) → 0 < l
-some-length l h = grind (arith, nat_tests)
-
 some-piece : (ms : MasterSettings) → 0 < piece_len (OfMaster ms)
-some-piece ms =
-    let a : 0 < ms.lengths.master = some-length ms.lengths.master ms.lengths.valid_master in
-    let b : 0 < ms.lengths.slave = some-length ms.lengths.slave ms.lengths.valid_slave in
-    omega arith
+some-piece ms = search rules
 
 -- a slave that mirrors a master in Data has both payloads whole
 whole-terms : (ms : MasterSettings) (ss : SlaveSettings) (t : List Item) (uploads : State → List ℕ) → SameLengths ms ss → Sent ms (session (bytes_in t)) → Mirrors (receives (OfSlave ss)) (piece_len (OfSlave ss)) state.Data uploads t → Tested ss (uploads state.Parameter)
@@ -65,18 +57,9 @@ terms_agree ms ss w same so_far h now = by-standing h.standing
 told-data : (now : State) (t u : Terms) → now ≡ state.Data → t ≡ u → told_in now t ≡ Some u
 told-data now t u h k = ap (λ (now : State). told_in now t) h ∙ ap Some k
 
--- a data frame belongs to a session
-data-in-session : (f : List ℕ) (c : Command) → command_in f ≡ Some c → is_data c ≡ true → IsInSession f
-data-in-session [] c h d = cc
-data-in-session (b ∷ f) c h d = record { in_session = no_reset (b ∷ f) (ap is_guarded_in (phase_by (b ∷ f) c h ∙ phase_of_data c d)); sent = refl }
-
 -- a master that sent a data frame is in Data
 pub master_state : (ms : MasterSettings) (x : Deed) (e : List Deed) (c : Command) → command_in x.sent ≡ Some c → is_data c ≡ true → state_of (OfMaster ms) (x ∷ e) ≡ state.Data
-master_state ms x e c h d = ap phase_sent (sent_more x e (data-in-session x.sent c h d)) ∙ (phase_by x.sent c h ∙ phase_of_data c d)
-
--- an entry of a master in Data tells the terms of its settings
-pub master_told : (ms : MasterSettings) (x : Entry) (e : List Deed) → IsNextEntry (OfMaster ms) x e → state_of (OfMaster ms) (deed_in x ∷ e) ≡ state.Data → x.terms ≡ Some (terms_of ms)
-master_told ms x e next now = ap (λ (y : Entry). y.terms) (next_told (OfMaster ms) x e next) ∙ told-data (state_of (OfMaster ms) (deed_in x ∷ e)) (terms (OfMaster ms) (deed_in x ∷ e)) (terms_of ms) now refl
+master_state ms x e c h k = search (rules, sent_more, phase_by, phase_of_data)
 
 -- an entry of a slave in Data tells the same, where both ends' items are related after it
 pub slave_told : (ms : MasterSettings) (ss : SlaveSettings) (x : Entry) (w : List Entry) → SameLengths ms ss → IsWorld ms ss (x ∷ w) → Related ms ss (x ∷ w) → x.end ≡ end_name.Slave → IsNextEntry (OfSlave ss) x (deeds end_name.Slave w)

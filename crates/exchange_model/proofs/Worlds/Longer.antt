@@ -1,13 +1,12 @@
 -- The entries over a longer schedule: those over its first events come first.
 use Rattle.exchange_model.proofs.Common.{Entry, Event, MasterSettings, SlaveSettings, entry_at, going_on, world, world_after}
-use Rattle.std.proofs.Common.{◌≡◌, suc, ◌+◌, List, [], ◌∷◌, ◌++◌, length, Option, Some, None, refl, ap, ◌∙◌, arith}
+use Rattle.std.proofs.Common.{◌≡◌, suc, ◌+◌, List, [], ◌∷◌, ◌++◌, length, Option, Some, None, refl, arith, rules}
 
 whole_on : (ms : MasterSettings) (ss : SlaveSettings) (log more : List Event) (w : List Entry) (next : Option Entry)
     → ((x : Entry) → length (world_after ms ss log (x ∷ w)) ≡ length (x ∷ w) + length log → world_after ms ss (log ++ more) (x ∷ w) ≡ world_after ms ss more (world_after ms ss log (x ∷ w)))
     → length (going_on w next (world_after ms ss log)) ≡ length w + suc (length log)
     → going_on w next (world_after ms ss (log ++ more)) ≡ world_after ms ss more (going_on w next (world_after ms ss log))
-whole_on ms ss log more w None later whole = absurd (omega (arith, whole))
-whole_on ms ss log more w (Some x) later whole = later x (omega (arith, whole))
+whole_on ms ss log more w next h k = grind arith
 
 after_whole : (ms : MasterSettings) (ss : SlaveSettings) (log more : List Event) (w : List Entry) → length (world_after ms ss log w) ≡ length w + length log
     → world_after ms ss (log ++ more) w ≡ world_after ms ss more (world_after ms ss log w)
@@ -21,11 +20,9 @@ world_on ms ss log more whole = after_whole ms ss log more [] (omega (arith, who
 -- the next event has its entry, which is the next one
 pub world_next : (ms : MasterSettings) (ss : SlaveSettings) (log : List Event) (event : Event) (x : Entry) → length (world ms ss log) ≡ length log → entry_at ms ss (world ms ss log) event ≡ Some x
     → world ms ss (log ++ event ∷ []) ≡ x ∷ world ms ss log
-world_next ms ss log event x whole is =
-    world_on ms ss log (event ∷ []) whole ∙ ap (λ (next : Option Entry). going_on (world ms ss log) next (world_after ms ss [])) is
+world_next ms ss log event x h k = search (rules, world_on)
 
 -- or it has none, and the run ends there, whatever comes after
 pub world_missed : (ms : MasterSettings) (ss : SlaveSettings) (log more : List Event) (event : Event) → length (world ms ss log) ≡ length log → entry_at ms ss (world ms ss log) event ≡ None
     → world ms ss (log ++ event ∷ more) ≡ world ms ss log
-world_missed ms ss log more event whole is =
-    world_on ms ss log (event ∷ more) whole ∙ ap (λ (next : Option Entry). going_on (world ms ss log) next (world_after ms ss more)) is
+world_missed ms ss log more event h k = search (rules, world_on)

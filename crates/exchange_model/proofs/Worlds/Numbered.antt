@@ -1,6 +1,6 @@
 -- The items of an end are numbered from 1, in the order in which they were sent.
 use Rattle.exchange_model.proofs.Common.{End, Entry, Item, is_empty, item_of, items, items_of, same_end}
-use Rattle.std.proofs.Common.{◌≡◌, suc, List, [], ◌∷◌, length, Bool, true, false, if◌then◌else◌, refl, ap, subst, sym}
+use Rattle.std.proofs.Common.{◌≡◌, suc, List, [], ◌∷◌, length, Bool, true, false, if◌then◌else◌, refl, ap, arith}
 use Rattle.exchange_model.proofs.Worlds.Projection.{same}
 
 -- the number of an item is one more than the older ones of its end
@@ -26,8 +26,7 @@ pub grown : (which : End) (x : Entry) (w : List Entry) → Grown (items_of which
 grown which x w = grown-by which (item_of x w (items w)) (items w) (same_end which x.end) (is_empty x.sent) refl (next_number which x w)
 
 numbered-grown : (old new : List Item) → Grown old new → Numbered old → Numbered new
-numbered-grown old new (Same e) h = subst Numbered (sym e) h
-numbered-grown old new (More i e n) h = subst Numbered (sym e) (n, h)
+numbered-grown old new h k = grind arith
 
 -- the items of an end are numbered
 pub numbered : (which : End) (w : List Entry) → Numbered (items_of which (items w))

@@ -1,15 +1,10 @@
 -- The first other entry, and the entries before it.
 use Rattle.exchange_model.proofs.Common.{Entry, IsWorld, MasterSettings, NoOther, SlaveSettings, before_other, first_of_both, first_other, is_other, items}
-use Rattle.std.proofs.Common.{◌≡◌, ℕ, suc, List, [], ◌∷◌, length, Bool, true, false, Option, Some, None, is_some, refl, ap, ◌∙◌, if◌then◌else◌}
-
-none_of : (first : Option ℕ) → is_some first ≡ false → first ≡ None
-none_of None h = refl
-none_of (Some n) h = cc
+use Rattle.std.proofs.Common.{◌≡◌, ℕ, suc, List, [], ◌∷◌, length, Bool, Option, Some, is_some, refl, ap, if◌then◌else◌, arith, rules}
 
 before_head : (x : Entry) (w : List Entry) (found : Bool) → is_some (first_other (x ∷ w)) ≡ found → NoOther (before_other w)
     → NoOther (if found then before_other w else x ∷ w)
-before_head x w true h before = before
-before_head x w false h before = none_of (first_other (x ∷ w)) h
+before_head x w found h k = grind arith
 
 -- no entry before the first other one is other
 pub before_is_clean : (w : List Entry) → NoOther (before_other w)
@@ -25,9 +20,7 @@ number_head : (x : Entry) (w : List Entry) (n : ℕ) (first : Option ℕ) (other
     → ((m : ℕ) → first_other w ≡ Some m → m ≡ suc (length (before_other w)))
     → first_of_both first other (suc (length w)) ≡ Some n
     → n ≡ suc (length (if is_some (first_of_both first other (suc (length w))) then before_other w else x ∷ w))
-number_head x w n (Some m) other h before is = before n (h ∙ is)
-number_head x w n None true h before is = let whole : suc (length (before_other w)) ≡ suc (length w) = ap (λ (v : List Entry). suc (length v)) (clean_is_before w h) in cc
-number_head x w n None false h before is = cc
+number_head x w n first other h k l = search (rules, clean_is_before)
 
 -- the number of the first other entry is one more than the entries before it
 pub number_of_first : (w : List Entry) (n : ℕ) → first_other w ≡ Some n → n ≡ suc (length (before_other w))
@@ -36,8 +29,7 @@ number_of_first (x ∷ w) n h = number_head x w n (first_other w) (is_other (ite
 
 before_world_head : (ms : MasterSettings) (ss : SlaveSettings) (x : Entry) (w : List Entry) (found : Bool) → IsWorld ms ss (x ∷ w) → IsWorld ms ss (before_other w)
     → IsWorld ms ss (if found then before_other w else x ∷ w)
-before_world_head ms ss x w true here before = before
-before_world_head ms ss x w false here before = here
+before_world_head ms ss x w found h k = grind arith
 
 -- the entries before the first other one are a world
 pub before_is_world : (ms : MasterSettings) (ss : SlaveSettings) (w : List Entry) → IsWorld ms ss w → IsWorld ms ss (before_other w)

@@ -1,15 +1,10 @@
 -- Each end of a world runs as it runs alone.
-use Rattle.exchange_model.proofs.Common.{Deed, End, Entry, Event, IsNext, IsNextEntry, IsProper, IsProperEvent, IsReaction, IsRun, IsWorld, MasterSettings, Move, Setup, SlaveSettings, altered_delivery, back_th, deed_in, deeds, delivery, end_of_event, entries, entry_at, entry_of, entry_on, frames_of, going_on, move_from, moves, of_end, peer, reacted, run, same_end, setup_of, step, world, world_after}
-use Rattle.std.proofs.Common.{◌≡◌, ℕ, List, [], ◌∷◌, ◌++◌, Bool, true, false, if◌then◌else◌, refl, ap, subst, sym, ◌∙◌, All, Option, Some, None}
-use Rattle.std.proofs.lemmas.List.Elements.{All-head, All-tail}
-use Rattle.fsoe_base.specs.declared.command.End.TheVariants as end_name
-use Rattle.schedule_file.specs.declared.event.Event.TheVariants as event
+use Rattle.exchange_model.proofs.Common.{All-head, All-tail, Deed, End, Entry, Event, IsNextEntry, IsProper, IsProperEvent, IsReaction, IsRun, IsWorld, MasterSettings, Move, Setup, SlaveSettings, deed_in, deeds, end_of_event, entries, entry_at, entry_of, entry_on, frames_of, going_on, move_from, moves, of_end, peer, reacted, run, same_end, setup_of, step, world, world_after}
+use Rattle.std.proofs.Common.{◌≡◌, ℕ, List, [], ◌∷◌, ◌++◌, Bool, true, if◌then◌else◌, refl, ap, sym, ◌∙◌, All, Option, Some, None, arith, rules}
 use Rattle.end_model.proofs.Runs.{run_append}
 
 pub same : (a b : End) → same_end a b ≡ true → b ≡ a
-same end_name.Master end_name.Slave h = cc
-same end_name.Slave end_name.Master h = cc
-same _ _ h = refl
+same a b h = grind arith
 
 -- the deed of the next entry is the next step
 pub next_deed : (s : Setup) (x : Entry) (e : List Deed) → IsNextEntry s x e → deed_in x ≡ step s e x.what
@@ -22,13 +17,7 @@ next_told s x e next = next.stepped ∙ sym (ap (entry_of s e) (next_deed s x e 
 own_head : (ms : MasterSettings) (ss : SlaveSettings) (which : End) (x : Entry) (w : List Entry) (mine : Bool)
     → IsNextEntry (setup_of ms ss x.end) x (deeds x.end w) → deeds which w ≡ run (setup_of ms ss which) (moves which w) → same_end which x.end ≡ mine
     → (if mine then deed_in x ∷ deeds which w else deeds which w) ≡ run (setup_of ms ss which) (if mine then moves which w ++ (x.what ∷ []) else moves which w)
-own_head ms ss which x w false next before other = before
-own_head ms ss which x w true next before mine =
-    let s : Setup = setup_of ms ss which in
-    let mine_too : deed_in x ≡ step s (deeds which w) x.what =
-    subst (λ (it : End). deed_in x ≡ step (setup_of ms ss it) (deeds it w) x.what) (same which x.end mine) (next_deed (setup_of ms ss x.end) x (deeds x.end w) next) in
-    ap (λ (d : Deed). d ∷ deeds which w) mine_too
-    ∙ (ap (λ (e : List Deed). step s e x.what ∷ e) before ∙ sym (run_append s (moves which w) (x.what ∷ [])))
+own_head ms ss which x w mine h k l = search (rules, run_append)
 
 -- the deeds of an end are the run of its own events
 pub own_run : (ms : MasterSettings) (ss : SlaveSettings) (which : End) (w : List Entry) → IsWorld ms ss w
@@ -39,12 +28,7 @@ own_run ms ss which (x ∷ w) so_far = own_head ms ss which x w (same_end which 
 told_head : (ms : MasterSettings) (ss : SlaveSettings) (which : End) (x : Entry) (w : List Entry) (mine : Bool)
     → IsNextEntry (setup_of ms ss x.end) x (deeds x.end w) → of_end which w ≡ entries (setup_of ms ss which) (deeds which w) → same_end which x.end ≡ mine
     → (if mine then x ∷ of_end which w else of_end which w) ≡ entries (setup_of ms ss which) (if mine then deed_in x ∷ deeds which w else deeds which w)
-told_head ms ss which x w false next before other = before
-told_head ms ss which x w true next before mine =
-    let s : Setup = setup_of ms ss which in
-    let head : x ≡ entry_of s (deeds which w) (deed_in x) =
-    subst (λ (it : End). x ≡ entry_of (setup_of ms ss it) (deeds it w) (deed_in x)) (same which x.end mine) (next_told (setup_of ms ss x.end) x (deeds x.end w) next) in
-    ap (λ (first : Entry). first ∷ of_end which w) head ∙ ap (λ (rest : List Entry). entry_of s (deeds which w) (deed_in x) ∷ rest) before
+told_head ms ss which x w mine h k l = grind arith
 
 -- the entries of an end tell its deeds
 pub told : (ms : MasterSettings) (ss : SlaveSettings) (which : End) (w : List Entry) → IsWorld ms ss w
@@ -60,9 +44,7 @@ projection ms ss which w so_far = told ms ss which w so_far ∙ ap (entries (set
 deeds_head : (ms : MasterSettings) (ss : SlaveSettings) (which : End) (x : Entry) (w : List Entry) (mine : Bool)
     → IsNextEntry (setup_of ms ss x.end) x (deeds x.end w) → IsRun (setup_of ms ss which) (deeds which w) → same_end which x.end ≡ mine
     → IsRun (setup_of ms ss which) (if mine then deed_in x ∷ deeds which w else deeds which w)
-deeds_head ms ss which x w false next before h = before
-deeds_head ms ss which x w true next before h =
-    (subst (λ (it : End). IsNext (setup_of ms ss it) (deed_in x) (deeds it w)) (same which x.end h) (record { proper = next.proper; stepped = next_deed (setup_of ms ss x.end) x (deeds x.end w) next }), before)
+deeds_head ms ss which x w mine h k l = grind arith
 
 -- the deeds of an end in a world are a run
 pub deeds_are_run : (ms : MasterSettings) (ss : SlaveSettings) (which : End) (w : List Entry) → IsWorld ms ss w → IsRun (setup_of ms ss which) (deeds which w)
@@ -86,32 +68,17 @@ abbrev IsProperIfAny : Setup → Option Move → Type 0
 IsProperIfAny s None = Unit {0}
 IsProperIfAny s (Some what) = IsProper s what
 
-delivery_proper : (s : Setup) (frame : Option (List ℕ)) → IsProperIfAny s (delivery frame)
-delivery_proper s None = tt
-delivery_proper s (Some frame) = tt
-
-altered_proper : (s : Setup) (pos mask : ℕ) (frame : Option (List ℕ)) → IsProperIfAny s (altered_delivery pos mask frame)
-altered_proper s pos mask None = tt
-altered_proper s pos mask (Some frame) = tt
-
 move_proper : (ms : MasterSettings) (ss : SlaveSettings) (frames : List (List ℕ)) (event : Event) → IsProperEvent ms ss event
     → IsProperIfAny (setup_of ms ss (end_of_event event)) (move_from frames event)
-move_proper ms ss frames (event.Deliver to back) proper = delivery_proper (setup_of ms ss to) (back_th back frames)
-move_proper ms ss frames (event.Altered to back pos mask) proper = altered_proper (setup_of ms ss to) pos mask (back_th back frames)
-move_proper ms ss frames (event.Put at load) proper = proper
-move_proper ms ss frames (event.Nonce at id) proper = proper
-move_proper ms ss frames _ proper = tt
+move_proper ms ss frames event h = grind arith
 
 entry_is_next : (ms : MasterSettings) (ss : SlaveSettings) (at : End) (w : List Entry) (what : Option Move) → IsProperIfAny (setup_of ms ss at) what
     → IsNextIfAny ms ss w (entry_on (setup_of ms ss at) (deeds at w) what)
-entry_is_next ms ss at w None proper = tt
-entry_is_next ms ss end_name.Master w (Some what) proper = record { proper = proper; stepped = refl }
-entry_is_next ms ss end_name.Slave w (Some what) proper = record { proper = proper; stepped = refl }
+entry_is_next ms ss at w what h = grind arith
 
 after_entry : (ms : MasterSettings) (ss : SlaveSettings) (events : List Event) (w : List Entry) (next : Option Entry) → IsNextIfAny ms ss w next → IsWorld ms ss w
     → ((x : Entry) → IsWorld ms ss (x ∷ w) → IsWorld ms ss (world_after ms ss events (x ∷ w))) → IsWorld ms ss (going_on w next (world_after ms ss events))
-after_entry ms ss events w None is_next so_far rest = so_far
-after_entry ms ss events w (Some x) is_next so_far rest = rest x (is_next, so_far)
+after_entry ms ss events w next h k l = grind arith
 
 after_is_world : (ms : MasterSettings) (ss : SlaveSettings) (events : List Event) (w : List Entry) → All (IsProperEvent ms ss) events → IsWorld ms ss w
     → IsWorld ms ss (world_after ms ss events w)

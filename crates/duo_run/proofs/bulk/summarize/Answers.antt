@@ -1,6 +1,4 @@
-use Rattle.duo_run.proofs.Common.{entries_of, made_master, made_slave}
-use Rattle.std.proofs.Common.{arith}
-use Rattle.duo_run.proofs.Numbers.Summarizing.{none_done, next_fits, has_room, all_done, never_misses, never_err, goes_on}
+use Rattle.duo_run.proofs.Numbers.Summarizing.{never_misses, never_err, goes_on}
 use Rattle.duo_run.proofs.bulk.summarize.Goals as goal
 
 pub unwrap-requires : goal.unwrap-requires

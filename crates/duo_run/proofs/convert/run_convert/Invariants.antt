@@ -1,6 +1,5 @@
-use Rattle.duo_run.proofs.Common.{left_to_take}
+use Rattle.duo_run.proofs.Common.{left_to_take, prepend_known}
 use Rattle.std.proofs.Common.{◌≡◌}
-use Rattle.std.specs.Io.KnownBytes.{prepend_known}
 use Rattle.duo_run.proofs.Conversion.Converting.{Converting}
 use Rattle.duo_run.proofs.convert.run_convert.Given as goal
 

@@ -1,5 +1,4 @@
-use Rattle.std.proofs.Common.{◌-◌, refl, sym, ◌∙◌, arith}
-use Rattle.std.proofs.lemmas.List.{length-set}
+use Rattle.std.proofs.Common.{◌-◌, arith, rules}
 use Rattle.duo_run.proofs.Pairs.Fit.{duo_there, one_fits}
 use Rattle.duo_run.proofs.Pairs.Stepping.{few_entries, noted_each, one_counted, one_goes, one_unsent}
 use Rattle.duo_run.proofs.pairs_event.step_pair.Goals as goal
@@ -37,18 +36,14 @@ overflow_add-entries c =
     omega (arith, m)
 
 pub note_others-requires : goal.note_others-requires
-note_others-requires c =
-    let k = c.requires in
-    noted_each _ _ _ k.heading k.log k.text k.stands ∙ sym (length-set c.args.duos.now (c.from-at.result - 1) c.tell.new.duo)
+note_others-requires c = search (rules, noted_each)
 
 pub returns-in-Ok-clause-takes_event : goal.returns-in-Ok-clause-takes_event
 returns-in-Ok-clause-takes_event c =
     let k = c.requires in
     let f = one_fits _ _ _ k.heading k.log k.text c.args.pair c.args.event.now k.stands k.said in
     let at = duo_there c.args.duos.now c.args.pair (c.from-at.result - 1) c.index-duos-at.result f.first f.last (omega (arith, c.from-at.ensures)) in
-    record {
-      takes = λ h log text n stood. one_goes c.args.duos.now _ c.args.others.now _ _ _ c.args.number c.args.pair _ c.args.event.now _ c.tell.new.duo c.tell.new.line h log text at.0 at.1 c.in-Ok.ensures.tells refl c.note_others.ensures refl n stood;
-    }
+    search (rules, one_goes)
 
 pub returns-in-Err-NoSuchFrame-clause-stopped : goal.returns-in-Err-NoSuchFrame-clause-stopped
 returns-in-Err-NoSuchFrame-clause-stopped c = λ h log text stood.

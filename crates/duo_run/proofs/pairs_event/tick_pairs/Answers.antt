@@ -1,4 +1,4 @@
-use Rattle.std.proofs.Common.{◌+◌, ◌*◌, ℕ, length, ap, ◌∙◌, arith}
+use Rattle.std.proofs.Common.{◌+◌, ◌*◌, ℕ, length, ap, ◌∙◌, arith, rules}
 use Rattle.duo_run.proofs.Pairs.Stepping.{can_step, can_step_on, few_duos, few_entries, noted_each, tick_goes}
 use Rattle.duo_run.proofs.pairs_event.tick_pairs.Goals as goal
 
@@ -8,9 +8,7 @@ tick_all-requires-clause-stand c =
     can_step c.args.duos.now _ _ k.heading k.log k.text c.args.number k.stands k.number_is k.few
 
 pub tick_all-requires-clause-few : goal.tick_all-requires-clause-few
-tick_all-requires-clause-few c =
-    let k = c.requires.come in
-    few_duos c.args.duos.now _ _ k.heading k.log k.text k.stands
+tick_all-requires-clause-few c = search (rules, few_duos)
 
 pub tick_all-requires-clause-room : goal.tick_all-requires-clause-room
 tick_all-requires-clause-room c =
@@ -20,15 +18,10 @@ tick_all-requires-clause-room c =
     omega (arith, few, none)
 
 pub tick_all-requires-2-clause-stand : goal.tick_all-requires-2-clause-stand
-tick_all-requires-2-clause-stand c =
-    let k = c.requires.come in
-    can_step_on c.args.duos.now c.tick_all.new.duos _ _ k.heading k.log k.text _ _ c.args.number k.stands k.number_is k.few c.tick_all.ensures.ticks
+tick_all-requires-2-clause-stand c = search (rules, can_step_on)
 
 pub tick_all-requires-2-clause-few : goal.tick_all-requires-2-clause-few
-tick_all-requires-2-clause-few c =
-    let k = c.requires.come in
-    let few = few_duos c.args.duos.now _ _ k.heading k.log k.text k.stands in
-    omega (arith, few, c.tick_all.auto.duos)
+tick_all-requires-2-clause-few c = search (rules, few_duos)
 
 pub tick_all-requires-2-clause-room : goal.tick_all-requires-2-clause-room
 tick_all-requires-2-clause-room c =
@@ -45,10 +38,7 @@ overflow_add-entries c =
     omega (arith, few, m, c.tick_all.auto.duos, c.tick_all-2.auto.duos)
 
 pub note_others-requires : goal.note_others-requires
-note_others-requires c =
-    let k = c.requires.come in
-    let each = noted_each c.args.duos.now _ _ k.heading k.log k.text k.stands in
-    omega (arith, each, c.tick_all.auto.duos, c.tick_all-2.auto.duos)
+note_others-requires c = search (rules, noted_each)
 
 pub returns : goal.returns
 returns c = record {

@@ -1,9 +1,5 @@
-use Rattle.duo_run.proofs.Common.{WaitingText, closing_line}
-use Rattle.std.proofs.Common.{◌≡◌, ◌+◌, ◌++◌, ℕ, List, length, slice_index_or, refl, sym, ap, ◌∙◌, arith}
-use Rattle.std.specs.Prelude.{None}
-use Rattle.std.specs.declared.option.Option.{Option}
-use Rattle.std.proofs.lemmas.List.{length-append}
-use Rattle.std.proofs.lemmas.Option.{slice_get-get_or}
+use Rattle.duo_run.proofs.Common.{None, Option, WaitingText, closing_line, length-append, slice_get-get_or}
+use Rattle.std.proofs.Common.{◌≡◌, ◌+◌, ◌++◌, ℕ, List, length, slice_index_or, sym, ap, ◌∙◌, arith, rules}
 use Rattle.duo_run.proofs.Pairs.Closing.{closing_more}
 use Rattle.duo_run.proofs.pairs_run.push_closing.Goals as goal
 
@@ -11,8 +7,7 @@ pub loop-i-preserved : goal.loop-i-preserved
 loop-i-preserved c =
     let i : ℕ = c.loop-i.i in
     let other : Option ℕ = slice_index_or c.args.others.now i None in
-    let line : c.bytes.result.now ≡ closing_line (i + 1) other =
-    rw (c.bytes.ensures.value, c.push_other.ensures.text, c.push-in-loop-i.ensures, c.push_decimal.ensures.text, c.push.ensures, c.clear.ensures) refl in
+    let line : c.bytes.result.now ≡ closing_line (i + 1) other = search rules in
     let longer : c.push-in-loop-i-2.new.self.text ≡ c.loop-i.waiting.text ++ c.bytes.result.now = ap (λ (w : WaitingText). w.text) c.push-in-loop-i-2.ensures in
     record {
       lines = longer ∙ ap (λ (z : List ℕ). c.loop-i.waiting.text ++ z) line ∙ ap (λ (z : List ℕ). z ++ closing_line (i + 1) other) c.loop-i.invariant.lines

@@ -1,8 +1,7 @@
-use Rattle.duo_run.proofs.Common.{AreSetTo, IsMasterOf, IsSlaveOf, MasterSettings, SlaveSettings, pairs_of}
-use Rattle.std.proofs.Common.{◌≡◌, ◌<◌, ◌+◌, [], ◌∷◌, ◌++◌, length, take, sym, subst, arith}
-use Rattle.std.proofs.lemmas.Grind.{common_steps}
+use Rattle.duo_run.proofs.Common.{AreSetTo, IsMasterOf, IsSlaveOf, MasterSettings, SlaveSettings, common_steps, pairs_of}
+use Rattle.std.proofs.Common.{◌≡◌, ◌<◌, ◌+◌, [], ◌∷◌, ◌++◌, length, take, arith, rules}
 use Rattle.duo_run.proofs.Pairs.At.{of_named}
-use Rattle.duo_run.proofs.Pairs.Begun.{AreSettings, heading_at, settings_more}
+use Rattle.duo_run.proofs.Pairs.Begun.{heading_at, settings_more}
 use Rattle.duo_run.proofs.pairs_run.settings_of.Goals as goal
 
 pub loop-before-preserved : goal.loop-before-preserved
@@ -13,7 +12,4 @@ loop-before-preserved c =
     let own : MasterSettings × SlaveSettings = (c.master.result, c.slave.result) in
     let set : AreSetTo found.0 own.0 own.1 = (of_named (λ h. IsMasterOf h c.master.result) _ hs found.0 found.1 c.master.ensures, of_named (λ h. IsSlaveOf h c.slave.result) _ hs found.0 found.1 c.slave.ensures) in
     let pushed : c.push.new.self.items ≡ c.loop-before.settings.items ++ own ∷ [] = grind (arith, common_steps) in
-    record {
-      set = subst (AreSettings (take (c.loop-before.before + 1) hs)) (sym pushed) (settings_more hs c.loop-before.settings.items c.loop-before.before found.0 own found.2 c.loop-before.invariant.set set);
-      many = grind (arith, common_steps);
-    }
+    search (rules, take, settings_more)

@@ -1,8 +1,6 @@
-use Rattle.duo_run.proofs.Common.{DuoView}
+use Rattle.duo_run.proofs.Common.{DuoView, Some, slice_get-get_or, slice_get_read}
 use Rattle.std.proofs.Common.{◌≡◌, ℕ, length, slice_get, refl, arith}
-use Rattle.std.specs.Prelude.{Some}
-use Rattle.std.proofs.lemmas.Option.{slice_get-get_or, slice_get_read}
-use Rattle.duo_run.proofs.Pairs.Noted.{noted_all, noted_more, noted_none}
+use Rattle.duo_run.proofs.Pairs.Noted.{noted_all, noted_more}
 use Rattle.duo_run.proofs.telling.note_others.Goals as goal
 
 pub returns : goal.returns

@@ -1,8 +1,5 @@
-use Rattle.duo_run.proofs.Common.{DuoView, WaitingText}
-use Rattle.std.proofs.Common.{◌≡◌, ◌+◌, ◌++◌, ℕ, List, length, slice_get, slice_index_or, refl, ap, ◌∙◌, arith}
-use Rattle.std.specs.Prelude.{Some}
-use Rattle.std.proofs.lemmas.List.{length-append}
-use Rattle.std.proofs.lemmas.Option.{slice_get-get_or}
+use Rattle.duo_run.proofs.Common.{DuoView, Some, WaitingText, length-append, slice_get-get_or}
+use Rattle.std.proofs.Common.{◌≡◌, ◌+◌, ◌++◌, ℕ, length, slice_get, slice_index_or, refl, ap, arith, rules}
 use Rattle.duo_run.proofs.Pairs.Ticking.{next_counted, next_ticks, ticked_all, ticked_more, ticked_none}
 use Rattle.duo_run.proofs.Numbers.Summarizing.{never_err}
 use Rattle.duo_run.proofs.telling.tick_all.Goals as goal
@@ -11,11 +8,7 @@ pub loop-i-init : goal.loop-i-init
 loop-i-init c = record { so_far = ticked_none c.args.at c.args.number c.args.duos.now c.args.telling.now.waiting.text; room = omega arith }
 
 pub tell-requires-clause-fewer : goal.tell-requires-clause-fewer
-tell-requires-clause-fewer c =
-    let i : ℕ = c.loop-i.i in
-    let v : DuoView = slice_index_or c.loop-i.duos i c.index-duos-i.result in
-    let v-at : slice_get c.loop-i.duos i ≡ Some v = slice_get-get_or c.loop-i.duos i c.index-duos-i.result (omega arith) in
-    next_counted _ _ i _ _ c.loop-i.duos _ v c.requires.stand c.loop-i.invariant.so_far v-at
+tell-requires-clause-fewer c = search (rules, slice_get-get_or, next_counted)
 
 pub unwrap-requires : goal.unwrap-requires
 unwrap-requires c =
@@ -30,8 +23,7 @@ loop-i-preserved c =
     let v : DuoView = slice_index_or c.loop-i.duos i c.index-duos-i.result in
     let v-at : slice_get c.loop-i.duos i ≡ Some v = slice_get-get_or c.loop-i.duos i c.index-duos-i.result (omega arith) in
     let tells = rw c.unwrap.ensures at c.tell.ensures.tells in
-    let longer : c.push.new.self.text ≡ c.loop-i.waiting.text ++ c.tell.new.line =
-    ap (λ (w : WaitingText). w.text) c.push.ensures ∙ ap (λ (z : List ℕ). c.loop-i.waiting.text ++ z) c.bytes.ensures.value in
+    let longer : c.push.new.self.text ≡ c.loop-i.waiting.text ++ c.tell.new.line = search rules in
     record {
       so_far = ticked_more _ _ i (i + 1) _ _ c.loop-i.duos _ c.loop-i.waiting.text _ c.tell.new.line v c.tell.new.duo refl c.loop-i.invariant.so_far v-at tells refl longer;
       room =

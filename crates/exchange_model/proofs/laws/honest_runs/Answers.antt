@@ -1,7 +1,7 @@
+use Rattle.exchange_model.proofs.Common.{leb-true}
 use Rattle.std.proofs.Common.{refl}
 use Rattle.hex.proofs.OnLiterals.{hex_on_literals}
 use Rattle.fsoe_crc.specs.Remainder.{computing}
-use Rattle.std.proofs.lemmas.Bool.{leb-true}
 use Rattle.exchange_model.specs.WorkedRuns.{Honest, HonestTicks, Exchanges}
 use Rattle.exchange_model.specs.WorkedServing.{ReachesData}
 use Rattle.exchange_model.proofs.laws.honest_runs.Goals as goal

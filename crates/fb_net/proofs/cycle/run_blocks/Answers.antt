@@ -1,12 +1,10 @@
 use Rattle.fb_net.proofs.Common.{NetCycle, stepped}
-use Rattle.std.proofs.Common.{◌≡◌, ◌<◌, length, take, arith}
+use Rattle.std.proofs.Common.{◌≡◌, ◌<◌, length, take, arith, rules}
 use Rattle.fb_net.proofs.Running.{ready_at, ready_set, rest_after, value_is, values_more, blocks_more}
 use Rattle.fb_net.proofs.cycle.run_blocks.Goals as goal
 
 pub step_block-requires : goal.step_block-requires
-step_block-requires c =
-    let within : c.loop-i.i < length c.loop-i.blocks = omega arith in
-    ready_at c.loop-i.blocks c.loop-i.i c.index-blocks-i.result c.loop-i.invariant.ready within
+step_block-requires c = search (rules, ready_at)
 
 pub loop-i-preserved : goal.loop-i-preserved
 loop-i-preserved c =

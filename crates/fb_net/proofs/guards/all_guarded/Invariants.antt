@@ -1,6 +1,5 @@
-use Rattle.fb_net.proofs.Common.{is_wire_guarded}
+use Rattle.fb_net.proofs.Common.{is_wire_guarded, list_all}
 use Rattle.std.proofs.Common.{◌≡◌, map, drop}
-use Rattle.std.specs.List.{list_all}
 use Rattle.fb_net.proofs.guards.all_guarded.Given as goal
 
 abbrev pub invariant-loop-wire : goal.invariant-loop-wire

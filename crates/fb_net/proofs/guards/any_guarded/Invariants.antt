@@ -1,6 +1,5 @@
-use Rattle.fb_net.proofs.Common.{is_wire_guarded}
+use Rattle.fb_net.proofs.Common.{is_wire_guarded, list_any}
 use Rattle.std.proofs.Common.{◌≡◌, map, drop}
-use Rattle.std.specs.List.{list_any}
 use Rattle.fb_net.proofs.guards.any_guarded.Given as goal
 
 abbrev pub invariant-loop-wire : goal.invariant-loop-wire

@@ -1,6 +1,5 @@
-use Rattle.fb_net.proofs.Common.{is_same_bit, is_wire_guarded}
+use Rattle.fb_net.proofs.Common.{is_same_bit, is_wire_guarded, list_all}
 use Rattle.std.proofs.Common.{◌≡◌, not, ◌||◌, drop}
-use Rattle.std.specs.List.{list_all}
 use Rattle.fb_net.proofs.guards.are_drives_guarded.Given as goal
 
 abbrev pub invariant-loop-drive : goal.invariant-loop-drive

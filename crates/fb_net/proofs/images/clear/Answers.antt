@@ -1,6 +1,6 @@
 use Rattle.fb_net.proofs.Clearing.{zeros_step}
 use Rattle.fb_net.proofs.images.clear.Goals as goal
+use Rattle.std.proofs.Common.{rules}
 
 pub loop-i-preserved : goal.loop-i-preserved
-loop-i-preserved c =
-    zeros_step c.loop-i.i c.args.images.now c.loop-i.images c.index-images-i.result _ c.loop-i-test.true c.loop-i.invariant c.index-images-i.is (cc)
+loop-i-preserved c = search (rules, zeros_step)

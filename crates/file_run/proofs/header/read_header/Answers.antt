@@ -1,8 +1,6 @@
-use Rattle.file_run.proofs.Common.{from_line}
-use Rattle.std.proofs.Common.{◌≡◌, ◌+◌, arith, refl, ap, sym, ◌∙◌}
-use Rattle.std.specs.Io.KnownBytes.{prepend_known}
-use Rattle.std.specs.Prelude.{Bool, Err}
-use Rattle.file_run.proofs.Declined.{blames_since, declines_goes, declines_stalls}
+use Rattle.file_run.proofs.Common.{Bool, Err, from_line, prepend_known}
+use Rattle.std.proofs.Common.{◌≡◌, ◌+◌, arith, refl, ap, sym, ◌∙◌, rules}
+use Rattle.file_run.proofs.Declined.{declines_goes, declines_stalls}
 use Rattle.file_run.proofs.HeaderSeen.{header_none, header_line, header_done, header_halts, heading_as}
 use Rattle.file_run.proofs.Taken.{halts_after, line_taken, took_line, took_none, took_one}
 use Rattle.file_run.proofs.header.read_header.Goals as goal
@@ -46,9 +44,7 @@ loop-why-init g c =
     )
 
 pub returns-in-Ok-true-next_header_line-clause-took : goal.returns-in-Ok-true-next_header_line-clause-took
-returns-in-Ok-true-next_header_line-clause-took g c =
-    let finds = c.in-Ok-true-next_header_line.ensures.finds in
-    took_line _ _ _ _ _ finds.0 c.loop-why.invariant.0 finds.1 finds.2 c.in-Ok-true-next_header_line.ensures.goes
+returns-in-Ok-true-next_header_line-clause-took c = search (rules, took_line)
 
 pub returns-in-Err-next_header_line-clause-halts : goal.returns-in-Err-next_header_line-clause-halts
 returns-in-Err-next_header_line-clause-halts g c =

@@ -1,6 +1,5 @@
-use Rattle.file_run.proofs.Common.{TookLines, from_line, most_lines}
+use Rattle.file_run.proofs.Common.{TookLines, from_line, most_lines, prepend_known}
 use Rattle.std.proofs.Common.{◌≡◌, ◌≤◌, ◌+◌}
-use Rattle.std.specs.Io.KnownBytes.{prepend_known}
 use Rattle.file_run.proofs.HeaderSeen.{HeaderSeen}
 use Rattle.file_run.proofs.header.read_header.Given as goal
 

@@ -1,4 +1,4 @@
-use Rattle.file_run.proofs.Putting.{writes_after, writes_cut}
+use Rattle.file_run.proofs.Putting.{writes_after}
 use Rattle.file_run.proofs.parts.close_run.Goals as goal
 
 pub returns-in-Ok-clause-writes : goal.returns-in-Ok-clause-writes

@@ -1,7 +1,5 @@
 use Rattle.std.proofs.Common.{◌∙◌, arith, refl, sym}
-use Rattle.file_run.proofs.Putting.{is_none, not_none, putting_all, putting_lost, putting_more, putting_none}
-use Rattle.file_run.proofs.Taking.{still_stands}
-use Rattle.file_run.proofs.Sending.{rose_since}
+use Rattle.file_run.proofs.Putting.{not_none, putting_lost, putting_more, putting_none}
 use Rattle.file_run.proofs.parts.put_waiting.Goals as goal
 
 pub loop-part-init : goal.loop-part-init

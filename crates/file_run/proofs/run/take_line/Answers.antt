@@ -1,9 +1,9 @@
+use Rattle.file_run.proofs.Common.{None, Some}
 use Rattle.std.proofs.Common.{◌++◌, arith, ◌∙◌}
-use Rattle.std.specs.Prelude.{Some, None}
 use Rattle.file_run.proofs.Counted.{counted_last, counted_write}
 use Rattle.file_run.proofs.Exact.{ran_by}
 use Rattle.file_run.proofs.Leaving.{left_at_end, left_lost, left_stopped}
-use Rattle.file_run.proofs.Running.{ends_at_end, ends_lost, ends_stopped, event_may_come, finds_event, running_event}
+use Rattle.file_run.proofs.Running.{ends_at_end, ends_lost, ends_stopped, finds_event, running_event}
 use Rattle.file_run.proofs.Sending.{rose_since}
 use Rattle.file_run.proofs.run.take_line.Goals as goal
 

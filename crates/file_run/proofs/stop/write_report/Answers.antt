@@ -1,5 +1,5 @@
+use Rattle.file_run.proofs.Common.{length-take-le, take-append-drop}
 use Rattle.std.proofs.Common.{◌≤◌, length, take, drop, refl, sym, inr, arith}
-use Rattle.std.proofs.lemmas.List.{length-take-le, take-append-drop}
 use Rattle.file_run.proofs.stop.write_report.Goals as goal
 
 pub returns-in-Err-clause-writes : goal.returns-in-Err-clause-writes

@@ -1,18 +1,12 @@
-use Rattle.std.proofs.Common.{ℕ, ◌+◌, ◌-◌, ◌*◌, ◌++◌, ◌∷◌, List, length, arith, take, ap, ◌∙◌, get_or}
-use Rattle.std.proofs.lemmas.List.{length-set, length-take}
+use Rattle.std.proofs.Common.{ℕ, ◌+◌, ◌-◌, ◌*◌, ◌++◌, List, arith, take, ap, ◌∙◌, get_or, rules}
 use borrow.Rule.Slice.PartMut.{put_mid, same_len_mid}
 use Rattle.fsoe_base.specs.Bytes.{low_high}
 use Rattle.fsoe_frame.specs.Layout.{with_crcs, groups}
-use Rattle.fsoe_frame.proofs.Places.{after_first, all_written, count_one, number_taken, one_group, pair_of_crc, put_taken, writes_pair, written_last}
+use Rattle.fsoe_frame.proofs.Places.{after_first, number_taken, pair_of_crc, put_taken, writes_pair}
 use Rattle.fsoe_frame.proofs.writing.write_groups.Goals as goal
 
 pub returns-then-load-eq1 : goal.returns-then-load-eq1
-returns-then-load-eq1 c =
-    let one = c.requires.one_each ∙ count_one (length c.args.load.now) c.if-load-eq1.true in
-    after_first c.args.out.now c.write_u16.new.buf (get_or c.args.load.now 0 0) (omega arith)
-    ∙ ap (λ xs. get_or c.args.load.now 0 0 ∷ xs) (written_last (get_or c.args.crcs.now 0 0) c.write_u16.new.buf _ c.write_u16.ensures (let fits = c.type_inv.crcs 0 in omega arith)
-    (omega (arith, c.write_u16.auto.buf, length-take {A = ℕ}, length-set {A = ℕ})))
-    ∙ one_group c.args.load.now c.args.crcs.now c.if-load-eq1.true one
+returns-then-load-eq1 c = search (rules, after_first)
 
 pub loop-group-preserved : goal.loop-group-preserved
 loop-group-preserved c =

@@ -1,23 +1,12 @@
-use Rattle.multi_master.proofs.Common.{IsNumber, MasterView, PutStep, own_len}
-use Rattle.std.proofs.Common.{◌≡◌, ◌<◌, ◌+◌, ◌++◌, ◌∷◌, [], ℕ, List, Some, length, slice_get, slice_index_or, sym, ap, ◌∙◌, arith, if◌then◌else◌, refl}
-use Rattle.std.proofs.lemmas.Grind.{common_steps}
-use Rattle.std.proofs.lemmas.List.{append-nil}
-use Rattle.std.proofs.lemmas.List.Elements.{All-nil}
-use Rattle.std.proofs.lemmas.Option.{slice_get_read, slice_get-get_or}
+use Rattle.multi_master.proofs.Common.{All-nil, IsNumber, MasterView, PutStep, append-nil, common_steps, own_len, slice_get-get_or, slice_get_read}
+use Rattle.std.proofs.Common.{◌≡◌, ◌<◌, ◌+◌, ◌++◌, ◌∷◌, [], ℕ, List, Some, length, slice_get, slice_index_or, sym, ap, ◌∙◌, arith, if◌then◌else◌, refl, rules}
 use Rattle.multi_master.proofs.Places.{same_at, same_length, map_set}
 use Rattle.multi_master.proofs.Looping.{puts_begun, puts_more, number_told}
 use Rattle.multi_master.proofs.cycle.put_answers.Goals.{then-put_answer, else-put_answer}
 use Rattle.multi_master.proofs.cycle.put_answers.Goals as goal
 
 pub put_answer-requires : goal.put_answer-requires
-put_answer-requires c =
-    let i : ℕ = c.loop-i.i in
-    let m : MasterView = slice_index_or c.loop-i.masters i c.index-masters-i.result in
-    let len : length c.args.answers.now ≡ length c.loop-i.masters = same_length length own_len c.args.answers.now c.loop-i.masters c.loop-i.invariant.fits in
-    let within : i < length c.loop-i.masters = omega arith in
-    let at : slice_get c.loop-i.masters i ≡ Some m = slice_get-get_or c.loop-i.masters i c.index-masters-i.result within in
-    let of : slice_get c.args.answers.now i ≡ Some c.index-answers-i.result = slice_get_read c.args.answers.now _ i _ refl (omega arith) c.index-answers-i.is in
-    ap length c.bytes.ensures.value ∙ same_at length own_len c.args.answers.now c.loop-i.masters i _ m c.loop-i.invariant.fits of at
+put_answer-requires c = search (rules, same_length, slice_get_read, same_at)
 
 pub loop-i-init : goal.loop-i-init
 loop-i-init c =

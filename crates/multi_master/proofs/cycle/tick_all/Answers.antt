@@ -1,6 +1,5 @@
-use Rattle.multi_master.proofs.Common.{MasterView, TickStep}
+use Rattle.multi_master.proofs.Common.{MasterView, TickStep, slice_get-get_or}
 use Rattle.std.proofs.Common.{◌≡◌, ℕ, List, Some, slice_get, slice_index_or, refl, sym, ◌∙◌, arith}
-use Rattle.std.proofs.lemmas.Option.{slice_get-get_or}
 use Rattle.multi_master.proofs.Places.{set_before}
 use Rattle.multi_master.proofs.Looping.{ticks_more}
 use Rattle.multi_master.proofs.cycle.tick_all.Goals as goal

@@ -1,7 +1,5 @@
-use Rattle.multi_master.proofs.Common.{IsNewMaster, MasterView}
+use Rattle.multi_master.proofs.Common.{AllZip, IsNewMaster, MasterView, common_steps}
 use Rattle.std.proofs.Common.{◌≡◌, List, [], ◌∷◌, ◌++◌, sym, subst, arith}
-use Rattle.std.specs.List.{AllZip}
-use Rattle.std.proofs.lemmas.Grind.{common_steps}
 use Rattle.std.proofs.lemmas.Slice.Zip.{all_zipped_more}
 use Rattle.multi_master.proofs.making.masters_of.Goals as goal
 

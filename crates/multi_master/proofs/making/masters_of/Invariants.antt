@@ -1,5 +1,4 @@
-use Rattle.multi_master.proofs.Common.{IsNewMaster}
-use Rattle.std.specs.List.{AllZip}
+use Rattle.multi_master.proofs.Common.{AllZip, IsNewMaster}
 use Rattle.multi_master.proofs.making.masters_of.Given as goal
 
 abbrev pub invariant-loop-own : goal.invariant-loop-own

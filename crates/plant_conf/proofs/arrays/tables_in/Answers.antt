@@ -1,4 +1,4 @@
-use Rattle.std.proofs.Common.{◌∙◌, sym}
+use Rattle.std.proofs.Common.{◌∙◌, sym, rules}
 use Rattle.toml.specs.Data.{as_table}
 use Rattle.toml.specs.View.{view}
 use Rattle.plant_conf.proofs.ArrayLaws.{array-given, array-none}
@@ -11,5 +11,4 @@ returns-then-are_tables c = (
 )
 
 pub returns-else-are_tables : goal.returns-else-are_tables
-returns-else-are_tables c =
-    array-none as_table (view c.args.value.now) c.in_ok-array.array.now.items c.in_ok-array.ensures (sym c.are_tables.ensures ∙ c.if-are_tables.false)
+returns-else-are_tables c = search (rules, array-none)

@@ -3,7 +3,7 @@ use Rattle.toml.specs.View.{table_view}
 use Rattle.plant_conf.specs.Kept.{plant_said}
 use Rattle.param_load.specs.SameConn.{same_conn}
 use Rattle.plant_conf.specs.Meaning.{apart}
-use Rattle.plant_conf.proofs.Documents.{passed, plant-refused, links-refused, blocks-refused, drives-refused, bounds-refused, document-known, apart-refuses, apart-reads}
+use Rattle.plant_conf.proofs.Documents.{document-known, apart-refuses, apart-reads}
 use Rattle.plant_conf.proofs.read.read_document.Goals as goal
 
 pub returns-in-Err-clause-refuses : goal.returns-in-Err-clause-refuses

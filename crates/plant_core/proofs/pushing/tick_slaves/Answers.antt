@@ -1,7 +1,5 @@
-use Rattle.plant_core.proofs.Common.{LinkView, next_of}
+use Rattle.plant_core.proofs.Common.{All-nil, LinkView, next_of, slice_get-get_or}
 use Rattle.std.proofs.Common.{◌≡◌, ◌≤◌, ◌+◌, ◌-◌, ◌^◌, ℕ, suc, Some, slice_get, slice_index_or, refl, ◌∙◌, arith}
-use Rattle.std.proofs.lemmas.List.Elements.{All-nil}
-use Rattle.std.proofs.lemmas.Option.{slice_get-get_or}
 use Rattle.fsoe_base.specs.declared.command.End.TheVariants as side
 use Rattle.param_load.specs.declared.entry.Move.TheVariants as move
 use Rattle.plant_core.proofs.Acting.{acted_none, acted_more, acted_all, noted_next, noted_more, noted_all, fixed_set}

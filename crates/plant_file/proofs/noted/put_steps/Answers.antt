@@ -14,7 +14,7 @@ loop-step-init g c = record {
 }
 
 pub put-requires-clause-count : goal.put-requires-clause-count
-put-requires-clause-count g c = omega (arith, c.loop-step.invariant.room, c.requires)
+put-requires-clause-count g c = omega arith
 
 pub loop-step-preserved : goal.loop-step-preserved
 loop-step-preserved g c =
@@ -29,7 +29,7 @@ pub returns-clause-puts : goal.returns-clause-puts
 returns-clause-puts g c = putting_all _ _ _ _ _ _ c.loop-step.invariant.putting (at_drop_all journal_text c.args.steps.now c.loop-step.step-index (omega arith))
 
 pub returns-clause-count : goal.returns-clause-count
-returns-clause-count g c = omega (arith, c.loop-step.invariant.room, c.requires)
+returns-clause-count g c = omega arith
 
 pub returns-clause-cause : goal.returns-clause-cause
 returns-clause-cause g c = record { later = omega (arith, c.loop-step.invariant.stays); failed = tt; stayed = c.loop-step.invariant.stays }

@@ -1,13 +1,10 @@
-use Rattle.std.proofs.Common.{refl, arith}
+use Rattle.std.proofs.Common.{refl, rules}
 use Rattle.plant_file.proofs.Picked.{within}
 use Rattle.plant_file.proofs.SetUp.{set_up_ran, set_up_refused}
 use Rattle.plant_file.proofs.plant.run_conf.Goals as goal
 
 pub index_mut-channel-requires : goal.index_mut-channel-requires
-index_mut-channel-requires g c =
-    let place = rw c.as_slice.ensures.value at c.in-Ok.ensures.channel in
-    let below = within _ c.args.conf.channel c.args.channels.now.items c.in-Ok.setup.channel place in
-    omega (arith, below, c.args.channels.now.ok.0)
+index_mut-channel-requires c = search (rules, within)
 
 pub returns-in-Ok : goal.returns-in-Ok
 returns-in-Ok g c = record {

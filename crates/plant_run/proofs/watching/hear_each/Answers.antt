@@ -1,6 +1,5 @@
-use Rattle.plant_run.proofs.Common.{BoundSpec, HasRoom, ReactionView}
+use Rattle.plant_run.proofs.Common.{BoundSpec, HasRoom, ReactionView, slice_get-get_or}
 use Rattle.std.proofs.Common.{◌≡◌, ℕ, Some, slice_get, slice_index_or, refl, sym, ◌∙◌, arith}
-use Rattle.std.proofs.lemmas.Option.{slice_get-get_or}
 use Rattle.multi_master.proofs.Places.{all_at}
 use Rattle.plant_run.proofs.Watched.{heard_all, heard_more}
 use Rattle.plant_run.proofs.watching.hear_each.Goals as goal

@@ -1,6 +1,5 @@
-use Rattle.process_image.proofs.Common.{heading_spans, overlap}
+use Rattle.process_image.proofs.Common.{heading_spans, list_any, overlap}
 use Rattle.std.proofs.Common.{◌≡◌, drop}
-use Rattle.std.specs.List.{list_any}
 use Rattle.process_image.proofs.header.shares.Given as goal
 
 abbrev pub invariant-loop-slot : goal.invariant-loop-slot

@@ -1,8 +1,5 @@
-use Rattle.process_image.proofs.Common.{IsNewSeat, Seat}
+use Rattle.process_image.proofs.Common.{AllZip, IsNewSeat, Seat, all_zipped_more, common_steps}
 use Rattle.std.proofs.Common.{◌≡◌, List, [], ◌∷◌, ◌++◌, sym, subst, arith}
-use Rattle.std.specs.List.{AllZip}
-use Rattle.std.proofs.lemmas.Grind.{common_steps}
-use Rattle.std.proofs.lemmas.Slice.Zip.{all_zipped_more}
 use Rattle.process_image.proofs.making.seats_of.Goals as goal
 
 pub loop-slot-preserved : goal.loop-slot-preserved

@@ -1,5 +1,4 @@
-use Rattle.process_image.proofs.Common.{IsNewSeat}
-use Rattle.std.specs.List.{AllZip}
+use Rattle.process_image.proofs.Common.{AllZip, IsNewSeat}
 use Rattle.process_image.proofs.making.seats_of.Given as goal
 
 abbrev pub invariant-loop-slot : goal.invariant-loop-slot

@@ -1,6 +1,5 @@
-use Rattle.process_image.proofs.Common.{IsTickStep, MaySend, Seat, did_in}
+use Rattle.process_image.proofs.Common.{IsTickStep, MaySend, Seat, did_in, slice_get-get_or}
 use Rattle.std.proofs.Common.{◌≡◌, ℕ, Some, length, slice_get, slice_index_or, refl, sym, subst, ◌∙◌, arith}
-use Rattle.std.proofs.lemmas.Option.{slice_get-get_or}
 use Rattle.process_image.proofs.Looping.{does_begun, does_more, does_size, some_at, set_before}
 use Rattle.process_image.proofs.Seats.{did_alone}
 use Rattle.process_image.proofs.Zips.{all_at}

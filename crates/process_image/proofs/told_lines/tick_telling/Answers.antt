@@ -1,6 +1,5 @@
-use Rattle.process_image.proofs.Common.{IsTickStep, MaySend, Seat}
+use Rattle.process_image.proofs.Common.{IsTickStep, MaySend, Seat, slice_get-get_or}
 use Rattle.std.proofs.Common.{◌≡◌, ◌+◌, ◌++◌, ℕ, List, Some, length, slice_get, slice_index_or, refl, sym, ap, ap₂, subst, ◌∙◌, arith}
-use Rattle.std.proofs.lemmas.Option.{slice_get-get_or}
 use Rattle.process_image.proofs.Looping.{tells_begun, tells_more, tells_size, set_before}
 use Rattle.process_image.proofs.Zips.{all_at}
 use Rattle.process_image.proofs.told_lines.tick_telling.Goals as goal

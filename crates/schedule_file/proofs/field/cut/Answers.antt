@@ -1,4 +1,4 @@
-use Rattle.std.proofs.lemmas.List.{take_rest}
+use Rattle.schedule_file.proofs.Common.{take_rest}
 use Rattle.schedule_file.proofs.Space.{cut_found, cut_nowhere}
 use Rattle.schedule_file.proofs.field.cut.Goals as goal
 

@@ -1,6 +1,5 @@
+use Rattle.schedule_file.proofs.Common.{all_ascii_digits, digits_value}
 use Rattle.std.proofs.Common.{◌≡◌, ◌≤◌, take, drop}
-use Rattle.std.specs.Str.{all_ascii_digits}
-use Rattle.std.specs.Str.Parse.{digits_value}
 use Rattle.schedule_file.proofs.field.read_number.Given as goal
 
 abbrev pub invariant-loop-digit : goal.invariant-loop-digit

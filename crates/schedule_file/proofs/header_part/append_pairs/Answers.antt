@@ -1,7 +1,6 @@
 use Rattle.schedule_file.proofs.Common.{ranges_with}
-use Rattle.std.proofs.Common.{◌≡◌, ◌%◌, length, length-append, refl, arith, ap, ◌∙◌}
-use Rattle.std.proofs.lemmas.Bool.Decides.{nat_tests}
-use Rattle.schedule_file.proofs.Ranges.{is_acceptable-append-one, length-pointwise, pair_at, ranges_with-above, ranges_with-end, ranges_with-pair}
+use Rattle.std.proofs.Common.{length-append, arith, ap, ◌∙◌}
+use Rattle.schedule_file.proofs.Ranges.{is_acceptable-append-one, pair_at, ranges_with-pair}
 use Rattle.schedule_file.proofs.header_part.append_pairs.Goals as goal
 
 pub loop-k-preserved : goal.loop-k-preserved

@@ -1,7 +1,6 @@
 -- The table is held against the digits at each byte, by computing.
-use Rattle.schedule_file.proofs.Common.{hex_digit_value}
+use Rattle.schedule_file.proofs.Common.{agree_below_at, eqb-true, hex_digit_value}
 use Rattle.std.proofs.Common.{◌≡◌, ◌≤◌, ℕ, get_or, nat_eq, true, unwrap_or, refl, sym, subst, arith}
-use Rattle.std.proofs.lemmas.Bool.{agree_below_at, eqb-true}
 use Rattle.schedule_file.specs.declared.hex_digits.TheConstants.{VALUES}
 use Rattle.schedule_file.proofs.HexDigits.{looked_up}
 use Rattle.schedule_file.proofs.hex_digits.value.Goals as goal

@@ -1,6 +1,5 @@
-use Rattle.schedule_file.proofs.Common.{Lengths, fields_after, refused_for}
+use Rattle.schedule_file.proofs.Common.{IfOk-at_ok, Lengths, fields_after, refused_for}
 use Rattle.std.proofs.Common.{◌≡◌, sym, ◌∙◌, ap, refl}
-use Rattle.std.proofs.lemmas.Result.{IfOk-at_ok}
 use Rattle.param_load.specs.declared.profile.Profile.TheVariants as profile
 use Rattle.schedule_file.proofs.Pairs.{unlinked-is}
 use Rattle.schedule_file.proofs.pairs_event.refused_for.Goals as goal

@@ -1,6 +1,5 @@
-use Rattle.seq_chain.proofs.Common.{IsNumbered, crcs, crcs_from, groups}
+use Rattle.seq_chain.proofs.Common.{IsNumbered, crcs, crcs_from, groups, pointwise}
 use Rattle.std.proofs.Common.{◌≡◌, ℕ, ◌*◌, nat_eq, drop}
-use Rattle.std.specs.Cmp.Lexicographic.{pointwise}
 use Rattle.seq_chain.proofs.cover.crcs_are.Given as goal
 
 -- what is left to compare decides

@@ -1,8 +1,7 @@
 -- The table is held against the definition at each of the 63 places, by computing.
-use Rattle.seq_chain.proofs.Common.{place, rem}
+use Rattle.seq_chain.proofs.Common.{agree_below_at, eqb-true, place, rem}
 use Rattle.fsoe_crc.specs.Remainder.{computing}
 use Rattle.std.proofs.Common.{get_or, nat_eq, true, refl, arith, ◌++◌, replicate}
-use Rattle.std.proofs.lemmas.Bool.{agree_below_at, eqb-true}
 use Rattle.seq_chain.specs.declared.cover.TheConstants.{PLACES}
 use Rattle.seq_chain.proofs.cover.place_and_zeros.Goals as goal
 

@@ -1,6 +1,6 @@
 use Rattle.seq_chain.proofs.Common.{common}
-use Rattle.std.proofs.Common.{◌∷◌, [], sym, arith, append_assoc}
-use Rattle.seq_chain.proofs.NextGroup.{first_crc, next_crc}
+use Rattle.std.proofs.Common.{◌∷◌, [], arith, append_assoc}
+use Rattle.seq_chain.proofs.NextGroup.{next_crc}
 use Rattle.seq_chain.proofs.cover.write_frame.Goals as goal
 
 pub loop-group-preserved : goal.loop-group-preserved

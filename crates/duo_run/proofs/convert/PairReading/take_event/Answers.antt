@@ -1,6 +1,5 @@
-use Rattle.duo_run.proofs.Common.{Line, PairRead, event_taken, said_after}
+use Rattle.duo_run.proofs.Common.{Err, Line, PairRead, event_taken, said_after}
 use Rattle.std.proofs.Common.{◌≡◌, ap, subst, ◌∙◌}
-use Rattle.std.specs.Prelude.{Err}
 use Rattle.schedule_file.specs.declared.header_kind.HeaderKind.TheVariants as kind
 use Rattle.duo_run.proofs.Conversion.Converting.{said_as}
 use Rattle.duo_run.proofs.convert.PairReading.take_event.Goals as goal

@@ -1,8 +1,5 @@
-use Rattle.duo_run.proofs.Common.{DuoStands, DuoView, MasterSettings, SlaveSettings}
+use Rattle.duo_run.proofs.Common.{AllZip, DuoStands, DuoView, MasterSettings, SlaveSettings, all_zipped_more, common_steps}
 use Rattle.std.proofs.Common.{◌≡◌, List, [], ◌∷◌, ◌++◌, sym, subst, arith}
-use Rattle.std.specs.List.{AllZip}
-use Rattle.std.proofs.lemmas.Grind.{common_steps}
-use Rattle.std.proofs.lemmas.Slice.Zip.{all_zipped_more}
 use Rattle.duo_run.proofs.duos.Duos.new.Goals as goal
 
 pub loop-master-preserved : goal.loop-master-preserved

@@ -1,6 +1,5 @@
-use Rattle.duo_run.proofs.Common.{DuoStands}
+use Rattle.duo_run.proofs.Common.{AllZip, DuoStands}
 use Rattle.std.proofs.Common.{[]}
-use Rattle.std.specs.List.{AllZip}
 use Rattle.duo_run.proofs.duos.Duos.new.Given as goal
 
 abbrev pub invariant-loop-master : goal.invariant-loop-master

@@ -1,6 +1,5 @@
+use Rattle.duo_run.proofs.Common.{Some, slice_get_read}
 use Rattle.std.proofs.Common.{◌≡◌, ◌≤◌, ◌-◌, ℕ, length, slice_get, refl, sym, subst, arith}
-use Rattle.std.specs.Prelude.{Some}
-use Rattle.std.proofs.lemmas.Option.{slice_get_read}
 use Rattle.duo_run.proofs.Pairs.At.{for_named, named}
 use Rattle.duo_run.proofs.duos.Duos.other.Goals as goal
 

@@ -1,7 +1,5 @@
-use Rattle.duo_run.proofs.Common.{Fits, length_of, lengths_of, numbered, profile_of, profiles_of, steps_done}
+use Rattle.duo_run.proofs.Common.{Fits, IfSome, length_of, lengths_of, numbered, on_err_weaker, profile_of, profiles_of, steps_done}
 use Rattle.std.proofs.Common.{◌<◌, ◌-◌, ◌+◌, ◌^◌, ℕ, refl, sym, subst, arith}
-use Rattle.std.specs.Prelude.{IfSome}
-use Rattle.std.proofs.lemmas.Result.{on_err_weaker}
 use Rattle.duo_run.proofs.Pairs.At.{at_number, for_named, named, of_named, others_stay, steps_at, with_both}
 use Rattle.duo_run.proofs.duos.Duos.step.Goals as goal
 

@@ -1,6 +1,5 @@
-use Rattle.duo_run.proofs.Common.{pairs_of}
+use Rattle.duo_run.proofs.Common.{None, pairs_of}
 use Rattle.std.proofs.Common.{◌≡◌, ◌≤◌, ℕ, length, replicate, ap, ◌∙◌, arith}
-use Rattle.std.specs.Prelude.{None}
 use Rattle.duo_run.proofs.Pairs.Begun.{all_same_lengths, pairs_begin, some_settings}
 use Rattle.duo_run.proofs.pairs_run.PairsRunMachine.begin.Goals as goal
 

@@ -1,7 +1,6 @@
-use Rattle.multi_master.proofs.Common.{MasterView, MultiView, ShowsDue, due_in, is_due, out, own_len, seen, settings_in}
-use Rattle.std.proofs.Common.{◌≡◌, ◌<◌, ◌++◌, ◌-◌, ℕ, List, Some, true, false, map, length, take, drop, slice_get, slice_set, refl, sym, ap, subst, ◌∙◌}
+use Rattle.multi_master.proofs.Common.{MasterView, MultiView, ShowsDue, due_in, is_due, out, own_len, seen, settings_in, slice_get_read}
+use Rattle.std.proofs.Common.{◌≡◌, ◌<◌, ◌++◌, ◌-◌, ℕ, List, Some, true, false, map, length, take, drop, slice_get, slice_set, refl, sym, ap, subst, ◌∙◌, rules}
 use Rattle.std.proofs.Math.ListN.{length-set}
-use Rattle.std.proofs.lemmas.Option.{slice_get_read}
 use Rattle.multi_master.proofs.Delivering.{Drops, Hears, drop_follows, drop_answers, hear_follows, hear_answers}
 use Rattle.multi_master.proofs.Following.{runs_alike}
 use Rattle.multi_master.proofs.Keeping.{multi_set, one_rest, written_back}
@@ -22,10 +21,7 @@ record Heard (masters : List MasterView) (link place : ℕ) (before accepted rea
   same : read ≡ accepted
 
 heard : (g : _) (c : After-index g) → Heard (masters-of g c) c.args.link (place-of g c) c.index_mut.result.now c.accept_into.new.self c.index.result.now
-heard g c =
-    let has = rw (← c.self.view_is) at c.requires in
-    let p = master_placed (masters-of g c) _ _ _ has c.from-place.ensures c.index_mut.ensures.value in
-    record { placed = p; same = read_back (masters-of g c) (place-of g c) c.accept_into.new.self _ p.within c.index.ensures }
+heard g c = search (rules, master_placed)
 
 abbrev old-view : (g : _) → After-index g → MultiView
 old-view g c = seen g.A.Application.rule g.A.Application.holds g.A.Application.guards (record { masters = masters-of g c; app = c.self.inside.app; inputs = c.self.inside.inputs.items; changed = c.self.inside.changed.items })

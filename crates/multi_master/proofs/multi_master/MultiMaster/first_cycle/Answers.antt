@@ -1,21 +1,10 @@
-use Rattle.multi_master.proofs.Common.{MasterView}
-use Rattle.std.proofs.Common.{List, refl, sym, ◌∙◌, arith}
+use Rattle.std.proofs.Common.{refl, sym, rules}
 use Rattle.multi_master.proofs.Following.{runs_alike, change_follows}
 use Rattle.multi_master.proofs.Keeping.{written_back, all_rest}
 use Rattle.multi_master.proofs.multi_master.MultiMaster.first_cycle.Goals as goal
 
 pub invariant_of-self : goal.invariant_of-self
-invariant_of-self g c =
-    let masters : List MasterView = c.self.inside.masters.items in
-    let back = written_back c.run_cycle.new.masters masters c.self.inside.masters.len (cc) (cc) in
-    let answers = written_back c.run_cycle.new.answers c.self.inside.answers.items c.self.inside.answers.len (cc) (cc) in
-    rw (back, answers) (record {
-      rest = all_rest c.run_cycle.new.masters masters (c.run_cycle.ensures.due ∙ cc) c.self.invariant.rest;
-      inputs_fit = c.self.invariant.inputs_fit ∙ cc;
-      answers_fit = c.run_cycle.ensures.fit;
-      most = grind arith;
-      numbers = c.run_cycle.ensures.numbers;
-    })
+invariant_of-self c = search (rules, written_back, all_rest)
 
 pub returns-clause-follows : goal.returns-clause-follows
 returns-clause-follows g c = λ other.

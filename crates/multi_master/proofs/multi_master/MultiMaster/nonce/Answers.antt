@@ -1,5 +1,4 @@
-use Rattle.multi_master.proofs.Common.{settings_in}
-use Rattle.std.proofs.Common.{ℕ, refl, subst}
+use Rattle.std.proofs.Common.{ℕ, refl, subst, rules}
 use Rattle.param_load.specs.declared.entry.Move.TheVariants as move
 use Rattle.master_core.specs.Standing as core
 use Rattle.multi_master.proofs.Keeping.{multi_set}
@@ -15,13 +14,7 @@ returns-clause-follows g c =
     (subst (λ (id : ℕ). core.Follows c.index_mut.result.now (move.Nonce id) c.nonce.new.self) c.from-2.ensures c.nonce.ensures.follows) refl refl refl c.clear.ensures)
 
 pub invariant_of-self : goal.invariant_of-self
-invariant_of-self g c =
-    let has = rw (← c.self.view_is) at c.requires in
-    let p = master_placed _ _ _ _ has c.from.ensures c.index_mut.ensures.value in
-    multi_set _ _ _ _ _ _ _ _ c.self.invariant p.at c.nonce.ensures.settings c.nonce.ensures.due c.clear.ensures
+invariant_of-self c = search (rules, master_placed, multi_set)
 
 pub returns-clause-settings : goal.returns-clause-settings
-returns-clause-settings g c =
-    let has = rw (← c.self.view_is) at c.requires in
-    let p = master_placed _ _ _ _ has c.from.ensures c.index_mut.ensures.value in
-    rw (← c.self.view_is) (map_set settings_in _ _ _ c.nonce.new.self p.at c.nonce.ensures.settings)
+returns-clause-settings c = search (rules, master_placed, map_set)

@@ -1,6 +1,5 @@
-use Rattle.plant_core.proofs.Common.{links_made, master_in}
+use Rattle.plant_core.proofs.Common.{length-map, links_made, master_in}
 use Rattle.std.proofs.Common.{◌≡◌, length, map, vec_len, sym, ap, ◌∙◌}
-use Rattle.std.proofs.lemmas.List.{length-map}
 use Rattle.plant_core.proofs.Made.{made_ready}
 use Rattle.plant_core.proofs.ends.Ends.connect.Goals as goal
 

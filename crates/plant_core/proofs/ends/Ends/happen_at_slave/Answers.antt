@@ -1,5 +1,5 @@
 use Rattle.plant_core.proofs.Common.{placed}
-use Rattle.std.proofs.Common.{◌-◌, refl}
+use Rattle.std.proofs.Common.{◌-◌, refl, rules}
 use Rattle.plant_core.proofs.Acting.{fixed_set}
 use Rattle.plant_core.proofs.OneDeed.{slave_event, proper_move}
 use Rattle.plant_core.proofs.ends.Ends.happen_at_slave.Goals as goal
@@ -21,13 +21,7 @@ returns-clause-goes g c =
     })
 
 pub returns-clause-fixed : goal.returns-clause-fixed
-returns-clause-fixed g c =
-    let links = c.args.self.now.links in
-    let p = placed links.items _ _ _ _ c.requires.link links.ok.0 c.from.ensures c.index_mut-kept.ensures.value in
-    fixed_set links.items (c.from.result - 1) c.index_mut-kept.result.now c.happen_at_slave.new.link p.at c.happen_at_slave.ensures.notes.fixed
+returns-clause-fixed c = search (rules, placed, fixed_set)
 
 pub happen_at_slave-requires-clause-proper : goal.happen_at_slave-requires-clause-proper
-happen_at_slave-requires-clause-proper g c =
-    let links = c.args.self.now.links in
-    let p = placed links.items _ _ _ _ c.requires.link links.ok.0 c.from.ensures c.index_mut-kept.ensures.value in
-    proper_move links.items (c.from.result - 1) c.index_mut-kept.result.now c.args.event.now c.args.link c.args.what.now c.requires.is c.requires.fits p
+happen_at_slave-requires-clause-proper c = search (rules, placed, proper_move)

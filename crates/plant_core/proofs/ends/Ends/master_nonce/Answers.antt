@@ -1,5 +1,5 @@
 use Rattle.plant_core.proofs.Common.{placed}
-use Rattle.std.proofs.Common.{◌-◌, refl}
+use Rattle.std.proofs.Common.{◌-◌, refl, rules}
 use Rattle.plant_core.proofs.Acting.{fixed_set}
 use Rattle.plant_core.proofs.OneDeed.{master_nonce}
 use Rattle.plant_core.proofs.ends.Ends.master_nonce.Goals as goal
@@ -22,7 +22,4 @@ returns-clause-goes g c =
     })
 
 pub returns-clause-fixed : goal.returns-clause-fixed
-returns-clause-fixed g c =
-    let links = c.args.self.now.links in
-    let p = placed links.items _ _ _ _ c.requires.link links.ok.0 c.from.ensures c.index_mut.ensures.value in
-    fixed_set links.items (c.from.result - 1) c.index_mut.result.now c.note_master.new.self p.at c.note_master.ensures.notes.fixed
+returns-clause-fixed c = search (rules, placed, fixed_set)

@@ -1,6 +1,6 @@
 use Rattle.plant_core.proofs.Common.{AreNoted, LinkView, fixed_in, written_back}
-use Rattle.std.proofs.Common.{◌≡◌, ◌+◌, ◌-◌, ◌*◌, ◌^◌, ℕ, List, length, vec_len, sym, ap, subst, ◌∙◌, arith}
-use Rattle.plant_core.proofs.Acting.{same_count, noted_less, still_plant}
+use Rattle.std.proofs.Common.{◌≡◌, ◌+◌, ◌-◌, ◌*◌, ◌^◌, ℕ, List, length, vec_len, sym, ap, subst, ◌∙◌, arith, rules}
+use Rattle.plant_core.proofs.Acting.{same_count, noted_less}
 use Rattle.plant_core.proofs.Cycling.{tick_goes}
 use Rattle.plant_core.proofs.ends.Ends.tick.Goals as goal
 
@@ -68,25 +68,4 @@ returns-clause-goes g c =
     }))
 
 pub returns-clause-ready : goal.returns-clause-ready
-returns-clause-ready g c =
-    let links = c.args.self.now.links in
-    let dids = c.args.self.now.dids in
-    let outs = c.args.self.now.outs in
-    let mid : List LinkView = c.tick_slaves.new.links in
-    let late : List LinkView = c.masters_ticked.new.links in
-    let last : List LinkView = c.note_offers.new.links in
-    let count : length mid ≡ length links.items = same_count mid links.items (c.tick_slaves.ensures.fixed ∙ ap fixed_in c.as_mut_slice.ensures.value) in
-    let first = written_back mid links.items links.len links.ok.0 count in
-    let second : c.as_mut_slice-4.result.now ≡ mid = c.as_mut_slice-4.ensures.value ∙ first in
-    let later : length late ≡ length mid = same_count late mid (c.masters_ticked.ensures.fixed ∙ ap fixed_in second) in
-    let back = written_back late mid links.len (links.ok.0 ∙ sym count) later in
-    let third : c.as_mut_slice-5.result.now ≡ late = (rw first at c.as_mut_slice-5.ensures.value) ∙ back in
-    let latest : length last ≡ length late = same_count last late (c.note_offers.ensures.fixed ∙ ap fixed_in third) in
-    let written = written_back last late links.len (links.ok.0 ∙ sym count ∙ sym later) latest in
-    let dids_same : length c.tick.new.dids ≡ length dids.items = cc in
-    let outs_same : length c.tick.new.outs ≡ length outs.items = cc in
-    let dids_back = written_back c.tick.new.dids dids.items dids.len dids.ok.0 dids_same in
-    let outs_back = written_back c.tick.new.outs outs.items outs.len outs.ok.0 outs_same in
-    rw (first, back, written, dids_back, outs_back)
-    (still_plant c.args.self.now.master c.tick.new.self links.items last dids.items c.tick.new.dids outs.items c.tick.new.outs (vec_len c.args.steps.now) (vec_len c.note_offers.new.steps) c.requires.ready (ap length c.tick.ensures.settings)
-    (latest ∙ later ∙ count) dids_same outs_same c.note_offers.ensures.noted)
+returns-clause-ready c = search (rules, written_back)

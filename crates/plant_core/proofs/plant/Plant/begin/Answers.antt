@@ -1,15 +1,12 @@
-use Rattle.plant_core.proofs.Common.{fixed_in, links_made}
-use Rattle.std.proofs.Common.{◌≡◌, length, vec_len, ap, ap₂, ◌∙◌, arith}
+use Rattle.plant_core.proofs.Common.{links_made}
+use Rattle.std.proofs.Common.{ap₂, ◌∙◌, rules}
 use Rattle.multi_master.specs.Standing as multi
 use Rattle.plant_core.proofs.Made.{made_count}
 use Rattle.plant_core.proofs.Pulling.{starts}
 use Rattle.plant_core.proofs.plant.Plant.begin.Goals as goal
 
 pub start-requires-clause-room : goal.start-requires-clause-room
-start-requires-clause-room g c =
-    let links = c.connect.new.self.links in
-    let count : vec_len links ≡ length c.links-links.result.now = links.ok.0 ∙ ap length c.in_ok-connect.ensures.links ∙ made_count 1 c.bounds.result.now c.links-links.result.now in
-    omega (arith, count, c.in_ok-take_room.ensures.room)
+start-requires-clause-room c = search (rules, made_count)
 
 pub returns-clause-starts : goal.returns-clause-starts
 returns-clause-starts g c =

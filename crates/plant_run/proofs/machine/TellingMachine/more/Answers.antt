@@ -1,7 +1,5 @@
-use Rattle.plant_run.proofs.Common.{BoundSpec, LinkConf, limit_of, rest_in}
+use Rattle.plant_run.proofs.Common.{BoundSpec, LinkConf, length-map, limit_of, rest_in, slice_get-get_or, slice_get_read}
 use Rattle.std.proofs.Common.{◌≡◌, ◌<◌, ◌+◌, ℕ, suc, List, length, slice_get, slice_index_or, refl, sym, ap, ◌∙◌, arith}
-use Rattle.std.proofs.lemmas.List.{length-map}
-use Rattle.std.proofs.lemmas.Option.{slice_get_read, slice_get-get_or}
 use Rattle.plant_run.proofs.BoundParts.{bound_part}
 use Rattle.plant_run.proofs.Hearing.{are_aged}
 use Rattle.plant_run.proofs.LinkLines.{links_done, part_shown}

@@ -1,6 +1,5 @@
-use Rattle.plant_run.proofs.Common.{waiting}
+use Rattle.plant_run.proofs.Common.{err_from_is_err_and, waiting}
 use Rattle.std.proofs.Common.{◌++◌, ap, ap₂, arith, refl, sym, ◌∙◌}
-use Rattle.std.proofs.lemmas.Result.{err_from_is_err_and}
 use Rattle.plant_model.specs.declared.event.PlantLine.TheVariants as line
 use Rattle.plant_model.specs.declared.event.PlantEvent.TheVariants as event
 use Rattle.plant_run.proofs.Hearing.{can_hear, heard_same}

@@ -1,7 +1,5 @@
-use Rattle.process_image.proofs.Common.{ImageHeading, IsMadeOf, IsTested, SlotHeader, slots_of}
-use Rattle.std.proofs.Common.{◌≡◌, ◌∷◌, ◌++◌, [], List, length, ap, sym, subst, ◌∙◌, arith}
-use Rattle.std.proofs.lemmas.Slice.Zip.{AllZip-long}
-use Rattle.std.specs.List.{AllZip}
+use Rattle.process_image.proofs.Common.{AllZip, AllZip-long, ImageHeading, IsMadeOf, SlotHeader, slots_of}
+use Rattle.std.proofs.Common.{◌≡◌, ◌∷◌, ◌++◌, [], List, length, ap, sym, ◌∙◌, arith, rules}
 use Rattle.process_image.proofs.Headers.{some_slots}
 use Rattle.process_image.proofs.Tested.{whole_fit}
 use Rattle.process_image.proofs.Zips.{zip_more, zip_last, zip_whole}
@@ -27,5 +25,4 @@ returns-clause-most c =
     omega (arith, n, c.count.ensures.value, c.count.ensures.most)
 
 pub returns-clause-fit : goal.returns-clause-fit
-returns-clause-fit c = λ whole.
-    whole_fit c.args.self.now c.push-2.new.slots.items (subst IsTested c.self.view_is c.self.invariant.3) (returns-clause-made c) (returns-clause-most c) whole
+returns-clause-fit c = search (rules, whole_fit, returns-clause-made, returns-clause-most)

@@ -1,6 +1,5 @@
-use Rattle.process_image.proofs.Common.{IsMadeOf}
+use Rattle.process_image.proofs.Common.{AllZip, IsMadeOf}
 use Rattle.std.proofs.Common.{take}
-use Rattle.std.specs.List.{AllZip}
 use Rattle.process_image.proofs.header.ImageHeader.slots.Given as goal
 
 abbrev pub invariant-loop-slot : goal.invariant-loop-slot

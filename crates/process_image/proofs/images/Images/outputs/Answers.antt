@@ -1,4 +1,5 @@
-use Rattle.process_image.proofs.Common.{out, receives}
+use Rattle.process_image.proofs.Common.{receives}
+use Rattle.end_model.specs.Outputs.{out}
 use Rattle.std.proofs.Common.{◌≡◌, ◌-◌, length, arith}
 use Rattle.process_image.proofs.Counts.{seat_there}
 use Rattle.process_image.proofs.Reading.{shown_at, named_at}

@@ -1,24 +1,14 @@
-use Rattle.process_image.proofs.Common.{IsSoundSeat, with_sent}
-use Rattle.std.proofs.Common.{◌-◌, length, refl, ap, ◌∙◌, arith}
+use Rattle.process_image.proofs.Common.{with_sent}
+use Rattle.std.proofs.Common.{◌-◌, length, refl, ap, ◌∙◌, arith, rules}
 use Rattle.process_image.proofs.Counts.{seat_there}
 use Rattle.process_image.proofs.Keeping.{written_back}
-use Rattle.process_image.proofs.Looping.{sent_size}
 use Rattle.process_image.proofs.One.{reset_follows}
 use Rattle.process_image.proofs.Reading.{reset_answers}
 use Rattle.process_image.proofs.Set.{set_setups, reset_sound}
-use Rattle.process_image.proofs.Zips.{all_at}
 use Rattle.process_image.proofs.images.Images.reset.Goals as goal
 
 pub invariant_of-self : goal.invariant_of-self
-invariant_of-self c =
-    let at = seat_there _ _ c.args.slot (c.from.result - 1) c.index_mut-seat.result.now c.self.view_is (omega arith) c.requires c.index_mut-seat.ensures.value in
-    let out = written_back c.give.new.output c.self.inside.output.items c.self.inside.output.len (cc) (cc) in
-    let inside = (all_at (IsSoundSeat (length c.self.inside.input.items) (length c.self.inside.output.items)) c.self.inside.seats.items (c.from.result - 1) c.index_mut-seat.result.now c.self.invariant.seats at).inside_out in
-    rw out
-    (reset_sound (record { seats = c.self.inside.seats.items; input = c.self.inside.input.items; output = c.self.inside.output.items }) (c.from.result - 1) c.index_mut-seat.result.now c.reset-did.new.self c.give.new.output c.self.invariant at
-    c.reset-did.ensures.setup c.reset-did.ensures.rest
-    (ap length (c.give.ensures ∙ ap (with_sent c.index_mut-seat.result.now c.reset-did.new.out) c.as_mut_slice.ensures.value)
-    ∙ sent_size c.index_mut-seat.result.now c.reset-did.new.out c.self.inside.output.items inside))
+invariant_of-self c = search (rules, seat_there, written_back, reset_sound)
 
 pub returns-clause-follows : goal.returns-clause-follows
 returns-clause-follows c =
@@ -36,7 +26,4 @@ returns-clause-answers c =
     rw (← c.self.view_is) (reset_answers _ c.args.slot (c.from.result - 1) c.index_mut-seat.result.now c.reset-did.result c.reset-did.new.out (omega arith) at c.reset-did.ensures.answers)
 
 pub returns-clause-setups : goal.returns-clause-setups
-returns-clause-setups c =
-    let at = seat_there _ _ c.args.slot (c.from.result - 1) c.index_mut-seat.result.now c.self.view_is (omega arith) c.requires c.index_mut-seat.ensures.value in
-    rw (← c.self.view_is)
-    (set_setups (record { seats = c.self.inside.seats.items; input = c.self.inside.input.items; output = c.self.inside.output.items }) (c.from.result - 1) c.index_mut-seat.result.now c.reset-did.new.self at c.reset-did.ensures.setup)
+returns-clause-setups c = search (rules, seat_there, set_setups)

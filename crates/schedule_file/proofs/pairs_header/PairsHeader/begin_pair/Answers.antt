@@ -1,7 +1,6 @@
-use Rattle.schedule_file.proofs.Common.{Heading, IsPair, PairsHeading, pairs_of}
+use Rattle.schedule_file.proofs.Common.{All-append, All-cons, All-nil, Heading, IsPair, PairsHeading, pairs_of}
 use Rattle.std.proofs.Common.{◌≤◌, ◌<◌, [], ◌∷◌, All, length, sym, ap, subst, ◌∙◌, arith}
 use Rattle.std.specs.Vec.{vec_capacity, vec_len}
-use Rattle.std.proofs.lemmas.List.Elements.{All-append, All-cons, All-nil}
 use Rattle.schedule_file.specs.declared.pairs_header.PairsHeader.TheInside.{Inside}
 use Rattle.schedule_file.specs.declared.pairs_header.TheConstants.{MOST_PAIRS}
 use Rattle.schedule_file.proofs.Pairs.{room_before}

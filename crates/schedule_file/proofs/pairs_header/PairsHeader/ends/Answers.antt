@@ -1,6 +1,5 @@
-use Rattle.schedule_file.proofs.Common.{heading_profile, length_of, own_length, pairs_of, profile_of}
+use Rattle.schedule_file.proofs.Common.{heading_profile, length_of, length_push, own_length, pairs_of, profile_of}
 use Rattle.std.proofs.Common.{length, ap, ◌∙◌, arith}
-use Rattle.std.proofs.lemmas.List.{length_push}
 use Rattle.schedule_file.specs.PairsEnds.{PairsTerms}
 use Rattle.schedule_file.proofs.Pairs.{map-next, same_ends}
 use Rattle.schedule_file.proofs.pairs_header.PairsHeader.ends.Goals as goal

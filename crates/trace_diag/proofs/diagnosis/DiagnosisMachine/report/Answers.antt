@@ -1,11 +1,10 @@
 use Rattle.trace_diag.proofs.Common.{NotesFrame, takes_one}
-use Rattle.std.proofs.Common.{ℕ, List, length, ◌<◌, ◌≤◌, sym, subst}
-use Rattle.trace_diag.proofs.Inputs.{few_noted, frame_long, takes_frame}
+use Rattle.std.proofs.Common.{ℕ, List, subst, rules}
+use Rattle.trace_diag.proofs.Inputs.{few_noted, takes_frame}
 use Rattle.trace_diag.proofs.diagnosis.DiagnosisMachine.report.Goals as goal
 
 pub note-requires-clause-frame : goal.note-requires-clause-frame
-note-requires-clause-frame c =
-    subst (λ (bytes : List ℕ). (0 < length bytes) × (length bytes ≤ 255)) (sym c.bytes.ensures.value) (frame_long c.requires.1.heading c.args.event.now c.requires.1.said)
+note-requires-clause-frame c = search rules
 
 pub note-requires-clause-few : goal.note-requires-clause-few
 note-requires-clause-few c = few_noted c.args.self.now.trace c.args.event.now c.args.number c.requires.1
