@@ -1,6 +1,6 @@
-//! A second program for trials. Its commands `rates` and `journal` run a plant over a script from standard input; the
-//! user may give rates, of 10,000: how many frames are lost, altered and repeated, and how many pulls give nothing.
-//! `rates` writes the report of the plant, `journal` its journal.
+//! A second program for trials. Its commands `rates` and `journal` run a plant over a script from standard input. The
+//! user may give four rates: about how many of 10,000 frames are lost, altered and repeated, and about how many of
+//! 10,000 pulls give nothing. `rates` writes the report of the plant, `journal` its journal.
 #![tactic(auto)]
 
 mod command;

@@ -3,7 +3,7 @@
 //! `put` sets the data to send (SafeOutputs).
 //!
 //! It has no clock and no communication interface. The program passes in frames and ticks, and sends what the master
-//! writes; the first tick sends the Reset frame with which a session begins:
+//! writes; the first tick sends the Reset frame after which a session begins:
 //!
 //! ```text
 //! let mut master = Master::new(settings);

@@ -1,6 +1,6 @@
 //! Reads the configuration of a plant from TOML text. A plant is many connections with both ends, an application and a
 //! channel. The result has the connections, the net of function blocks, the bounds that are watched, and the names of
-//! the application and of the channel. Or it is the first fault, with the key that is at fault, if one is.
+//! the application and of the channel. Or it is the first fault, and the key that it is about, if it is about a key.
 //!
 //! ```rust
 //! use plant_conf::read_conf;

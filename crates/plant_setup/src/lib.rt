@@ -1,6 +1,6 @@
-//! Prepares a plant (many connections with both ends and an application) for a run. It selects the channel and
-//! the application with which the plant starts, by their names in the configuration. If the configuration can't be run,
-//! it gives the first reason, and the line of the report that says it. It runs nothing.
+//! Prepares a plant (many connections with both ends, an application and a channel) for a run. It selects the channel
+//! and the application with which the plant starts, by their names in the configuration. If the configuration can't be
+//! run, it gives the first reason, and the line of the report that says it. It runs nothing.
 //!
 //! ```rust
 //! use black_channel::{Channel, PerfectChannel};

@@ -26,8 +26,8 @@
 //! - Bytes of the input image that are overwritten before they were sampled are lost. A frame in the output image is
 //!   lost, too, if its end sends the next one before the image was passed on. Pass it on after each sample and each
 //!   tick.
-//! - A frame of which only a part was written before the sample counts as another frame. It ends the session, unless
-//!   the end is in state Reset or the frame happens to pass all tests.
+//! - If only a part of a frame was written before the sample, the end takes the bytes there for another frame. That
+//!   ends the session, unless the end is in state Reset or the bytes happen to pass all tests.
 //!
 //! ```rust
 //! use fsoe_base::Lengths;

@@ -1,4 +1,4 @@
-//! A black channel for trials with chosen rates: a user says about how many of 10,000 frames are lost, altered and
+//! A black channel for trials. The user gives four rates: about how many of 10,000 frames are lost, altered and
 //! repeated, and about how many of 10,000 pulls give nothing, so that frames come late. Nothing here tests a frame.
 //!
 //! ```rust

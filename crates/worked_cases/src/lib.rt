@@ -1,7 +1,7 @@
-//! Tests of crates that run no end, with one module for each crate that is tested here. They call public functions.
-//! Some of these read files or write to sinks; such files and sinks are kept in memory, and some fail. The answers are
-//! compared with values that were found without this code. What the program does is tested in `runs/`. What a contract
-//! states needs no test.
+//! Tests of crates that run no end, with one module for each subject. They call public functions. Some of these read
+//! files or write to sinks. The files and sinks are in memory, and some of them fail where the test wants it. The
+//! answers are compared with values that were found without this code. What the program does is tested in `runs/`. What
+//! a contract states needs no test.
 //!
 //! Tests have crates of their own, since a crate would be proved twice if it had tests. Those of single ends and of the
 //! crates around them are in `worked_ends`, those of complete runs in `worked_runs`.

@@ -1,4 +1,4 @@
-//! Tests of the commands that run over an input, which comes line by line. What their reports say is tested in
+//! Tests of commands that run over an input while it comes line by line. What their reports say is tested in
 //! `worked_runs` and `runs/`.
 #![tactic(auto)]
 
