@@ -7,8 +7,6 @@
 #[cfg(test)]
 mod fairness;
 #[cfg(test)]
-mod letting_go;
-#[cfg(test)]
 mod of_commands;
 #[cfg(test)]
 mod of_duo_run;

@@ -1,6 +1,6 @@
 //! Runs of `replay` over an input in memory, also with failing input or output; and the events of a seed.
 use duo_run::{run_bulk, run_replay};
-use fsoe_io::{Ended, MemSink, MemSource, Status, SureSink};
+use fsoe_io::{Ended, MemSink, MemSource, Status};
 use schedule_file::{LineBuf, Maker, write_event};
 use std::alloc::{AllocError, Global};
 use std::test::Fail;
@@ -78,25 +78,13 @@ fn replays_end_at_their_places(rt: HostRuntime) -> Result<(), Fail> {
     Ok(())
 }
 
-/// How the replay of an input ends whose first read fails, and what it writes, to a sink that never fails.
-fn unread(alloc: Global, input: Vec<u8>) -> Option<(Ended, SureSink)> {
-    let mut source = MemSource::new(input, 1000, vec![in alloc; 1].ok()?);
-    let mut sink = SureSink::new(alloc, 1000).ok()?;
-    let ended = run_replay(alloc, &mut source, &mut sink);
-    Some((ended, sink))
-}
-
 #[test]
-fn a_call_that_fails_ends_a_replay(rt: HostRuntime) -> Result<(), Fail> {
+fn a_write_that_fails_ends_a_replay(rt: HostRuntime) -> Result<(), Fail> {
     let input = joined(rt.alloc(), &[HEADER, UNTIL_DATA, "end\n"])?;
     let (ended, sink) = run_over(rt.alloc(), &input, 8, 0, 3).ok_or("not run")?;
     let (status, place) = (Status::Write, 16);
     assert_eq!(rt; ended, Ended { status, place });
     assert_eq!(rt; sink.bytes(), b"1 m quiet Reset ".as_slice());
-    let (ended, sink) = unread(rt.alloc(), input).ok_or("not run")?;
-    let (status, place) = (Status::Read, 0);
-    assert_eq!(rt; ended, Ended { status, place });
-    assert_eq!(rt; sink.bytes(), b"".as_slice());
     Ok(())
 }
 

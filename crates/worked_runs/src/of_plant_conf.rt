@@ -69,7 +69,7 @@ fn has_its_parameters(link: &LinkConf) -> bool {
 
 #[test]
 fn the_worked_plant_is_read(rt: HostRuntime) -> Result<(), Fail> {
-    let conf = worked_conf(rt.alloc(), "net", "perfect", 1).ok_or("not read")?;
+    let conf = worked_conf(rt.alloc(), "perfect", 1).ok_or("not read")?;
     let second = ([2, 12, 5], [12, 5, 65_535], [1, 2]);
     assert_eq!(rt; counts(&conf), [2, 1, 1, 0]);
     assert!(rt; has(&conf, "net", "perfect", 1, second));

@@ -78,7 +78,7 @@ fn plants_report_worked_rows(rt: HostRuntime) -> Result<(), Fail> {
 
 /// How the worked plant ends over a script and a sink, and its journal.
 fn run_into(alloc: Global, script: &str, sink: &mut MemSink) -> Option<(Ended, Journal)> {
-    let conf = worked_conf(alloc, "net", "perfect", 1)?;
+    let conf = worked_conf(alloc, "perfect", 1)?;
     let (conf, setup, mut channels) = set_with(alloc, conf)?;
     let channel = channels.get_mut(setup.channel)?;
     run_to(alloc, &conf, setup, channel, script, sink)
@@ -117,7 +117,7 @@ fn no_event_is_done_after_a_failed_write(rt: HostRuntime) -> Result<(), Fail> {
 
 /// The channel that writes what is pushed, and the run of a plant over it and a script.
 fn run_written(alloc: Global, script: &str) -> Option<(Written, Ran)> {
-    let (conf, setup, _) = set_with(alloc, worked_conf(alloc, "net", "list", 0)?)?;
+    let (conf, setup, _) = set_with(alloc, worked_conf(alloc, "list", 0)?)?;
     let mut channel = Written::new(alloc)?;
     let ran = run_over(alloc, conf, setup, &mut channel, script)?;
     Some((channel, ran))
@@ -141,7 +141,7 @@ fn a_plant_pushes_each_masters_reset_once(rt: HostRuntime) -> Result<(), Fail> {
 /// What a plant brings to its second slave in two ticks, after which its drive is on. The slave's watchdog is of 5,000
 /// ticks.
 fn recorded(alloc: Global) -> Option<Vec<Parcel>> {
-    let conf = conf_with(alloc, "net", "perfect", 1, 5_000, "")?;
+    let conf = conf_with(alloc, "perfect", 1, 5_000, "")?;
     let ran = run_with(alloc, conf, "fsoe 1 plant\nt\np 1 0300\nt\nend\n")?;
     let mut parcels = Vec::new(alloc);
     for step in ran.journal.steps() {
@@ -162,7 +162,7 @@ const BOUND: &str = "[[bound]]\nestop = \"i1.0\"\ndrive = \"o2.0\"\n";
 /// The worked plant with a bound, to which a channel gives what another plant recorded. The stop is let go for a moment
 /// between so many ticks and so many more.
 fn run_forged(alloc: Global, before: u8, after: u8) -> Result<Ran, Fail> {
-    let conf = conf_with(alloc, "net", "list", 0, 5, BOUND).ok_or("configuration")?;
+    let conf = conf_with(alloc, "list", 0, 5, BOUND).ok_or("configuration")?;
     let (conf, setup, _) = set_with(alloc, conf).ok_or("not set up")?;
     let gifts = recorded(alloc).ok_or("not recorded")?;
     let mut channel = ListChannel::new(alloc, gifts, 0).ok().ok_or("no channel")?;

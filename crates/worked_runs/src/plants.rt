@@ -47,7 +47,7 @@ pub(crate) struct Ran {
 }
 
 /// The channels that are handed in: those of the program, one that gives nothing, and one of a test's own.
-pub(crate) fn channels(alloc: Global) -> Option<Vec<Box<dyn Channel>>> {
+fn channels(alloc: Global) -> Option<Vec<Box<dyn Channel>>> {
     let mut channels: Vec<Box<dyn Channel>> = Vec::new(alloc);
     let perfect = PerfectChannel::new(alloc).ok()?;
     channels.push(Box::new(alloc, perfect).ok()?).ok()?;
@@ -60,25 +60,24 @@ pub(crate) fn channels(alloc: Global) -> Option<Vec<Box<dyn Channel>>> {
     Some(channels)
 }
 
-/// The worked plant with the application and the channel of these names, this seed and this watchdog of the second
-/// connection. After all other tables come these.
+/// The worked plant with the channel of this name, this seed and this watchdog of the second connection. After all
+/// other tables come these.
 pub(crate) fn conf_with(
     alloc: Global,
-    app: &str,
     channel: &str,
     seed: u64,
     watchdog: u16,
     more: &str,
 ) -> Option<PlantConf> {
     let text = format!(in alloc;
-        "[plant]\napp = \"{app}\"\nchannel = \"{channel}\"\nseed = {seed}\n{STOP} = {watchdog}\n{DRIVE}{more}"
+        "[plant]\napp = \"net\"\nchannel = \"{channel}\"\nseed = {seed}\n{STOP} = {watchdog}\n{DRIVE}{more}"
     ).ok()?;
     read_conf(alloc, text.as_bytes()).ok()
 }
 
-/// The worked plant with the application and the channel of these names and this seed.
-pub(crate) fn worked_conf(alloc: Global, app: &str, channel: &str, seed: u64) -> Option<PlantConf> {
-    conf_with(alloc, app, channel, seed, 5, "")
+/// The worked plant with the channel of this name and this seed.
+pub(crate) fn worked_conf(alloc: Global, channel: &str, seed: u64) -> Option<PlantConf> {
+    conf_with(alloc, channel, seed, 5, "")
 }
 
 /// A plant set up, and the channels that were handed in. Its script may take the application `zeros`.
@@ -148,5 +147,5 @@ pub(crate) fn run_with(alloc: Global, conf: PlantConf, script: &str) -> Option<R
 /// Runs the worked plant over a script, with the channel of this name and this seed. None where there is no memory for
 /// what it is handed.
 pub(crate) fn run_worked(alloc: Global, channel: &str, seed: u64, script: &str) -> Option<Ran> {
-    run_with(alloc, worked_conf(alloc, "net", channel, seed)?, script)
+    run_with(alloc, worked_conf(alloc, channel, seed)?, script)
 }
