@@ -1,15 +1,14 @@
 -- In each run the age is below the limit.
-use Rattle.end_model.proofs.Common.{Ages, Answers, Command, Deed, Did, DropsReset, Expires, IsRun, MasterSettings, Move, OfMaster, OfSlave, PeerResets, Reaction, Refuses, ResetsItself, Rests, SendsAgain, Setup, SlaveSettings, State, age, is_empty, limit, slave_age, state_of, ticks, whole, with_answer}
+use Rattle.end_model.proofs.Common.{Ages, Answers, Command, Deed, Did, DropsReset, Expires, IsRun, MasterSettings, Move, OfMaster, OfSlave, PeerResets, Reaction, Refuses, ResetsItself, Rests, SendsAgain, Setup, SlaveSettings, State, age, is_empty, limit, slave_age, state_of, ticks, with_answer}
 use Rattle.std.proofs.Common.{◌≡◌, ◌≢◌, ◌<◌, ℕ, suc, List, [], ◌∷◌, false, arith}
 use Rattle.fsoe_base.specs.declared.command.State.TheVariants as state
 use Rattle.end_model.proofs.Runs.{deed}
 use Rattle.end_model.proofs.Shown.{slave-run}
-use Rattle.end_model.proofs.SlaveShown.{limits}
 use Rattle.end_model.proofs.SoundRuns.{reacted, answer_sent}
 
 -- no limit is 0
 pub has_limit : (s : Setup) (e : List Deed) → IsRun s e → 0 < limit s e
-has_limit s e h = grind (arith, slave-run, limits, whole)
+has_limit s e h = grind (arith, slave-run)
 
 -- a frame that was sent begins the count of ticks
 no-ticks : (s : Setup) (e : List Deed) (bytes load : List ℕ) (c : Command) (answer : List ℕ) → is_empty answer ≡ false → ticks s (with_answer bytes c load answer e) ≡ 0

@@ -1,6 +1,6 @@
 -- The codes that an end finds and sends are at most 0Bh.
-use Rattle.end_model.proofs.Common.{Answers, AppRule, Cause, Code, Command, Deed, Did, Expires, Fails, Frame, IsProper, IsRun, Move, PeerResets, Reaction, Refuses, ResetsItself, SendsAgain, Setup, SlaveSettings, State, Taking, WrongContents, WrongReset, code, contents, data_fault, fails, field_fault, first_of, has_command, option_or, parts, rule_len, slave_fault, slave_upload_fault, step}
-use Rattle.std.proofs.Common.{◌≡◌, ◌≤◌, ℕ, Bool, true, List, Option, Some, None, IfSome, IfErr, Result, if◌then◌else◌, refl, subst, arith, rules}
+use Rattle.end_model.proofs.Common.{Answers, Cause, Code, Command, Deed, Did, Expires, Fails, Frame, IsProper, IsRun, Move, PeerResets, Reaction, Refuses, ResetsItself, SendsAgain, Setup, SlaveSettings, State, Taking, WrongContents, WrongReset, code, contents, data_fault, fails, has_command, option_or, parts, rule_len, slave_fault, slave_upload_fault, step}
+use Rattle.std.proofs.Common.{◌≡◌, ◌≤◌, ℕ, Bool, true, List, Option, Some, IfSome, IfErr, Result, if◌then◌else◌, refl, subst, arith, rules}
 use Rattle.fsoe_base.specs.declared.command.State.TheVariants as state
 use Rattle.fsoe_base.specs.declared.command.Command.TheVariants as command
 use Rattle.fsoe_base.specs.declared.did.Cause.TheVariants as cause
@@ -27,20 +27,14 @@ IsLowCause _ = Unit {0}
 fails-with : (b : Bool) (n : ℕ) (next : Option Code) → n ≤ 0x0B → IsLow next → IsLow (if b then Some (code n) else next)
 fails-with b n next h k = grind arith
 
-unless-with : (b : Bool) (n : ℕ) → n ≤ 0x0B → IsLow (if b then None else Some (code n))
-unless-with b n h = grind arith
-
 first-low : (first second : Option Code) → IsLow first → IsLow second → IsLow (option_or first second)
 first-low first second h k = grind arith
 
-low-field : (e : Expected) (rule : AppRule) (before : ℕ) (u : List ℕ) → IsLow (field_fault e rule before u)
-low-field e rule before u = search (rules, fails-with, first-low)
-
 low-upload : (ss : SlaveSettings) (e : List Deed) (phase : State) (expects : Expected) (load : List ℕ) → IsLow (slave_upload_fault ss e phase expects load)
-low-upload ss e phase expects load = search (rules, low-field)
+low-upload ss e phase expects load = search (rules, fails-with, first-low)
 
 low-data : (c : Command) (load : List ℕ) → IsLow (data_fault c load)
-low-data c load = unless-with _ 0x07 (omega arith)
+low-data c load = grind arith
 
 low-slave : (ss : SlaveSettings) (e : List Deed) (c : Command) (f : Frame) → IsLow (slave_fault ss e c f)
 low-slave ss e command.Session f = low-upload ss e state.Session (expected.Session ss.profile) f.load
@@ -52,7 +46,7 @@ low-contents : (s : Setup) (e : List Deed) (c : Command) (f : Frame) → IsLow (
 low-contents s e c f = search (rules, low-slave)
 
 low-view : (f : Frame) → IsLowErr (reset_view f)
-low-view f = search (rules, code, first_of)
+low-view f = search rules
 
 low-test : (s : Setup) (e : List Deed) (bytes : List ℕ) (passed : Bool) (found : Code) → Fails s e bytes passed found → found.0 ≤ 0x0B
 low-test s e bytes passed found (WrongReset _ is h) = (subst IsLowErr h (low-view (parts s bytes))).low

@@ -1,5 +1,5 @@
 -- What a fresh session id excludes for certain, at a slave and at a master.
-use Rattle.end_model.proofs.Common.{Command, Deed, DifferInFront, EndsByCrcs, Frame, IsRun, IsValid, Link, MasterSettings, NotByStep, OfMaster, OfSlave, Profile, Setup, SlaveSettings, Valid, allowed, command_of, crc_0, first_of, fits, frame_of, has_conn, id_front, id_len, kept, length-take, master_allows, nat_tests, newest_crc, nonce, own, parts, piece_len, receives, sends, session_id, since, slave_allows, state_of, step_in_last, taken, taken_link, verdict, whole}
+use Rattle.end_model.proofs.Common.{Command, Deed, DifferInFront, EndsByCrcs, Frame, IsRun, IsValid, Link, MasterSettings, NotByStep, OfMaster, OfSlave, Profile, Setup, SlaveSettings, Valid, allowed, command_of, crc_0, first_of, fits, frame_of, has_conn, id_front, id_len, kept, length-take, nat_tests, newest_crc, nonce, own, parts, piece_len, receives, sends, session_id, since, slave_allows, state_of, step_in_last, taken, taken_link, verdict, whole}
 use Rattle.std.proofs.Common.{◌≡◌, ◌≢◌, ℕ, ◌<◌, ◌≤◌, nat_le, List, [], ◌∷◌, length, take, bit_xor, true, false, Option, Some, None, IsTrue, unwrap_or, sym, ap, ◌∙◌, arith, rules}
 use Rattle.fsoe_base.specs.declared.command.State.TheVariants as state
 use Rattle.fsoe_base.specs.declared.command.Command.TheVariants as command
@@ -58,13 +58,7 @@ slave_refuses ss e e' first bytes load c id id' t t' h h' differ by n v =
     second_refused last last' crc f (crc_0_within crc 0 1 0x4E (first_load s ss.profile id)) (crc_0_within crc 0 1 0x4E (first_load s ss.profile id'))
     (crc_differs s ss.profile crc id id' differ) (not_by_step s ss.profile crc id id' by) (some_load s e bytes c load v) fitted in
     ends s e' bytes c t'.state_is
-    (record {
-      other = n;
-      is_read = record { has_length = v.is_read.has_length; is_new = λ k. v.is_read.is_new (t.kept_is ∙ sym t'.kept_is ∙ k); command_is = v.is_read.command_is };
-      is_allowed = slave_allowed ss e' first id' c t' ∙ sym (slave_allowed ss e first id c t) ∙ v.is_allowed;
-      has_conn_id = sym (slave_conn_right ss e e' first c f.conn h h') ∙ v.has_conn_id;
-      does_not_fit = fits_by s e' f last' before t'.crc_is t'.link_is ∙ refused;
-    })
+    (grind (arith, slave_allowed, slave_conn_right, fits_by))
 
 pub old_frame_refused : (ss : SlaveSettings) (e e' : List Deed) (first bytes load : List ℕ) (c : Command) → IsRun (OfSlave ss) e → IsRun (OfSlave ss) e' → taken (since e) ≡ first ∷ [] → taken (since e') ≡ first ∷ []
     → DifferInFront (OfSlave ss) (session_id (OfSlave ss) e) (session_id (OfSlave ss) e') → NotByStep (OfSlave ss) (session_id (OfSlave ss) e) (session_id (OfSlave ss) e')
@@ -127,13 +121,7 @@ master_refuses ms e e' bytes load c id id' t t' now now' h h' differ n v =
     first_refused last last' f (crc_0_within 0 0 1 0x4E (first_load s ms.profile id)) (crc_0_within 0 0 1 0x4E (first_load s ms.profile id'))
     (crc_differs s ms.profile 0 id id' differ) (some_load s e bytes c load v) fitted in
     ends s e' bytes c now'
-    (record {
-      other = n;
-      is_read = record { has_length = v.is_read.has_length; is_new = not_kept ms e' bytes id' c t' n v.is_read.command_is; command_is = v.is_read.command_is };
-      is_allowed = ap (λ now. master_allows now c) (now' ∙ sym now) ∙ v.is_allowed;
-      has_conn_id = v.has_conn_id;
-      does_not_fit = fits_by s e' f last' None t'.crc_is (none_taken_link s (since e') h') ∙ refused;
-    })
+    (search (rules, not_kept, fits_by, none_taken_link))
 
 pub old_answer_refused : (ms : MasterSettings) (e e' : List Deed) (bytes load : List ℕ) (c : Command) → IsRun (OfMaster ms) e → IsRun (OfMaster ms) e' → state_of (OfMaster ms) e ≡ state.Session → state_of (OfMaster ms) e' ≡ state.Session
     → taken (since e) ≡ [] → taken (since e') ≡ [] → DifferInFront (OfMaster ms) (session_id (OfMaster ms) e) (session_id (OfMaster ms) e')

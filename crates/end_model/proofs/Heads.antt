@@ -1,5 +1,5 @@
 -- How the frames of a session begin.
-use Rattle.end_model.proofs.Common.{Command, Deed, MasterSettings, Setup, held, master_answer, phase_of_frame, sends, with_data}
+use Rattle.end_model.proofs.Common.{Command, Deed, MasterSettings, Setup, master_answer, phase_of_frame, with_data}
 use Rattle.std.proofs.Common.{◌≡◌, List, rules}
 use Rattle.fsoe_base.specs.declared.command.State.TheVariants as state
 pub use Rattle.end_model.specs.Reactions.{IsInSession}
@@ -9,4 +9,4 @@ master_frame ms e c = search rules
 
 -- a data frame has the phase Data
 pub data_phase : (s : Setup) (e : List Deed) → phase_of_frame (with_data s e) ≡ state.Data
-data_phase s e = search (rules, held, sends)
+data_phase s e = search rules

@@ -23,7 +23,7 @@ padded_bytes (suc n) l (d ∷ bytes) h = byte_first d (take n bytes ++ replicate
 padded_bytes _ l _ h = zeros l
 
 pub load_bytes : (s : Setup) (p : Profile) (id : ℕ) → AreBytes (first_load s p id)
-load_bytes s p id = search (rules, padded_bytes, sends, take)
+load_bytes s p id = search (rules, padded_bytes)
 
 pub load_len : (s : Setup) (p : Profile) (id : ℕ) → length (first_load s p id) ≡ sends s
 load_len s p id = search (rules, taken_len, padded_len)
@@ -40,12 +40,9 @@ front_by (suc (suc n)) l d b rest some = let more : (suc (suc n) == 1) ≡ false
 pub positive : (l : ℕ) → IsTrue (is_length l) → 0 < l
 positive l h = grind arith
 
-piece_some : (s : Setup) → 0 < piece_len s
-piece_some s = search (rules, positive)
-
 -- its first group carries the front of the id
 pub front_is : (s : Setup) (p : Profile) (id : ℕ) → first_number (first_load s p id) ≡ id_front s id
-front_is s p id = search (rules, front_by, piece_some)
+front_is s p id = search (rules, front_by, positive)
 
 -- ids that are both even or both odd differ by an even number
 pub even_not_by_step : (s : Setup) (id id' : ℕ) → id % 2 ≡ id' % 2 → NotByStep s id id'

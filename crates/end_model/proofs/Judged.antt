@@ -39,7 +39,7 @@ by-session s e bytes c false b k n is h i j = FailsTest (code 0x01) (NotAllowed 
 
 -- how far a frame came
 read : (s : Setup) (e : List Deed) (bytes : List ℕ) (c : Option Command) → ComesToCommand (receives s) (is_repeat (kept (since e)) bytes) bytes c → IsRead s e bytes c
-read s e bytes c h = search (rules, kept)
+read s e bytes c h = search rules
 
 by-opened : (s : Setup) (e : List Deed) (bytes : List ℕ) (w : Opened) → Tested (receives s) (is_repeat (kept (since e)) bytes) bytes w → Judged s e bytes (judged s e w)
 by-opened s e bytes w (opens.HasOtherLength other) = HasOtherLength other

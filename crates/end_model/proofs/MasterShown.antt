@@ -1,6 +1,6 @@
 -- The outputs of a master are those that looking back gives.
 use Rattle.end_model.proofs.Common.{Ages, Answers, Command, Deed, Did, Expires, IsInSession, MasterFirstData, MasterGoesOn, MasterMoreData, MasterNextPhase, MasterSettings, MasterStarts, Move, OfMaster, PeerResets, Reaction, Refuses, ResetsItself, Rests, SendsAgain, Setup, State, Taking, out_after, outputs, phase_of, phase_of_frame, received, state_of, takes_frame, ticks, with_data, zeros}
-use Rattle.std.proofs.Common.{◌≡◌, ◌≢◌, ℕ, suc, ◌+◌, ◌<◌, List, ◌∷◌, Bool, true, nat_lt, if◌then◌else◌, refl, sym, subst, ◌∙◌, arith}
+use Rattle.std.proofs.Common.{◌≡◌, ◌≢◌, ℕ, suc, ◌+◌, ◌<◌, List, ◌∷◌, Bool, true, nat_lt, refl, sym, subst, ◌∙◌, arith}
 use Rattle.fsoe_base.specs.declared.command.State.TheVariants as state
 use Rattle.fsoe_base.specs.declared.command.Command.TheVariants as command
 use Rattle.param_load.specs.declared.entry.Move.TheVariants as move
@@ -16,9 +16,6 @@ shown_in s _ _ load = zeros s
 pub shown-zeros : (s : Setup) (now : State) (b : Bool) → shown_in s now b (zeros s) ≡ zeros s
 shown-zeros s now b = grind arith
 
-pub shown-data : (s : Setup) (b : Bool) (load : List ℕ) → (if b then load else zeros s) ≡ shown_in s state.Data b load
-shown-data s b load = grind arith
-
 -- what looking back past n ticks gives
 pub record MasterShows (ms : MasterSettings) (e : List Deed) : Type 0 where
   pub outs : (n : ℕ) → out_after (OfMaster ms) n e ≡ shown_in (OfMaster ms) (state_of (OfMaster ms) e) (nat_lt (n + ticks (OfMaster ms) e) ms.watchdog) (outputs (OfMaster ms) e)
@@ -27,17 +24,7 @@ pub record MasterShows (ms : MasterSettings) (e : List Deed) : Type 0 where
 
 -- a master takes a frame, and is in Data then where it took ProcessData
 master-taken : (ms : MasterSettings) (e : List Deed) (bytes load : List ℕ) (c : Command) (f : List ℕ) → IsInSession f → (phase_of c ≡ state.Data → phase_of_frame f ≡ state.Data) → MasterShows ms (deed (move.Deliver bytes) (takes_frame c load) f ∷ e)
-master-taken ms e bytes load command.ProcessData f h k =
-    let a = h.in_session in
-    let b = h.sent in
-    let p : 0 < ms.watchdog = ms.some_watchdog in
-    let q : phase_of_frame f ≡ state.Data = k refl in
-    record {
-      outs = λ n. let z : n + 0 ≡ n = omega arith in simp (a, b, q, z) (shown-data (OfMaster ms) (nat_lt n ms.watchdog) load);
-      young = λ k. simp b p;
-      none = λ k. absurd (k (simp (a, b) q));
-    }
-master-taken ms e bytes load _ f h k = let a = h.in_session in let b = h.sent in let p : 0 < ms.watchdog = ms.some_watchdog in record { outs = λ n. simp (a, b) (sym (shown-zeros (OfMaster ms) (phase_of_frame f) _)); young = λ k. simp b p; none = λ k. simp a }
+master-taken ms e bytes load c f h k = grind arith
 
 -- data are answered by data
 data-answer : (ms : MasterSettings) (e : List Deed) (f : List ℕ) → f ≡ with_data (OfMaster ms) e → phase_of_frame f ≡ state.Data

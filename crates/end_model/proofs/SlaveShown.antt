@@ -64,12 +64,7 @@ slave-took ss e bytes load c f h (SlaveMoreData _ _ _ is now whole x) = slave-ta
 pub slave-shows : (ss : SlaveSettings) (e : List Deed) (m : Move) (d : Did) (f : List ℕ) → SlaveShows ss e → Reaction (OfSlave ss) e m d f → SlaveShows ss (deed m d f ∷ e)
 slave-shows ss e m d f h (Rests slave now) = record { outs = λ n. h.outs (suc n) ∙ simp now; young = simp now (λ k. cc); none = h.none; tested = h.tested }
 slave-shows ss e m d f h (Ages counts y) =
-    record {
-      outs = λ n. let q : suc n + ticks (OfSlave ss) e ≡ n + suc (ticks (OfSlave ss) e) = omega arith in rw (← q) (h.outs (suc n));
-      young = λ k. simp k at y;
-      none = h.none;
-      tested = h.tested;
-    }
+    search (rules, ticks)
 slave-shows ss e m d f h (Expires now old) = record { outs = λ n. refl; young = λ k. cc; none = λ k. refl; tested = none_tested ss }
 slave-shows ss e m d f h (SendsAgain master now old) = absurd master
 slave-shows ss e m d f h ResetsItself = record { outs = λ n. refl; young = λ k. cc; none = λ k. refl; tested = none_tested ss }

@@ -54,7 +54,7 @@ zero-image (n ∷ ns) zero b = no_bit (replicate n 0) b (replicate-zero n (b / 8
 zero-image (n ∷ ns) (suc k) b = zero-image ns k b
 
 pub zero_bit : (lens : List ℕ) (o : Bit) → bit_at (zero_images lens) o ≡ false
-zero_bit lens o = search (rules, no_bit, zero-image)
+zero_bit lens o = search (rules, zero-image)
 
 -- the lengths
 pub length_with_on : (images : List (List ℕ)) (l b : ℕ) → map length (with_on images l b) ≡ map length images

@@ -2,7 +2,6 @@
 use Rattle.fb_net.proofs.Common.{Bit, Drive, and_or_self, at_number, bit_at, bit_of, bits_on, common_steps, driven_images, get_or-set_same, get_or_past, has_bit, is_same_bit, list_any, wire_value, with_bit, with_on}
 use Rattle.std.proofs.Common.{◌≡◌, inl, inr, ℕ, ◌*◌, ◌<◌, Bool, true, false, cond, ◌&&◌, ◌||◌, List, [], ◌∷◌, length, get_or, map, fold, filter, slice_set, refl, ap, ◌∙◌, arith, rules}
 use Rattle.fb_net.proofs.Bits.{other_bit, zero_bit, within, length_zeros, length_with_on}
-use Rattle.fb_net.proofs.Guarding.{same_numbers}
 
 -- a bit that is set is set
 bit-set : (bytes : List ℕ) (b : ℕ) → b < 8 * length bytes → bit_of (with_bit bytes b true) b ≡ true
@@ -19,9 +18,6 @@ image-set images k b h =
           absurd (omega arith)
     ]
 
-number-set : (images : List (List ℕ)) (l b : ℕ) → b < 8 * length (at_number images l []) → bit_of (at_number (with_on images l b) l []) b ≡ true
-number-set images l b h = search (rules, image-set)
-
 -- a bit exists by the lengths of the images
 length-at : (images : List (List ℕ)) (k : ℕ) → get_or (map length images) k 0 ≡ length (get_or images k [])
 length-at images k = grind (arith, common_steps)
@@ -29,15 +25,12 @@ length-at images k = grind (arith, common_steps)
 length-number : (images : List (List ℕ)) (l : ℕ) → at_number (map length images) l 0 ≡ length (at_number images l [])
 length-number images l = search (rules, length-at)
 
-there : (images : List (List ℕ)) (o : Bit) → has_bit (map length images) o ≡ true → o.bit < 8 * length (at_number images o.link [])
-there images o h = search (rules, length-number)
-
 -- with or without one more drive whose wire reads true
 set-more : (on : Bool) (images : List (List ℕ)) (d : Drive) (rest : List Drive) (o : Bit) (more : Bool)
     → has_bit (map length images) o ≡ true
     → ((xs : List (List ℕ)) → has_bit (map length xs) o ≡ true → bit_at (fold (λ ys b. with_on ys b.link b.bit) xs (map (λ x. x.out) rest)) o ≡ (bit_at xs o || more))
     → bit_at (fold (λ ys b. with_on ys b.link b.bit) images (map (λ x. x.out) (cond on (d ∷ rest) rest))) o ≡ (bit_at images o || ((is_same_bit d.out o && on) || more))
-set-more on images d rest o more h k = search (rules, length_with_on, same_numbers, at_number, number-set, there, other_bit)
+set-more on images d rest o more h k = search (rules, length_with_on, image-set, length-number, other_bit)
 
 driven-bit : (ds : List Drive) (values : List Bool) (inputs : List (List ℕ)) (images : List (List ℕ)) (o : Bit) → has_bit (map length images) o ≡ true
     → bit_at (fold (λ ys b. with_on ys b.link b.bit) images (bits_on ds values inputs)) o ≡ (bit_at images o || list_any (λ d. is_same_bit d.out o && wire_value values inputs d.from) ds)

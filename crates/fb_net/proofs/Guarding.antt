@@ -1,8 +1,7 @@
 -- What is guarded is false.
-use Rattle.fb_net.proofs.Common.{AllReady, AreOff, Bit, BlockSpec, Cycle, Drive, IsReady, NetBlock, NetCycle, at_drop_more, at_number, bit_at, bits_on, block_cycles, block_values, cycle_of, driven_images, given, guarded_blocks, guarded_from, is_output_guarded, is_same_bit, is_wire_guarded, list_all, next_held, plan, run_values, told, values_from, wire_value, with_block, with_on, zero_images}
+use Rattle.fb_net.proofs.Common.{AllReady, AreOff, Bit, BlockSpec, Cycle, Drive, IsReady, NetBlock, NetCycle, at_drop_more, bit_at, bits_on, block_cycles, block_values, cycle_of, driven_images, given, guarded_blocks, guarded_from, is_output_guarded, is_same_bit, is_wire_guarded, list_all, next_held, plan, run_values, told, values_from, wire_value, with_block, with_on, zero_images}
 use Rattle.fb_lib.specs.declared.kind.BlockKind.{BlockKind}
-use Rattle.std.proofs.Common.{◌≡◌, ℕ, zero, suc, ◌+◌, ◌<◌, length, drop, ◌==◌, Bool, true, false, not, cond, ◌&&◌, ◌||◌, List, [], ◌∷◌, ◌++◌, get_or, map, fold, filter, refl, sym, ap, ap₂, ◌∙◌, arith, rules}
-use Rattle.std.proofs.lemmas.Bool.Decides.{nat_tests}
+use Rattle.std.proofs.Common.{◌≡◌, ℕ, zero, suc, ◌+◌, ◌<◌, length, drop, Bool, true, false, not, cond, ◌&&◌, ◌||◌, List, [], ◌∷◌, ◌++◌, get_or, map, fold, filter, refl, sym, ap, ◌∙◌, arith, rules}
 use Rattle.fb_lib.specs.Guarded.{is_guarded}
 use Rattle.fb_lib.proofs.Guarding.{told_off, value_off as block_off}
 use Rattle.fb_net.specs.declared.wire.Wire.{Wire}
@@ -15,21 +14,15 @@ off-place (x ∷ gs) (v ∷ vs) zero off g = off.0 g
 off-place (x ∷ gs) (v ∷ vs) (suc k) off g = off-place gs vs k off.1 g
 off-place _ _ k off g = absurd off
 
-off-number : (gs vs : List Bool) (k : ℕ) → AreOff gs vs → at_number gs k false ≡ true → at_number vs k false ≡ false
-off-number gs vs k h l = search (rules, off-place)
-
 off-more : (gs vs : List Bool) (g v : Bool) → AreOff gs vs → (g ≡ true → v ≡ false) → AreOff (gs ++ g ∷ []) (vs ++ v ∷ [])
 off-more [] [] g v off h = (h, tt)
 off-more (x ∷ gs) (y ∷ vs) g v off h = (off.0, off-more gs vs g v off.1 h)
 off-more _ _ g v off h = absurd off
 
-pub same_numbers : (l m a b : ℕ) → (l == m && a == b) ≡ true → (l ≡ m) × (a ≡ b)
-same_numbers l m a b h = (grind (arith, nat_tests), grind (arith, nat_tests))
-
 -- what a guarded wire reads is false
 off-wire : (i : Bit) (gs vs : List Bool) (inputs : List (List ℕ)) (w : Wire) → bit_at inputs i ≡ false → AreOff gs vs
     → is_wire_guarded i gs w ≡ true → wire_value vs inputs w ≡ false
-off-wire i gs vs inputs w h k l = search (rules, off-number)
+off-wire i gs vs inputs w h k l = search (rules, off-place)
 
 off-wires : (i : Bit) (gs vs : List Bool) (inputs : List (List ℕ)) (ws : List Wire) → bit_at inputs i ≡ false → AreOff gs vs
     → AreOff (map (is_wire_guarded i gs) ws) (map (wire_value vs inputs) ws)
@@ -93,9 +86,7 @@ pub guarded_more : (blocks : List BlockSpec) (i : ℕ) (b at : BlockSpec) (inp :
     → guarded_from inp gs (plan (drop i blocks)) ≡ all → guarded_from inp items (plan (drop (i + 1) blocks)) ≡ all
 guarded_more blocks i b at inp gs read items k ws g all h is same reads kind wires told made done =
     let F : List BlockSpec → List Bool = λ xs. guarded_from inp gs (plan xs) in
-    let t : g ≡ is_guarded b.block.kind (map (is_wire_guarded inp gs) b.ins) =
-    told ∙ ap₂ (λ (x : BlockKind) (ys : List Wire). is_guarded x (map (is_wire_guarded inp read) ys)) kind wires
-    ∙ ap₂ (λ (x : BlockSpec) (vs : List Bool). is_guarded x.block.kind (map (is_wire_guarded inp vs) x.ins)) same reads in
+    let t : g ≡ is_guarded b.block.kind (map (is_wire_guarded inp gs) b.ins) = search (rules, told) in
     ap (λ (xs : List Bool). guarded_from inp xs (plan (drop (i + 1) blocks))) (made ∙ ap (λ (x : Bool). gs ++ x ∷ []) t)
     ∙ sym (at_drop_more F blocks i b h ∙ ap (λ (x : BlockSpec). F (x ∷ drop (i + 1) blocks)) (sym is))
     ∙ done

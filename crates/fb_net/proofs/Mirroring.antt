@@ -1,5 +1,5 @@
 -- Inputs as outputs, made one by one.
-use Rattle.fb_net.proofs.Common.{Bit, at_number, bit_at, bit_of, common_steps, is_same_bit, mirror_images, mirrored}
+use Rattle.fb_net.proofs.Common.{Bit, bit_at, bit_of, common_steps, is_same_bit, mirror_images, mirrored}
 use Rattle.std.proofs.Common.{◌≡◌, ◌⊎◌, inl, inr, ℕ, zero, suc, ◌+◌, ◌<◌, true, false, List, [], ◌∷◌, ◌++◌, length, get_or, map, take, drop, slice_index, slice_set, refl, ap, ap₂, arith, add-one, rules}
 use Rattle.fb_net.proofs.Bits.{no_bit}
 
@@ -58,10 +58,6 @@ images-bit [] (n ∷ ns) (suc k) b h = images-bit [] ns k b h
 images-bit (xs ∷ inputs) (n ∷ ns) zero b h = mirrored-bit xs n b h
 images-bit (xs ∷ inputs) (n ∷ ns) (suc k) b h = images-bit inputs ns k b h
 
-number-bit : (inputs : List (List ℕ)) (ns : List ℕ) (l b : ℕ) → bit_of (at_number inputs l []) b ≡ false
-    → bit_of (at_number (mirror_images inputs ns) l []) b ≡ false
-number-bit inputs ns l b h = search (rules, images-bit)
-
 -- a mirror guards by the same bit
 pub mirror_guards : (inputs : List (List ℕ)) (ns : List ℕ) (o i : Bit) → is_same_bit o i ≡ true → bit_at inputs i ≡ false → bit_at (mirror_images inputs ns) o ≡ false
-mirror_guards inputs ns o i h k = search (rules, number-bit)
+mirror_guards inputs ns o i h k = search (rules, images-bit)

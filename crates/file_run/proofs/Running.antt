@@ -1,5 +1,5 @@
 -- A run over the events of an input, whatever they do: what was read of it and what was written.
-use Rattle.file_run.proofs.Common.{Always, AtEnd, BeginsReport, Blames, CameToEnd, Consumes, Ended, EndsAs, EndsReport, EndsStopped, EndsUnmet, EndsWhole, Err, FindsEvent, Goes, Grew, Halt, Halts, HaltsHeader, HasNoNewline, IfSome, IfSome_then, InputCause, InputFormat, InputOf, IsFullness, IsHeaderCutOff, Keeps, Loses, MayWant, MemoryUse, NoApp, NoFrame, NoLine, None, Ok, Option, OutputView, Outside, Passes, ReadsWhole, Refusal, Refused, Reporting, ReportsReadLines, ReportsSoFar, Rose, Running, Saying, SaysSo, Seen, Sent, Some, Stalls, Standing, Status, Stop, Stopped, TakesEvent, TakesMemory, TookLines, Writes, Wrote, append-nil, false, halt_stopped, halted_by, header_read, input_by, input_cause, input_headless, input_on, input_read, input_stopped, last_of, length-append, length_push, line_of_end, lines_of, more_on, most_held, most_parts, most_waiting, prepend_known, refused_at, refused_line}
+use Rattle.file_run.proofs.Common.{Always, AtEnd, BeginsReport, Blames, CameToEnd, Consumes, Ended, EndsAs, EndsReport, EndsStopped, EndsUnmet, EndsWhole, Err, FindsEvent, Goes, Grew, Halt, Halts, HaltsHeader, HasNoNewline, IfSome, IfSome_then, InputCause, InputFormat, InputOf, IsFullness, IsHeaderCutOff, Keeps, Loses, MayWant, MemoryUse, NoApp, NoFrame, NoLine, None, Ok, Option, OutputView, Outside, Passes, ReadsWhole, Refusal, Refused, Reporting, ReportsReadLines, ReportsSoFar, Rose, Running, Saying, SaysSo, Seen, Sent, Some, Stalls, Standing, Status, Stop, Stopped, TakesEvent, TakesMemory, Writes, Wrote, append-nil, false, halt_stopped, halted_by, header_read, input_by, input_cause, input_headless, input_on, input_read, input_stopped, last_of, length-append, length_push, line_of_end, lines_of, more_on, most_held, most_parts, most_waiting, prepend_known, refused_at, refused_line}
 use Rattle.std.proofs.Common.{◌≡◌, ℕ, ◌+◌, ◌*◌, ◌≤◌, ◌<◌, Bool, List, [], ◌∷◌, ◌++◌, length, refl, arith, ap, ◌∙◌, sym, subst, rules}
 use Rattle.fsoe_io.specs.declared.status.Status.TheVariants as status
 use Rattle.schedule_file.specs.declared.event.TheConstants.{MAX_EVENTS}
@@ -9,7 +9,7 @@ use Rattle.file_run.specs.declared.stopped.Stopped.TheVariants as stopped
 use Rattle.file_run.proofs.Lines.{by_line}
 use Rattle.file_run.proofs.Seen.{has_event, seen_none, seen_more, seen_same, input_refused, input_ended}
 use Rattle.file_run.proofs.Sending.{sent_none, sent_piece, sent_flushed, piece_part, text_part, begins_whole, ends_write, ends_written, rose_since}
-use Rattle.file_run.proofs.Taken.{took_line, took_still, took_then}
+use Rattle.file_run.proofs.Taken.{took_line, took_then}
 
 -- a machine's texts are first parts of reports
 abbrev pub Reports : {H L E : Type 0} → Reporting H L E → Standing H E → Type 0
@@ -292,11 +292,7 @@ ends_halted r stands says full o b held w1 read faults waiting events lines now 
     (reads_failed r says full o b held k.heading k.header k.log k.text k.same (fullness k.heading k.log k.text k.count k.stood) k.seen so_far goes.1 stalls) in
     ends_written r o w1 faults waiting k.text [] (halted_by (halt.Read count)) result k.sent writes later
     (begins_nothing r o.source.before k.text (begun r stands says o.source.before b o.sink.before w1 waiting events lines reports k))
-    (λ grew. record {
-      read = (held, stalls, subst (λ (n : ℕ). TookLines n o.source.before (prepend_known held o.source.after)) (sym goes.0) (took_still lines o.source.before b (prepend_known held o.source.after) k.took goes.1));
-      wrote = wrote_read r count o k.text grew reads;
-      cause = rose_since o.source.faults_before read o.source.faults_after read_later blames;
-    })
+    (λ grew. (search (rules, wrote_read, rose_since)))
 ends_halted r stands says full o b held w1 read faults waiting events lines now halt.Memory result reports k finds fullness goes stalls most blames read_later writes later = absurd finds
 ends_halted r stands says full o b held w1 read faults waiting events lines now (halt.Refused number why) result reports k finds fullness goes stalls most blames read_later writes later =
     let so_far = reports k.heading k.log k.text k.stood in

@@ -1,5 +1,5 @@
 -- The events of an input that were read.
-use Rattle.file_run.proofs.Common.{AtEnd, Consumes, Err, InputCause, InputFormat, IsLine, IsWholeHeader, LineCause, Lines, None, Ok, Option, Refused, Result, Seen, Some, append-nil, codes, common_steps, consumes_then, first_line, input_by, input_on, input_read, lines_of, says_after, says_by}
+use Rattle.file_run.proofs.Common.{AtEnd, Consumes, Err, InputCause, InputFormat, IsLine, IsWholeHeader, LineCause, Lines, None, Ok, Option, Refused, Result, Seen, Some, append-nil, common_steps, consumes_then, first_line, input_by, input_on, input_read, lines_of, says_after, says_by}
 use Rattle.std.proofs.Common.{◌≡◌, ℕ, ◌+◌, Bool, false, List, [], ◌∷◌, ◌++◌, length, ap, ◌∙◌, subst, append_assoc, arith, rules}
 use Rattle.file_run.proofs.Lines.{lines_whole}
 
@@ -39,7 +39,7 @@ pub record HasEvent {L E : Type 0} (event : L → Option E) (full : Bool) (said 
   pub is : event line ≡ Some this
 
 pub has_event : {L E : Type 0} (event : L → Option E) (says : List ℕ → Result L LineCause) (full : Bool) (text : List ℕ) (this : E) → says_after event says full text ≡ Ok (Some this) → HasEvent event full (says text) this
-has_event event says full text this h = search (rules, codes)
+has_event event says full text this h = search rules
 
 -- an input whose next line is refused
 pub input_refused : {H L E : Type 0} (f : InputFormat H L E) (says : List ℕ → Result L LineCause) (full : Bool) (h : H) (n : ℕ) (log : List E) (rest : Lines) (why : InputCause)

@@ -1,6 +1,6 @@
 -- Whole lines that are taken one after another.
 use Rattle.file_run.proofs.Common.{Bool, Consumes, Err, Goes, Halt, Halts, Held, IsLine, Option, Stalls, TookLines, TookOneAtMost, append-nil, consumes_then, from_line, joined, length-append, length_push, most_held, prepend_known}
-use Rattle.std.proofs.Common.{◌≡◌, ℕ, ◌+◌, List, [], ◌∷◌, ◌++◌, ◌≤◌, length, refl, ap, arith, ◌∙◌, sym, subst, append_assoc}
+use Rattle.std.proofs.Common.{◌≡◌, ℕ, ◌+◌, List, [], ◌∷◌, ◌++◌, ◌≤◌, length, refl, ap, arith, ◌∙◌, sym, subst, append_assoc, rules}
 use Rattle.std.proofs.lemmas.List.Elements.{All-append, All-push}
 use Rattle.file_run.specs.declared.halt.Halt.TheVariants as halt
 
@@ -20,8 +20,7 @@ line_taken reader left = grind arith
 -- a line more
 pub took_line : (k lines : ℕ) (a b c : Option (List ℕ)) (line : List ℕ) → TookLines k a b → IsLine line → Consumes b c (line ++ 10 ∷ []) → lines ≡ k + 1 → TookLines lines a c
 took_line k lines a b c line took is goes next =
-    let whole : joined took.lines ++ (line ++ 10 ∷ []) ≡ joined (took.lines ++ line ∷ []) =
-    sym (joined-append took.lines (line ∷ []) ∙ ap (λ (z : List ℕ). joined took.lines ++ z) (append-nil (line ++ 10 ∷ []))) in
+    let whole : joined took.lines ++ (line ++ 10 ∷ []) ≡ joined (took.lines ++ line ∷ []) = search (rules, joined, joined-append) in
     record {
       lines = took.lines ++ line ∷ [];
       each = All-push IsLine took.lines line took.each is;

@@ -1,6 +1,6 @@
 -- A Reset frame that is taken: in state Reset it begins a session.
 use Rattle.master_core.proofs.Common.{Chain, Code, Command, Deed, MasterSettings, Notes, OfMaster, Outcome, Setup, State, accepts, answered_by, begins, begun, bytes_of, chain_sent, code, command_byte, deed_of, dropped, drops, first_of, frame_of, frame_sent, fresh, is_empty, makes_due, newest_crc, nonce, notes_of, on_reset_frame, option_or, own_link, padded, piece_from, piece_len, read_back, receives, seal, sends, session_payload, since, state_of, taken, taken_crc, takes_frame, view_in}
-use Rattle.std.proofs.Common.{◌≡◌, ℕ, ◌-◌, ◌*◌, ◌==◌, Bool, true, false, List, ◌∷◌, length, Option, Some, None, unwrap_or, if◌then◌else◌, refl, sym, ap, subst, ◌∙◌}
+use Rattle.std.proofs.Common.{◌≡◌, ℕ, ◌-◌, ◌*◌, ◌==◌, Bool, true, false, List, ◌∷◌, length, Option, Some, None, unwrap_or, if◌then◌else◌, refl, sym, ap, subst, ◌∙◌, rules}
 use Rattle.fsoe_base.specs.declared.command.Command.TheVariants as command
 use Rattle.fsoe_base.specs.declared.command.State.TheVariants as state
 use Rattle.fsoe_base.specs.declared.did.Dropped.TheVariants as why
@@ -51,11 +51,7 @@ begins-after ms e bytes h a s =
           ∙ ap (λ (chain : Chain). chain_sent chain 0 command.Session (first_load ms e)) none)
           (ap (λ (i : ℕ). session_payload i ms.profile) (there _ _ 0 id_is)) (none_before _ c (ap (λ (n : Notes). n.session) h)) (sym (a.back r))))
           refl;
-      sound = record {
-        in_state = record { kept_is = refl; id_is = is-there _ _ id_is; some = positive _; no_connection = ap (λ (n : Notes). n.connection) h; no_parameter = ap (λ (n : Notes). n.parameter) h };
-        offer_len = s.offer_len;
-        young = ms.some_watchdog;
-      };
+      sound = search (rules, is-there, positive);
     }
 
 begins-sent : (ms : MasterSettings) (e : List Deed) (bytes : List ℕ) → notes_of ms e ≡ no_notes ms

@@ -76,13 +76,7 @@ at-reply ms old new frame e None r made = absurd (cc (r.rest, made.due))
 at-reply ms old new frame e (Some p) r made =
     let d : Delivery = delivery_after ms e p in
     let done = made.replies.did d r.waits ∙ ap (λ (b : Bool). record p.did { sent = b }) r.due in
-    record {
-      is_after =
-          subst (λ (y : Deed). MasterIsAfter ms new (y ∷ e))
-          (same_deed (move.Deliver p.bytes) _ _ _ _ done (sym (made.replies.sent d r.waits)))
-          (made.replies.is_after d r.waits);
-      rest = made.done;
-    }
+    assumption (subst (λ (y : Deed). MasterIsAfter ms new (y ∷ e)) (same_deed (move.Deliver p.bytes) _ _ _ _ done (sym (made.replies.sent d r.waits))) (made.replies.is_after d r.waits), made.done)
 
 -- all calls
 reached : (ms : MasterSettings) (first last : MasterView) (calls : List Call) → MasterIsAfter ms first [] → Called first calls last → Reached ms last (deeds_of calls) (pending calls)

@@ -1,11 +1,10 @@
 -- When the pieces of a payload are all sent.
 use Rattle.master_core.proofs.Common.{MasterSettings, OfMaster, piece_len}
 use Rattle.std.proofs.Common.{◌≡◌, ℕ, zero, suc, ◌+◌, ◌-◌, ◌*◌, ◌/◌, ◌<◌, ◌≤◌, nat_le, nat_lt, not, sym, ap, ◌∙◌, suc-mul, arith, rules}
-use Rattle.end_model.proofs.IdFront.{positive}
 
 -- a piece has a byte
 pub some_piece : (ms : MasterSettings) → 0 < piece_len (OfMaster ms)
-some_piece ms = search (rules, positive)
+some_piece ms = search rules
 
 -- a piece is at most as long as a frame of the master
 pub piece_own : (ms : MasterSettings) → piece_len (OfMaster ms) ≤ ms.lengths.master

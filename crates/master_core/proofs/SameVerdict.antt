@@ -1,5 +1,5 @@
 -- The tests of the machine end as those of looking back.
-use Rattle.master_core.proofs.Common.{Accepted, Code, Command, Deed, Dropped, Frame, MasterSettings, OfMaster, Opened, State, accepted, accepted_by, code, drops, first_of, fits, fits_next, frame_len, frame_of, kept, kit_of, master_allows, notes_of, on_reset_view, on_session, opened, own_crc, phase_in, refuses, settles, since, state_of, view_in}
+use Rattle.master_core.proofs.Common.{Accepted, Code, Command, Deed, Dropped, Frame, MasterSettings, OfMaster, Opened, State, accepted, accepted_by, code, drops, first_of, frame_len, frame_of, kept, kit_of, master_allows, notes_of, on_reset_view, on_session, opened, own_crc, phase_in, refuses, settles, since, state_of, view_in}
 use Rattle.std.proofs.Common.{◌≡◌, ◌≢◌, ℕ, Bool, true, false, List, length, Option, sym, ap, subst, arith, rules}
 use Rattle.fsoe_base.specs.declared.command.Command.TheVariants as command
 use Rattle.fsoe_base.specs.declared.did.Dropped.TheVariants as dropped
@@ -33,9 +33,6 @@ pub data Same (p : State) (ms : MasterSettings) (e : List Deed) (bytes : List �
 kept-same : (p : State) (ms : MasterSettings) (e : List Deed) → SoundAt p ms e → machine.kept_in (phase_in p ms (notes_of ms e)) ≡ kept (since e)
 kept-same p ms e h = grind arith
 
-fits-same : (p : State) (ms : MasterSettings) (e : List Deed) (f : Frame) → SoundAt p ms e → fits_next (machine.chain_of (phase_in p ms (notes_of ms e))) f ≡ fits (OfMaster ms) (since e) f
-fits-same p ms e f h = search (rules, own_crc)
-
 -- a frame of a session, by its three tests
 by-tests : (p : State) (ms : MasterSettings) (e : List Deed) (bytes : List ℕ) (c : Command) (a h t a' h' t' : Bool)
     → a ≡ a' → h ≡ h' → t ≡ t' → (a' ≡ true → Came p ms bytes c)
@@ -49,7 +46,7 @@ by-tests p ms e bytes c false h t a' h' t' i j k s = rw (← i) (Refuses (code 0
 session-same : (p : State) (ms : MasterSettings) (e : List Deed) (bytes : List ℕ) (c : Command) → state_of (OfMaster ms) e ≡ p → c ≢ command.Reset
     → length bytes ≡ frame_len ms.lengths.slave → SoundAt p ms e
     → Same p ms e bytes (model.judged (OfMaster ms) e (opened_as.OfSession (record { command = c; frame = came ms bytes }))) (accepted_by (view_in p ms e) (opened_as.OfSession (record { command = c; frame = came ms bytes })))
-session-same p ms e bytes c h k l m = search (rules, by-tests, fits-same)
+session-same p ms e bytes c h k l m = search (rules, by-tests, own_crc)
 
 by-opened : (p : State) (ms : MasterSettings) (e : List Deed) (bytes : List ℕ) (again : Bool) (w : Opened) → state_of (OfMaster ms) e ≡ p → SoundAt p ms e
     → Tested ms.lengths.slave again bytes w → Same p ms e bytes (model.judged (OfMaster ms) e w) (accepted_by (view_in p ms e) w)

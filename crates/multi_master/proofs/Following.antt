@@ -1,6 +1,6 @@
 -- What a call does, from what it does to the masters, the inputs and the application.
-use Rattle.multi_master.proofs.Common.{AllZip, AnswersTick, AppView, Call, ChangeApp, Connection, Cycles, Did, Follows, GuardsBy, IsSound, IsWhere, MasterSettings, MasterView, Meant, MultiView, PutsEach, RunsCycle, StandsFor, Tick, TicksEach, all_tick, answer, changed_from, meant, numbers_of, offer_at, offer_len, outputs_at, own_len, with_cycle, with_offers}
-use Rattle.std.proofs.Common.{◌≡◌, ℕ, List, [], ◌∷◌, map, Some, Bool, true, false, refl, sym, ap, ap₂, subst, ◌∙◌, arith}
+use Rattle.multi_master.proofs.Common.{AllZip, AnswersTick, AppView, Call, ChangeApp, Connection, Cycles, Did, Follows, GuardsBy, IsSound, IsWhere, MasterSettings, MasterView, Meant, MultiView, PutsEach, RunsCycle, StandsFor, Tick, TicksEach, all_tick, answer, changed_from, meant, numbers_of, offer_len, outputs_at, own_len, with_cycle, with_offers}
+use Rattle.std.proofs.Common.{◌≡◌, ℕ, List, [], ◌∷◌, map, Some, Bool, true, false, refl, sym, ap, ap₂, subst, ◌∙◌, arith, rules}
 use Rattle.failsafe_io.specs.declared.bit.Bit.{Bit}
 use Rattle.multi_master.proofs.Putting.{puts_where, all_shown, offers_put, all_outputs_put, puts_told}
 use Rattle.multi_master.proofs.Ticking.{ticks_where, ticks_read, ticks_did, ticks_sent, told_ticked}
@@ -50,10 +50,7 @@ cycle_done m old new ticked inputs middle masters told a i w r =
       app_is = both.1;
       inputs_are = inputs_after;
       told_are = p.changed_are ∙ sym (puts_told 1 m.connections p.steps shown) ∙ ap (λ (loads : List (List ℕ)). numbers_of (changed_from 1 m.connections loads)) load;
-      sound = record {
-        answered = ap (λ (loads : List (List ℕ)). map offer_at (with_offers loads m.connections)) (sym load) ∙ offers_put m.connections p.steps shown ∙ load;
-        guarded = guards_alike old.guards m.app.guards inputs _ r.answers _ (ap (λ (app : AppView). app.guards) a) inputs_after both.0 r.cycle.guarded;
-      };
+      sound = search (rules, offers_put, guards_alike);
     }
 
 -- a tick of all connections

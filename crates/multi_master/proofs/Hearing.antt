@@ -1,6 +1,6 @@
 -- A frame that is taken, or ends a session, among many masters: the answers are put while its master's frame is due.
 use Rattle.multi_master.proofs.Common.{All-head, All-tail, AllZip, Connection, Did, IsPutStep, IsWhere, MasterView, PutStep, Replies, Waits, is_due, is_offer, next_deed, outputs_at, with_event, with_offer, with_offers}
-use Rattle.std.proofs.Common.{◌≡◌, ℕ, zero, suc, List, [], ◌∷◌, map, slice_get, slice_set, Some, All, Bool, if◌then◌else◌, refl, sym, ap, subst, ◌∙◌, arith}
+use Rattle.std.proofs.Common.{◌≡◌, ℕ, zero, suc, List, [], ◌∷◌, map, slice_get, slice_set, Some, All, Bool, if◌then◌else◌, refl, sym, ap, subst, ◌∙◌, arith, rules}
 use Rattle.param_load.specs.declared.entry.Move.TheVariants as move
 use Rattle.multi_master.proofs.Putting.{IsShown, delivery_at, shown_due, put_due, puts_where, all_shown, put_at_rest, shown_at_rest, outputs_put}
 
@@ -52,13 +52,4 @@ replied (c0 ∷ cs) (m ∷ olds) (x ∷ xs) (suc k) c accepted ready last bytes 
     let at : IsWhere c0 x.old = subst (λ (v : MasterView). IsWhere c0 v) old h.0 in
     let one : IsPutStep x = All-head IsPutStep x xs s in
     let p = replied cs olds xs k c accepted ready last bytes frame did h.1 g rest (All-tail IsPutStep x xs s) w n r in
-    record {
-      there = p.there;
-      is = p.is;
-      masters = (put_at_rest c0 x at one, p.masters);
-      shown = (shown_at_rest c0 x at one, p.shown);
-      settings_are = p.settings_are;
-      outputs_are = p.outputs_are;
-      did_is = p.did_is;
-      sent_is = p.sent_is;
-    }
+    search (rules, put_at_rest, shown_at_rest)

@@ -1,27 +1,20 @@
 -- The watchdog of an upload stays as it came.
-use Rattle.std.proofs.Common.{◌≡◌, ℕ, ◌+◌, ◌<◌, nat_le, nat_lt, Bool, true, false, ◌&&◌, not, List, ◌++◌, length, Option, Some, None, if◌then◌else◌, arith, rules}
+use Rattle.std.proofs.Common.{◌≡◌, ℕ, ◌+◌, ◌<◌, List, ◌++◌, length, Option, None, arith, rules}
 use Rattle.std.specs.Option.{option_or}
 use Rattle.std.proofs.lemmas.List.{get_or_append_left}
-use Rattle.std.proofs.lemmas.Bool.Decides.{leb_tells}
 use Rattle.fsoe_base.specs.declared.command.Code.{Code}
 use Rattle.param_load.specs.declared.contents.Expected.{Expected}
 use Rattle.param_load.specs.declared.app_rule.AppRule.{AppRule}
-use Rattle.param_load.specs.Contents.{fails, contents_fault}
+use Rattle.param_load.specs.Contents.{contents_fault}
 use Rattle.param_load.specs.Payload.{number_at}
 use Rattle.param_load.specs.Upload.{HasWatchdog}
 
 pub first : (a b : Option Code) → option_or a b ≡ None → a ≡ None
 first a b h = grind arith
 
-second : (t t' : Bool) (x y : Code) (z : Option Code) → (if t then Some x else if t' then Some y else z) ≡ None → t' ≡ false
-second t t' x y z h = grind arith
-
 stays : (u p : List ℕ) → 3 < length u → number_at 2 (u ++ p) ≡ number_at 2 u
 stays u p h = grind (arith, get_or_append_left u p 0 2 (omega arith), get_or_append_left u p 0 3 h)
 
-passes : (w most : ℕ) (t : Bool) → t ≡ true → (t && not (nat_lt 0 w && nat_le w most)) ≡ false → 0 < w
-passes w most t h e = grind arith
-
 -- the watchdog of the joined bytes isn't 0 where no test fails
 pub joined_watchdog : (e : Expected) (rule : AppRule) (u p rest : List ℕ) → HasWatchdog e u → contents_fault e rule (length u) (u ++ p) rest ≡ None → HasWatchdog e (u ++ p)
-joined_watchdog e rule u p rest h k = search (rules, leb_tells, passes, number_at, stays, first, second, fails)
+joined_watchdog e rule u p rest h k = search (rules, stays)

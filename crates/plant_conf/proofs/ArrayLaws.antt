@@ -74,7 +74,7 @@ array-none kind d vs h k = search (rules, array-given)
 -- an array of texts as wires, and one of other values
 pub wires-read : (key : Key) (d : Data) (vs : List Value) (r : Result (List Wire) ConfFault) → Some (items_of (map view vs)) ≡ as_array d → is_some (all_give as_str (map view vs)) ≡ true
     → value_or (fault.Range key) (all_give wire_in (map view vs)) ≡ r → wires key d ≡ r
-wires-read key d vs r h k l = search (rules, array-given, given-texts, view)
+wires-read key d vs r h k l = search (rules, array-given, given-texts)
 
 pub wires-kind : (key : Key) (d : Data) (vs : List Value) → Some (items_of (map view vs)) ≡ as_array d → is_some (all_give as_str (map view vs)) ≡ false → wires key d ≡ Err (fault.Kind key)
 wires-kind key d vs e un = rw (array-none as_str d vs e un) refl
@@ -91,7 +91,7 @@ count-at of document key d vs h k l m = grind (arith, common_steps, count-cases)
 pub all_of-read : {B : Type 0} (of : KeyTable) (says : ℕ → Members → Result B ConfFault) (document : Members) (key : Key) (d : Data) (vs : List Value) (r : Result (List B) ConfFault)
     → key ≡ whole of → Some d ≡ value_at key document → as_array_of as_table d ≡ all_give as_table (map view vs) → is_some (all_give as_table (map view vs)) ≡ true
     → each (entry says key) 1 (map view vs) ≡ r → all_of of says document ≡ r
-all_of-read of says document key d vs r h k l m n = search (rules, whole, view, each-entry)
+all_of-read of says document key d vs r h k l m n = search (rules, each-entry)
 
 links-cases : (key : Key) (ds : List Data) (o : Option (List Members)) (r : Result (List LinkValues) ConfFault) → o ≡ all_give as_table ds → is_some o ≡ true → 0 < length ds
     → each (entry connection key) 1 ds ≡ r → (value_or (fault.Kind key) o >>= (λ ts. value_or (fault.Range key) (Some ts))) >>= (λ ts. some_tables ts >>= (λ us. each connection 1 us)) ≡ r

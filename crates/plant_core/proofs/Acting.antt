@@ -1,6 +1,6 @@
 -- What the slave or the master of a connection does and what is pushed, and what those of all connections do in a tick.
 use Rattle.plant_core.proofs.Common.{ActedTo, All-head, All-push, All-tail, All-weaker, AllActed, AreNoted, Did, End, Entry, HasAgeParts, HaveParts, IsSomeAnd, Lengths, LinkConf, LinkIs, LinkStands, LinkView, LinksAre, MasterActs, MasterNoted, Move, NotesOne, Placed, SlaveActs, SlaveGoesOn, Told, Trace, Use, append-nil, drop-set-lt, drop_more, each_uses, fixed_in, fixed_of, frames_pushed, get_or_from_slice_get, le-ltb, lengths_at, lengths_kept, lt-ltb, map_set, one_each, one_each_to, place_of, same_length, sent_uses, slice_get-map, slice_get_within, take_all, take_more_set}
-use Rattle.std.proofs.Common.{◌≡◌, ◌≢◌, ◌≤◌, ℕ, zero, suc, ◌+◌, nat_lt, Bool, true, List, [], ◌∷◌, ◌++◌, take, drop, length, slice_get, slice_set, Option, Some, None, option_map, if◌then◌else◌, refl, sym, ap, ap₂, subst, ◌∙◌, append_assoc, arith}
+use Rattle.std.proofs.Common.{◌≡◌, ◌≢◌, ◌≤◌, ℕ, zero, suc, ◌+◌, nat_lt, Bool, true, List, [], ◌∷◌, ◌++◌, take, drop, length, slice_get, slice_set, Option, Some, None, option_map, if◌then◌else◌, refl, sym, ap, ap₂, subst, ◌∙◌, append_assoc, arith, rules}
 use Rattle.fsoe_base.specs.declared.command.End.TheVariants as side
 use Rattle.plant_core.proofs.Linking.{each_at, each_from, each_set, each_count}
 
@@ -74,11 +74,7 @@ acted_more i n to links cut done next vs old new first before after h at e acts 
     record {
       kept = each_set (LinkIs cut (one_each_to i next done)) (LinkIs cut (one_each_to n next done)) 1 links vs i n old new h.kept at (omega arith)
           (λ link is p.
-          record {
-            stands = subst (λ (b : Bool). LinkStands link new (if b then done n link else next n link ∷ done n link)) (sym (le-ltb n n (omega arith)))
-                (acts link is (acted_here i n done next link old (lt-ltb i n (omega arith)) p.stands)).stands;
-            cut = cut_is ∙ p.cut;
-          })
+          search (rules, le-ltb, acted_here, lt-ltb))
           (λ m link v other p.
           record {
             stands = subst (λ (b : Bool). LinkStands link v (if b then done m link else next m link ∷ done m link)) (same_side i n m e other) p.stands;
@@ -97,10 +93,7 @@ acted_all i to links cut done next vs first last past h =
     record {
       kept = each_from (LinkIs cut (one_each_to i next done)) (LinkIs cut (one_each next done)) 1 links vs h.kept
           (λ n link v from below p.
-          record {
-            stands = subst (λ (b : Bool). LinkStands link v (if b then done n link else next n link ∷ done n link)) (le-ltb i n (omega arith)) p.stands;
-            cut = p.cut;
-          });
+          assumption (subst (λ (b : Bool). LinkStands link v (if b then done n link else next n link ∷ done n link)) (le-ltb i n (omega arith)) p.stands, p.cut));
       channel = subst (λ (ls : List LinkConf). Trace (frames_pushed to next cut ls) first last) (take_all i links (omega arith)) h.channel;
     }
 
@@ -148,7 +141,4 @@ pub master_one : (i n : ℕ) (links : List LinkConf) (done : ℕ → LinkConf �
     → LinkStands link old (done n link) → OneActed n side.Slave link done next old new before after
 master_one i n links done next dids frames link did sent old new before after e parts is did_at out_at acts h =
     let own : HasAgeParts (next n link) side.Master true [] did sent None = subst (λ (k : ℕ). HasAgeParts (next k link) side.Master true [] did sent None) (sym e) (parts.each i link did sent is did_at out_at) in
-    record {
-      stands = acts.stands link (done n link) (next n link) h own;
-      channel = subst (λ (f : List ℕ). Trace (sent_uses (place_of n side.Slave) f old.cut) before after) (sym own.parts.sent_is) acts.channel;
-    }
+    assumption (acts.stands link (done n link) (next n link) h own, subst (λ (f : List ℕ). Trace (sent_uses (place_of n side.Slave) f old.cut) before after) (sym own.parts.sent_is) acts.channel)

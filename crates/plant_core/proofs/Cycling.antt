@@ -185,8 +185,7 @@ frame_parts b done old n place frame did sent terms link steps e is call h answe
     let x : Entry = next_of side.Master (move.Deliver frame) link (pair link n steps) in
     let c : Connection = master_with link (pair link (suc place) (journal b (act ∷ done))) in
     let grown : pair link n (steps ++ step.Pulled parcel ∷ []) ≡ x ∷ pair link n steps = pair_own link steps (step.Pulled parcel) n side.Master (move.Deliver frame) (record { part = λ k. refl }) in
-    let deeds_are : c.deeds ≡ deed_in x ∷ deeds side.Master (pair link n steps) =
-    ap (λ (k : ℕ). deeds side.Master (pair link k (journal b (act ∷ done)))) (sym e) ∙ ap (deeds side.Master) (ap (pair link n) journal_is ∙ grown) in
+    let deeds_are : c.deeds ≡ deed_in x ∷ deeds side.Master (pair link n steps) = search (rules, pair) in
     let m : Meant = meant (settings b) b.app (Deliver n frame ∷ calls b done) in
     let meant_is : masters b (act ∷ done) ≡ m = ap (λ (o : Option Call). meant (settings b) b.app (option_to_list o ++ calls b done)) call in
     let there : connection n m ≡ Some c = ap₂ connection e (sym meant_is) ∙ mastered b (act ∷ done) place link is in

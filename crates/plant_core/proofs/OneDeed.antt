@@ -117,8 +117,7 @@ slave_acted b act done old new s n what before after a c h =
     let cut : ℕ → Bool = λ k. is_cut k (act ∷ done) in
     let steps : List JournalStep = old.journal in
     let beside = each_at (LinkIs (λ k. is_cut k done) (pairs_by steps)) 1 b.links old.links c.place n c.was h.links c.placed.at (from_one n c.place c.placed.number) in
-    let links : LinksAre b.links cut (pairs_by steps) old.links =
-    each_map (LinkIs (λ k. is_cut k done) (pairs_by steps)) (LinkIs cut (pairs_by steps)) 1 b.links old.links h.links (λ k link v p. record { stands = p.stands; cut = p.cut ∙ sym (a.cuts k done) }) in
+    let links : LinksAre b.links cut (pairs_by steps) old.links = grind (arith, each_map) in
     let journal_is : new.journal ≡ journal b (act ∷ done) =
     c.journal ∙ ap₂ (λ (xs ys : List JournalStep). xs ++ ys) h.journal_is (sym a.steps) ∙ sym (quiet_journal b act done a.call) in
     act_done b act done old new (slice_set old.links c.place c.is) (steps ++ s ∷ []) (next_uses n side.Slave what beside.link (pair beside.link n steps) c.was.cut) before after h c.links c.journal journal_is

@@ -1,6 +1,6 @@
 -- A plant tells whether a bound is still.
-use Rattle.plant_core.proofs.Common.{Act, Beginning, BoundSpec, JournalStep, LinkConf, LinkIs, LinkView, OfSlave, Placed, PlantStands, PlantView, ShowsApp, TellsStill, Unset, bit_of, calls, deeds, held, is_cut, is_guarded, is_off, journal, link_at, next_offered, of_end, offer, offers_bit, option_map_or, pair, pairs_by, settings, slave_offers}
-use Rattle.std.proofs.Common.{◌≡◌, ℕ, Bool, false, ◌&&◌, not, List, Option, Some, sym, ap, ap₂, subst, ◌∙◌}
+use Rattle.plant_core.proofs.Common.{Act, Beginning, BoundSpec, LinkIs, LinkView, OfSlave, Placed, PlantStands, PlantView, ShowsApp, TellsStill, bit_of, calls, deeds, held, is_cut, is_guarded, is_off, journal, link_at, next_offered, of_end, offer, offers_bit, pair, pairs_by, settings, slave_offers}
+use Rattle.std.proofs.Common.{◌≡◌, ℕ, Bool, false, ◌&&◌, not, List, Some, sym, ap, ap₂, subst, ◌∙◌, rules}
 use Rattle.fsoe_base.specs.declared.command.End.TheVariants as side
 use Rattle.slave_core.specs.Standing as slave_core
 use Rattle.plant_model.proofs.KeptOff.{offers_is}
@@ -15,9 +15,7 @@ offer_told v bound place l on p s b acts h =
     let found : link_at b.links k ≡ Some beside.link = subst (λ (j : ℕ). link_at b.links j ≡ Some beside.link) (sym p.number) beside.is in
     let shown : on ≡ offers_bit bound.estop.bit (next_offered (of_end side.Slave (pair beside.link k v.journal))) =
     s.shows beside.link.slave (deeds side.Slave (pair beside.link k v.journal)) beside.holds.stands.slave ∙ sym (offers_is (OfSlave beside.link.slave) side.Slave bound.estop.bit (pair beside.link k v.journal)) in
-    let meant : offers_bit bound.estop.bit (slave_offers b k acts) ≡ offers_bit bound.estop.bit (next_offered (of_end side.Slave (pair beside.link k v.journal))) =
-    ap (λ (o : Option LinkConf). offers_bit bound.estop.bit (option_map_or (λ link. next_offered (of_end side.Slave (pair link k (journal b acts)))) o Unset)) found
-    ∙ ap (λ (js : List JournalStep). offers_bit bound.estop.bit (next_offered (of_end side.Slave (pair beside.link k js)))) (sym h.has_done.journal_is) in
+    let meant : offers_bit bound.estop.bit (slave_offers b k acts) ≡ offers_bit bound.estop.bit (next_offered (of_end side.Slave (pair beside.link k v.journal))) = search (rules, pair) in
     ap not (shown ∙ sym meant)
 
 -- so it is told whether a bound is still

@@ -90,10 +90,7 @@ kept_acts b bound estop drive (Happen said ∷ done) links s ce cd =
     let e = clean_before estop bound.estop.link (journal b done) more ce in
     let d = clean_before drive bound.drive.link (journal b done) more cd in
     let k = kept_line b bound estop drive done (is_ticking done) (heard_before b bound done) links e d (kept_acts b bound estop drive done links s.1 e d) in
-    record {
-      quiet = λ n quiet on. let q = k.quiet n quiet in quiet_act b bound (Happen said) done n s (still_on b bound said done (is_tick (line_step said)) refl on q.still) q;
-      none = k.none;
-    }
+    search (rules, quiet_act, still_on)
 kept_acts b bound estop drive (PullFrom gift ∷ done) links s ce cd =
     let act : Act = PullFrom gift in
     let more : List JournalStep = steps_of act (offers b act done) in

@@ -1,7 +1,6 @@
 -- How the entries of a pair grow with the journal, and which frames are pushed then.
 use Rattle.plant_model.proofs.Common.{End, Entry, JournalStep, LinkConf, MasterSettings, Move, SlaveSettings, Use, append-nil, deeds, each_uses, end_of_event, entry_at, entry_on, eq-eqb, flat_map-append, frames_of, going_on, if_same, is_empty, move_from, newer, next_entry, next_of, own_events, own_part, pair, pairs_by, peer, place_of, push_to, pushes_of, same_end, sent_uses, setup_of, world_after}
 use Rattle.std.proofs.Common.{◌≡◌, ◌≢◌, ◌<◌, ℕ, zero, suc, ◌+◌, ◌-◌, ◌==◌, Bool, false, List, [], ◌∷◌, ◌++◌, map, slice_get, Option, Some, if◌then◌else◌, refl, sym, ap, ap₂, subst, ◌∙◌, arith, rules}
-use Rattle.std.proofs.lemmas.Bool.Decides.{eqb_tells}
 use Rattle.param_load.specs.declared.entry.Move.TheVariants as move
 use Rattle.schedule_file.specs.declared.event.Event.{Event}
 use Rattle.schedule_file.specs.declared.event.Event.TheVariants as at
@@ -28,7 +27,7 @@ events_plain k [] = tt
 events_plain k (s ∷ steps) = plain_append (own_part k s) (own_events k steps) (step_plain k s) (events_plain k steps)
 
 pub not_same : (n k : ℕ) → n ≢ k → (n == k) ≡ false
-not_same n k h = search (rules, eqb_tells)
+not_same n k h = search rules
 
 -- an event that names no frame, at an end
 abbrev pub event_for : End → Move → Event

@@ -1,8 +1,8 @@
 -- The bits of a bound at the master of many connections and in the pairs: what the application reads is what the master
 -- of a pair has, and what it answers is what that master offers. Acts and entries are listed newest first.
-use Rattle.plant_model.proofs.Common.{Act, Beginning, Bit, Call, Connection, End, Entry, FailSafe, IsWorld, LinkConf, MasterSettings, OfMaster, SameLengths, Setup, SlaveSettings, bit_at, bit_of, call_of, calls, cycle_in, cycle_of, deed_in, deeds, event_keeps, inputs_after, is_held, journal, last_put, link_at, masters, meant, next_offered, of_end, offer_at, offered_put, offers_after, offers_bit, option_and_then, option_to_list, out, outputs_at, outputs_due, pair, received_len, same_end, sends, settings, setup_of}
+use Rattle.plant_model.proofs.Common.{Act, Beginning, Bit, Connection, End, Entry, FailSafe, IsWorld, LinkConf, MasterSettings, OfMaster, SameLengths, Setup, SlaveSettings, bit_at, bit_of, cycle_of, deed_in, deeds, event_keeps, inputs_after, is_held, journal, last_put, link_at, masters, next_offered, of_end, offer_at, offered_put, offers_after, offers_bit, out, outputs_at, outputs_due, pair, received_len, same_end, sends, setup_of}
 use Rattle.end_model.specs.Readiness.{held, offer}
-use Rattle.std.proofs.Common.{◌≡◌, ℕ, zero, suc, Bool, false, ◌&&◌, not, List, [], ◌∷◌, ◌++◌, map, get_or, replicate, slice_get, Option, Some, None, if◌then◌else◌, refl, sym, ap, ap₂, ◌∙◌, arith, rules}
+use Rattle.std.proofs.Common.{◌≡◌, ℕ, zero, suc, Bool, false, ◌&&◌, not, List, [], ◌∷◌, map, get_or, replicate, slice_get, Option, Some, None, if◌then◌else◌, refl, sym, ap, ap₂, ◌∙◌, arith, rules}
 use Rattle.fsoe_base.specs.declared.command.End.TheVariants as side
 use Rattle.fb_net.proofs.Bits.{zero_bit}
 use Rattle.exchange_model.proofs.Fairness.Shown.{due_is_out, receives_is}
@@ -77,10 +77,6 @@ offered_zero b bit acts link e is_off =
     ∙ ap (λ (z : Bool). not (held (deeds side.Master w)) && z) (sym (bit_in offer_at b bit.bit acts bit.link link e) ∙ is_off)
     ∙ and_false (not (held (deeds side.Master w)))
 
-keeps_by : (b : Beginning) (o : Option Call) (before : List Call) → option_and_then (λ call. cycle_in call (meant (settings b) b.app before)) o ≡ None
-    → map offer_at (meant (settings b) b.app (option_to_list o ++ before)).connections ≡ map offer_at (meant (settings b) b.app before).connections
-keeps_by b o before h = search (rules, event_keeps)
-
 -- nor does an act that runs none
 pub act_keeps : (b : Beginning) (act : Act) (acts : List Act) → cycle_of b act acts ≡ None → offers_after b (act ∷ acts) ≡ offers_after b acts
-act_keeps b act acts e = keeps_by b (call_of b act) (calls b acts) e
+act_keeps b act acts h = search (rules, event_keeps)

@@ -1,5 +1,5 @@
 -- What a journal means for a connection is proper events, so that the law of the pair holds.
-use Rattle.plant_model.proofs.Common.{Fair, HasSameLengths, IfSome, IsProperEvent, IsSomeAnd, IsTrue, JournalStep, Lengths, LinkConf, None, Option, PairsAreFair, PlantEvent, SameLengths, Some, StepFits, before_other, fair_before, link_at, option_map, own_events, own_part, pair, script_part}
+use Rattle.plant_model.proofs.Common.{Fair, HasSameLengths, IfSome, IsProperEvent, IsSomeAnd, IsTrue, JournalStep, Lengths, LinkConf, None, Option, PairsAreFair, SameLengths, Some, StepFits, before_other, fair_before, link_at, option_map, own_events, own_part, pair}
 use Rattle.std.proofs.Common.{◌≡◌, ℕ, zero, suc, ◌≤◌, ◌==◌, Bool, List, [], ◌∷◌, map, All, refl, sym, ap, subst, arith, rules}
 use Rattle.std.specs.Prelude.{if◌then◌else◌}
 use Rattle.std.proofs.lemmas.List.Elements.{All-append, All-cons, All-head, All-tail}
@@ -7,7 +7,7 @@ use Rattle.std.proofs.lemmas.Option.{slice_get-map}
 use Rattle.param_load.specs.Profile.{allows_id}
 use Rattle.param_load.specs.declared.profile.Profile.{Profile}
 use Rattle.schedule_file.specs.declared.event.Event.{Event}
-use Rattle.plant_model.specs.Fits.{EventFits, lengths_in, lengths_at}
+use Rattle.plant_model.specs.Fits.{lengths_in, lengths_at}
 
 abbrev Proper : LinkConf → Event → Type 0
 Proper link one = IsProperEvent link.master link.slave one
@@ -35,11 +35,8 @@ of_link P links k link h l = search (rules, lengths_of_link)
 pub allowed : (p : Profile) (id : ℕ) → id ≤ 65535 → IsTrue (allows_id p id)
 allowed p id h = grind arith
 
-script_proper : (links : List LinkConf) (k : ℕ) (link : LinkConf) (e : PlantEvent) → link_at links k ≡ Some link → EventFits links e → All (Proper link) (script_part k e)
-script_proper links k link e h l = search (rules, of_link)
-
 step_proper : (links : List LinkConf) (k : ℕ) (link : LinkConf) (s : JournalStep) → link_at links k ≡ Some link → StepFits links s → All (Proper link) (own_part k s)
-step_proper links k link s h l = search (rules, script_proper)
+step_proper links k link s h l = search (rules, of_link)
 
 events_proper : (links : List LinkConf) (k : ℕ) (link : LinkConf) (journal : List JournalStep) → link_at links k ≡ Some link → All (StepFits links) journal → All (Proper link) (own_events k journal)
 events_proper links k link [] found fits = none link

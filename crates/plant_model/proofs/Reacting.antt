@@ -2,7 +2,7 @@
 -- on answers the drive's bit as 0, so that its master offers it so; and its slave has it as 0 some ticks later. Acts
 -- and entries are listed newest first, steps oldest first.
 use Rattle.plant_model.proofs.Common.{Act, Answer, Beginning, BoundSpec, End, Entry, HasLinks, IfSome, IsTrue, IsWorld, JournalStep, LinkConf, NoOther, Reacts, SameLengths, StaysOff, WasOffered, append-nil, bit_at, bit_of, cases_lt, cond, cycle_of, deeds, inputs_after, is_off, is_on, is_tick, journal, link_at, of_end, offers, offers_after, older_clean, older_world, out, outputs_due, pair, peer, received_len, setup_of, steps_of, sum_by-append, ticks, ticks_of}
-use Rattle.std.proofs.Common.{◌≡◌, ◌≤◌, ◌<◌, ◌⊎◌, inl, inr, ℕ, zero, suc, ◌+◌, ◌-◌, ◌*◌, Bool, false, List, [], ◌∷◌, ◌++◌, Option, Some, None, refl, sym, ap, ap₂, subst, ◌∙◌, append_assoc, arith}
+use Rattle.std.proofs.Common.{◌≡◌, ◌≤◌, ◌<◌, ◌⊎◌, inl, inr, ℕ, zero, suc, ◌+◌, ◌-◌, ◌*◌, Bool, false, List, [], ◌∷◌, ◌++◌, Option, Some, None, refl, sym, ap, ap₂, subst, ◌∙◌, append_assoc, arith, rules}
 use Rattle.fsoe_base.specs.declared.command.End.TheVariants as side
 use Rattle.exchange_model.proofs.Offering.Offered.{was_offered}
 use Rattle.plant_model.proofs.FairPlant.{AreWorlds}
@@ -24,11 +24,7 @@ world_before link k before more h =
 pub clean_before : (link : LinkConf) (k : ℕ) (before more : List JournalStep) → Clean link k (before ++ more) → Clean link k before
 clean_before link k before more c =
     let g = grown_any side.Master link k more before in
-    record {
-      lengths = c.lengths;
-      world = world_before link k before more c.world;
-      none = older_clean g.new (pair link k before) (subst (λ (w : List Entry). NoOther w) g.is c.none);
-    }
+    assumption (c.lengths, world_before link k before more c.world, older_clean g.new (pair link k before) (subst (λ (w : List Entry). NoOther w) g.is c.none))
 
 -- an end whose peer offered a bit as 0 for that long has it as 0
 off_by : (link : LinkConf) (which : End) (bit n : ℕ) (w : List Entry) (on : Bool) → (IsTrue on → WasOffered which bit (2 * link.master.watchdog - 2) w) → (WasOffered which bit (2 * link.master.watchdog - 2) w → n ≤ 2 * link.master.watchdog - 2)
@@ -171,8 +167,7 @@ within_off b bound estop drive act later earlier us [] links q e ce cd many =
 within_off b bound estop drive act later earlier us (r ∷ rest) links q e ce cd many =
     let js : List JournalStep = journal b (later ++ earlier) in
     let most = act_ticks_most b act (later ++ earlier) in
-    let whole : ticks (journal b (act ∷ later ++ earlier)) ≡ ticks js + (ticks us + ticks (r ∷ rest)) =
-    ap (λ (z : List JournalStep). ticks (js ++ z)) e ∙ ticks_joined_steps js (us ++ r ∷ rest) ∙ ap (λ (n : ℕ). ticks js + n) (ticks_joined_steps us (r ∷ rest)) in
+    let whole : ticks (journal b (act ∷ later ++ earlier)) ≡ ticks js + (ticks us + ticks (r ∷ rest)) = search (rules, ticks, ticks_joined_steps) in
     let first = ticks_joined_steps js us in
     drive_off b bound estop drive later earlier us links q.2 (part_silent b act (later ++ earlier) us rest r e) (clean_before estop bound.estop.link js us ce) cd many (omega arith)
 
@@ -203,11 +198,7 @@ pub clean_at : (links : List LinkConf) (all : List JournalStep) (link : LinkConf
 clean_at links all link zero steps rest are is e none = absurd (cc is)
 clean_at links all link (suc place) steps rest are is e none =
     let w = are place link is in
-    record {
-      lengths = w.lengths;
-      world = world_before link (suc place) steps rest (subst (λ (js : List JournalStep). IsWorld link.master link.slave (pair link (suc place) js)) e w.world);
-      none = none;
-    }
+    assumption (w.lengths, world_before link (suc place) steps rest (subst (λ (js : List JournalStep). IsWorld link.master link.slave (pair link (suc place) js)) e w.world))
 
 -- the journal of the first acts begins that of all
 pub first_acts : (b : Beginning) (more done : List Act) → (rest : List JournalStep) × (journal b (more ++ done) ≡ journal b done ++ rest)

@@ -1,18 +1,13 @@
 -- Where the moments of a plant are still for a bound, it is quiet: no act of a tick but the line of the script changes
 -- what a slave offers, nor which application runs, and each cycle keeps off what the application guards. Acts are listed
 -- newest first, steps oldest first.
-use Rattle.plant_model.proofs.Common.{Act, AllSound, Answer, App, Beginning, Bit, BoundSpec, Deliver, End, Entry, Event, Happen, IfSome, IsSound, JournalStep, LinkConf, Meant, Move, Offered, Parcel, PullFrom, Said, StaysOff, Unset, append-nil, bit_at, changed_by, cycle_of, is_still, is_tick, journal, line_step, link_at, masters, next_of, next_offered, of_end, offer_at, offer_step, offers, offers_bit, option_map_or, outputs_at, pair}
-use Rattle.std.proofs.Common.{◌≡◌, ℕ, ◌==◌, Bool, true, false, ◌&&◌, not, List, [], ◌∷◌, ◌++◌, map, Option, Some, None, if◌then◌else◌, refl, sym, ap, ap₂, ◌∙◌, append_assoc, arith, rules}
+use Rattle.plant_model.proofs.Common.{Act, AllSound, App, Beginning, Bit, BoundSpec, Deliver, End, Entry, Event, Happen, JournalStep, LinkConf, Move, Offered, Parcel, PullFrom, Said, StaysOff, Unset, append-nil, changed_by, cycle_of, is_still, is_tick, journal, line_step, link_at, masters, next_of, next_offered, of_end, offer_step, offers, offers_bit, option_map_or, pair}
+use Rattle.std.proofs.Common.{◌≡◌, ℕ, ◌==◌, Bool, true, ◌&&◌, not, List, [], ◌∷◌, ◌++◌, map, Option, Some, None, if◌then◌else◌, refl, sym, ap, ap₂, ◌∙◌, append_assoc, arith, rules}
 use Rattle.fsoe_base.specs.declared.command.End.TheVariants as side
 use Rattle.param_load.specs.declared.entry.Move.TheVariants as move
 use Rattle.plant_model.specs.declared.event.PlantEvent.TheVariants as event
 use Rattle.plant_model.specs.declared.journal.JournalStep.TheVariants as step
 use Rattle.plant_model.proofs.Growing.{IsOne, pair_more, pair_one}
-
--- a cycle keeps off what is guarded
-keeps_by : (m : Meant) (bound : BoundSpec) (o : Option Answer) → IfSome o (IsSound m) → m.app.guards bound.drive bound.estop ≡ true
-    → IfSome o (λ a. bit_at (map outputs_at m.connections) bound.estop ≡ false → bit_at (map offer_at m.connections) bound.drive ≡ false)
-keeps_by m bound o h k = grind arith
 
 both_second : (x y : Bool) → (x && y) ≡ true → y ≡ true
 both_second x y h = grind arith
@@ -20,7 +15,7 @@ both_second x y h = grind arith
 -- an act after which a bound is still goes on with what was quiet
 pub quiet_on : (b : Beginning) (bound : BoundSpec) (act : Act) (later earlier : List Act) → AllSound b (act ∷ later ++ earlier) → is_still b bound (act ∷ later ++ earlier) ≡ true
     → StaysOff b bound later earlier → StaysOff b bound (act ∷ later) earlier
-quiet_on b bound act later earlier h k l = search (rules, keeps_by, both_second)
+quiet_on b bound act later earlier h k l = search (rules, both_second)
 
 -- what a slave does at such an event leaves what it offers; so does what a master does
 abbrev Keeps : End → Move → Type 0

@@ -2,7 +2,7 @@
 use Rattle.plant_model.proofs.Common.{Begin, EmptiesRose, GivesHeld, GrewBy, IfSome, None, Option, Parcel, Pull, Push, RoseBy, Some, ToldHolds, ToldLists, Trace, Use, common_steps, counted, empty_pulls, gifts, held_after, option_map, option_to_list, pushes}
 use Rattle.std.proofs.Common.{◌≡◌, ℕ, ◌≤◌, List, [], ◌∷◌, ◌++◌, sym, ap, subst, ◌∙◌, arith, rules}
 use Rattle.fsoe_io.specs.Faults.{Rose}
-use Rattle.black_channel.specs.Holds.{Holds, begun, pushed, pulled}
+use Rattle.black_channel.specs.Holds.{Holds, begun, pushed}
 use Rattle.black_channel.specs.Told.{Told, GrowsByGift}
 
 no_more : (told : Option (List Parcel)) → GrewBy [] told told
@@ -75,11 +75,7 @@ told_holds (Push parcel ∷ uses) old new t =
     }
 told_holds (Pull gift ∷ uses) old new t =
     let rest = told_holds uses t.0 new t.2 in
-    record {
-      gives = both (λ held. gift ≡ (pulled held).gift) (λ held. GivesHeld uses (pulled held).holds) old.holds t.1.gift
-          (of_made (GivesHeld uses) (λ held. (pulled held).holds) old.holds t.0.holds t.1.holds rest.gives);
-      holds = rest.holds ∙ made_twice (λ held. (pulled held).holds) (held_after uses) old.holds t.0.holds t.1.holds;
-    }
+    search (rules, both, made_twice)
 
 -- a pull that gave nothing counts, unless the count stays
 one_rose : (gift : Option Parcel) (n old mid new : ℕ) → old ≤ mid → (gift ≡ None → Rose old mid) → RoseBy n mid new → RoseBy (counted gift n) old new

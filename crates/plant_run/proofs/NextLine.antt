@@ -1,5 +1,5 @@
 -- A plant that runs goes on by a line of its script.
-use Rattle.plant_run.proofs.Common.{Act, App, AppView, Beginning, BoundSpec, ConfView, Ended, EndsStopped, EndsWhole, EntryOf, Event, Fits, Follows, GivenCloses, GivenStands, HearsLine, IsReportOf, IsSaid, IsTaken, JournalStep, KindOf, Lengths, LineFits, LinkConf, Named, None, Option, Parcel, PlantLine, PlantStands, PlantView, Plays, ReactionView, RunStands, Said, ScriptHeading, Some, Start, Starts, Taken, TellsOther, Terms, Told, bound_line, bound_lines, codes, common_steps, decimal, ended_with, fixed_in, happening, has_other, heard, heard_before, heard_of, is_tick, is_ticking, journal, length_push, lengths_in, lengths_kept, lengths_made, line_said, line_step, line_steps, lines_by, links_made, lowest_other, named, no_lines_by, offers, other_line, place_of, plant_reporting, reactions_after, reactions_by, rest_in, said, said_in, said_with, script_format, string_bytes, terms_of, tick_lines, ticks, ticks_text, trace_append, uses, waiting, with_line}
+use Rattle.plant_run.proofs.Common.{Act, App, AppView, Beginning, BoundSpec, ConfView, Ended, EndsStopped, EndsWhole, EntryOf, Event, Fits, Follows, GivenCloses, GivenStands, HearsLine, IsReportOf, IsSaid, IsTaken, JournalStep, KindOf, Lengths, LineFits, LinkConf, Named, None, Option, Parcel, PlantLine, PlantStands, PlantView, Plays, ReactionView, RunStands, Said, ScriptHeading, Some, Start, Starts, Taken, TellsOther, Terms, Told, bound_line, bound_lines, codes, common_steps, decimal, ended_with, fixed_in, happening, has_other, heard, heard_before, heard_of, is_tick, is_ticking, journal, length_push, lengths_in, lengths_kept, lengths_made, line_said, line_step, line_steps, lines_by, links_made, lowest_other, named, no_lines_by, offers, other_line, place_of, plant_reporting, reactions_after, reactions_by, rest_in, said, said_in, said_with, script_format, string_bytes, terms_of, tick_lines, ticks, trace_append, uses, waiting, with_line}
 use Rattle.std.proofs.Common.{◌≡◌, ℕ, ◌+◌, ◌≤◌, Bool, true, false, cond, suc, List, [], ◌∷◌, ◌++◌, length, map, All, if◌then◌else◌, refl, sym, ap, ap₂, subst, ◌∙◌, append_assoc, arith, rules}
 use Rattle.std.specs.Prelude.{◌⊎◌}
 use Rattle.fb_net.specs.declared.kind_of.KindOf.TheVariants as kind
@@ -104,19 +104,7 @@ started : (t : Terms) (v : PlantView) (h : ScriptHeading) → PlantStands t.begi
 started t v h stands lengths_are =
     let changed : List JournalStep = offers t.begins Start [] in
     let none : line_steps changed ≡ [] = no_lines_by t.begins Start [] in
-    record {
-      acts = Start ∷ [];
-      stands = stands;
-      whole = refl;
-      says = λ more. refl;
-      lengths_are = lengths_are;
-      text_is =
-          sym (
-          ap (ticks_text t.begins.links) stands.has_done.journal_is
-          ∙ lines_quiet t.begins.links [] changed none
-          ∙ ap (λ (tick : Bool). if tick then tick_lines t.begins.links changed else []) (in_tick_quiet false changed none)
-          );
-    }
+    search (rules, lines_quiet, in_tick_quiet)
 
 pub begun : {H : Type 0} (view : KindOf H → AppView) (conf : ConfView) (app : KindOf H) (spare : List (EntryOf H)) (v : PlantView) (reactions : List ReactionView) (before after : Told) (h : ScriptHeading) → let t : Terms = terms_of view conf app spare in
     Starts t.begins v before after → fixed_in v.links ≡ fixed_in (links_made 1 t.bounds t.begins.links) → reactions ≡ reactions_after t.begins (Start ∷ []) t.bounds → All HasSameLengths t.begins.links → h.lengths ≡ map lengths_in t.begins.links
@@ -212,10 +200,7 @@ pub closed : {H : Type 0} (view : KindOf H → AppView) (t : Terms) (v : PlantVi
     → GivenCloses view t v reactions left h log (text ++ (piece ++ rest_in (rest.Bounds 0) conf v.journal reactions)) ended
 closed view t v reactions left before after count h log text other piece conf ended k told is links bounds ended_is =
     let lowest : other ≡ lowest_other 1 t.begins.links v.journal = told.tells t.begins k.runs.acts k.runs.stands in
-    let waits : rest_in (rest.Bounds 0) conf v.journal reactions ≡ bound_lines t.begins k.runs.acts t.bounds =
-    ap₂ (λ (ls : List LinkConf) (bs : List BoundSpec). lines_by ls v.journal bs reactions) links bounds
-    ∙ ap₂ (λ (j : List JournalStep) (rs : List ReactionView). lines_by t.begins.links j t.bounds rs) k.runs.stands.has_done.journal_is k.watched
-    ∙ lines_are t.begins k.runs.acts t.bounds in
+    let waits : rest_in (rest.Bounds 0) conf v.journal reactions ≡ bound_lines t.begins k.runs.acts t.bounds = search (rules, lines_by, lines_are) in
     let first = is ∙ ap₂ (λ (n : ℕ) (o : Option ℕ). (codes "ticks " ++ decimal n ++ codes "\n") ++ other_line o) k.counted lowest in
     record {
       closes = record {

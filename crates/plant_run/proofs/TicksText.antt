@@ -1,6 +1,6 @@
 -- The lines of the ticks of a journal that grows by a line of the script.
 use Rattle.plant_run.proofs.Common.{Act, Beginning, Happen, JournalStep, LinkConf, Parcel, PullFrom, Said, append-nil, in_tick, is_line, is_tick, journal, line_step, line_steps, lines_append, lines_due, lines_from, no_lines_by, no_lines_pulled, offers, tick_lines, ticks_text, with_line}
-use Rattle.std.proofs.Common.{◌≡◌, ℕ, Bool, true, false, List, [], ◌∷◌, ◌++◌, Option, Some, None, if◌then◌else◌, refl, sym, ap, ◌∙◌, append_assoc, arith}
+use Rattle.std.proofs.Common.{◌≡◌, ℕ, Bool, true, false, List, [], ◌∷◌, ◌++◌, Option, Some, None, if◌then◌else◌, refl, sym, ap, ◌∙◌, append_assoc, arith, rules}
 use Rattle.plant_model.specs.declared.journal.JournalStep.TheVariants as step
 
 -- the lines go on after a line of the script
@@ -48,10 +48,7 @@ pub text_after : (links : List LinkConf) (said : Said) (old new : List JournalSt
 text_after links said old new a =
     let one : JournalStep = line_step said in
     let whole : (old ++ one ∷ []) ++ a.rest ≡ new = append_assoc old (one ∷ []) a.rest ∙ sym a.is in
-    let due : in_tick false new ≡ is_tick one =
-    ap (in_tick false) a.is ∙ in_tick_append false old (one ∷ a.rest)
-    ∙ ap (λ (line : Bool). in_tick (if line then is_tick one else in_tick false old) a.rest) (line_is said)
-    ∙ in_tick_quiet (is_tick one) a.rest a.none in
+    let due : in_tick false new ≡ is_tick one = search (rules, in_tick_append, line_is, in_tick_quiet) in
     ap (ticks_text links) a.is
     ∙ lines_split links [] old a.rest one (line_is said)
     ∙ ap (λ (z : List ℕ). ticks_text links old ++ z)

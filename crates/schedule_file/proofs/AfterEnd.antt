@@ -1,5 +1,5 @@
 -- What comes after the line `end` changes nothing.
-use Rattle.schedule_file.proofs.Common.{AtEnd, Err, HeaderKind, InputCause, InputFormat, LineCause, NoLine, Ok, Refused, Result, Some, Stop, WholeHeaderOf, header_in, header_step, input_after, input_by, input_of, input_read, length-slice_split, lines_in, lines_of, onto_first, open_line, schedule_format, slice_get, slice_split, slice_split-cons_no, slice_split-cons_yes, steps, texts, whole_line, with_room}
+use Rattle.schedule_file.proofs.Common.{AtEnd, Err, HeaderKind, InputCause, InputFormat, LineCause, NoLine, Ok, Refused, Result, Some, Stop, WholeHeaderOf, header_in, header_step, input_by, input_of, input_read, length-slice_split, lines_in, lines_of, onto_first, open_line, schedule_format, slice_get, slice_split, slice_split-cons_no, slice_split-cons_yes, steps, texts, whole_line, with_room}
 use Rattle.std.proofs.Common.{◌≡◌, ℕ, ◌+◌, Bool, true, false, List, [], ◌∷◌, ◌++◌, length, map, refl, ap, ◌∙◌, sym, arith, rules}
 use Rattle.std.specs.Prelude.{◌==◌}
 use Rattle.schedule_file.proofs.OneField.{some_part}
@@ -91,17 +91,13 @@ same_events f h [] (Ok first ∷ t) u text is log at = absurd is
 same_events f h (Ok first ∷ w) t u text is log at = same_after f h log (f.line h first) first text (w ++ t) (w ++ u) (same_events f h w t u text is) at
 same_events f h _ _ u text is log at = cc
 
-after_same : {H L E : Type 0} (f : InputFormat H L E) (h : H) (n : ℕ) (w t u : Lines) → IsOpen t → (input_after f (record { heading = h; lines = n; rest = w ++ t })).stop ≡ AtEnd
-    → input_after f (record { heading = h; lines = n; rest = w ++ u }) ≡ input_after f (record { heading = h; lines = n; rest = w ++ t })
-after_same f h n w t u k l = search (rules, same_events)
-
 -- the input after a header that has no more lines before these
 abbrev Goes : {H L E : Type 0} → InputFormat H L E → Result (WholeHeaderOf H) Stop → Result (WholeHeaderOf H) Stop → Type 0
 Goes f this other = (input_by f this).stop ≡ AtEnd → input_by f other ≡ input_by f this
 
 step_same : {H L E : Type 0} (f : InputFormat H L E) (r : Result H LineCause) (n : ℕ) (w t u : Lines) → IsOpen t → ((next : H) → Goes f (header_in f (n + 1) next (w ++ t)) (header_in f (n + 1) next (w ++ u)))
     → Goes f (header_step f.is_whole n (w ++ t) (λ next. header_in f (n + 1) next (w ++ t)) r) (header_step f.is_whole n (w ++ u) (λ next. header_in f (n + 1) next (w ++ u)) r)
-step_same f r n w t u h k = search (rules, after_same)
+step_same f r n w t u h k = search (rules, same_events)
 
 header_same : {H L E : Type 0} (f : InputFormat H L E) (n : ℕ) (h : H) (w t u : Lines) → IsOpen t → Goes f (header_in f n h (w ++ t)) (header_in f n h (w ++ u))
 header_same f n h [] [] u is = λ e. let never : Refused n NoLine ≡ AtEnd = e in cc
@@ -119,8 +115,7 @@ nothing_after f bytes more e =
     let u : Lines = lines_in (c.next ∷ c.tail) in
     let this : lines_of bytes ≡ w ++ t = ap lines_in c.parts ∙ whole_lines c.front c.last [] in
     let other : lines_of (bytes ++ more) ≡ w ++ u = ap lines_in c.longer ∙ whole_lines c.front c.next c.tail in
-    let stops : (input_by f (header_in f 1 f.start (w ++ t))).stop ≡ AtEnd =
-    ap (λ (z : Lines). (input_by f (header_in f 1 f.start z)).stop) (sym this) ∙ e in
+    let stops : (input_by f (header_in f 1 f.start (w ++ t))).stop ≡ AtEnd = search rules in
     ap (λ (z : Lines). input_by f (header_in f 1 f.start z)) other
     ∙ header_same f 1 f.start w t u (open_is c.last) stops
     ∙ sym (ap (λ (z : Lines). input_by f (header_in f 1 f.start z)) this)

@@ -1,5 +1,5 @@
 -- How many events an input may have.
-use Rattle.schedule_file.proofs.Common.{Event, HeaderKind, input_of, is_full, length_push, steps, with_room}
+use Rattle.schedule_file.proofs.Common.{Event, HeaderKind, input_of, is_full, length_push, with_room}
 use Rattle.std.proofs.Common.{◌≡◌, ℕ, ◌+◌, ◌≤◌, ◌<◌, Bool, List, [], ◌∷◌, ◌++◌, length, refl, arith, rules}
 use Rattle.std.specs.Prelude.{◌==◌, if◌then◌else◌}
 use Rattle.schedule_file.specs.declared.event.TheConstants.{MAX_EVENTS}
@@ -18,4 +18,4 @@ room-few log (event ∷ events) few =
     omega (arith, pushed, all))
 
 pub few_events : (kind : HeaderKind) (bytes : List ℕ) → length (input_of kind bytes).events ≤ MAX_EVENTS
-few_events kind bytes = search (rules, room-few, steps)
+few_events kind bytes = search (rules, room-few)

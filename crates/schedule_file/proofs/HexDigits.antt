@@ -63,10 +63,7 @@ one_read text out i seen h l fits room e f so_far =
     )
   where
     at_least : (a b : ℕ) → a < 256 → 256 ≤ bit_or a b → 256 ≤ b
-    at_least a b small many = elim (cases_lt b 256) [
-      | inl less ↦ let or = or_of_8 a b small less in absurd (omega (arith, or, many))
-      | inr large ↦ large
-    ]
+    at_least a b small many = search (rules, or_of_8)
 
 -- the bytes of all pairs are said
 pub all_read : (most count : ℕ) (text out : List ℕ) → length text ≡ 2 * count → 0 < count → count ≤ most → count ≤ length out

@@ -87,10 +87,7 @@ pub first_in_turn : (inside old new : MakerView) (event : Event) (left : ℕ) �
     → (left ≡ 0 → ⊥) → new.left ≡ Some (left - 1) → new.words ≡ inside.words → Makes old event new
 first_in_turn inside old new event left seen turn some more fewer words =
     let stands = first_stands inside new event left turn some more fewer words in
-    record {
-      makes = λ number count is. (stands number count (seen ∙ is)).0;
-      stands = λ number count is. (stands number count (seen ∙ is)).1;
-    }
+    grind arith
 
 -- a maker none of whose events in turn is left
 word_stands : (old new : MakerView) (word : ℕ) → old.left ≡ Some 0 → (word, new.words) ≡ pcg32 old.words → new.turn ≡ old.turn → new.left ≡ old.left
@@ -115,7 +112,4 @@ pub by_word : (inside old new : MakerView) (event : Event) (word : ℕ) → insi
     → (word, new.words) ≡ pcg32 inside.words → new.turn ≡ inside.turn → new.left ≡ inside.left → Makes old event new
 by_word inside old new event word seen spent of_word step turn left =
     let stands = word_stands inside new word spent step turn left in
-    record {
-      makes = λ number count is. of_word ∙ (stands number count (seen ∙ is)).0;
-      stands = λ number count is. (stands number count (seen ∙ is)).1;
-    }
+    grind arith

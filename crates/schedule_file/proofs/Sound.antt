@@ -61,16 +61,12 @@ pub ok_if : {A : Type 0} (b : Bool) (x : A) (e : LineCause) (P : A → Type 0) �
 ok_if true x e P h = h refl
 ok_if false x e P h = tt
 
--- a number that isn't 0
-not_zero : (n : ℕ) → (n == 0) ≡ false → 0 < n
-not_zero n e = grind arith
-
 lengths_sound : (fields : List (List ℕ)) → IfOk (lengths_line fields) (λ line. IsTrue (is_length line.master) × IsTrue (is_length line.slave))
 lengths_sound fields =
     each (next_field fields) _ _ (λ first. each (one_field first.1) _ _ (λ second. each (number_16 first.0) _ _ (λ master. each (number_16 second) _ _ (λ slave. ok_if (is_length master && is_length slave) _ cause.Length _ (λ e. and_parts (is_length master) (is_length slave) e)))))
 
 master_sound : (fields : List (List ℕ)) → IfOk (master_line fields) (λ line. (0 < line.conn) × (0 < line.watchdog))
-master_sound fields = search (rules, not_zero)
+master_sound fields = grind arith
 
 slave_sound : (fields : List (List ℕ)) → IfOk (slave_line fields) (λ line. (0 < line.hand) × (0 < line.most))
 slave_sound fields = search rules

@@ -84,4 +84,4 @@ stepped_once last last' conn cmd load h h' some by e =
 
 pub second_refused : (last last' crc : ℕ) (f : Frame) → last < 65536 → last' < 65536 → last ≢ last' → bit_xor last last' ≢ step_in_last → 0 < length f.load
     → IsTrue (fits last (Some (record { number = 1; crc = crc })) f) → fits last' (Some (record { number = 1; crc = crc })) f ≡ false
-second_refused last last' crc f h k l m n o = search (rules, refused, fits, one_number, stepped_once, xor_comm, one_crc_0)
+second_refused last last' crc f h k l m n o = search (rules, one_number, stepped_once, xor_comm)

@@ -1,5 +1,5 @@
 -- The two frames of the worked case fit, and differ in their data alone.
-use Rattle.seq_chain.proofs.Common.{DifferInGroup, first_of, fits}
+use Rattle.seq_chain.proofs.Common.{DifferInGroup, fits}
 use Rattle.std.proofs.Common.{IsTrue, refl, rules}
 use Rattle.fsoe_crc.specs.Remainder.{computing}
 use Rattle.seq_chain.specs.BothFit.{noted_before, stepped_frame, other_frame}
@@ -13,4 +13,4 @@ unfolding computing
 other_fits = refl
 
 pub data_differ : DifferInGroup 0 stepped_frame other_frame
-data_differ = search (rules, first_of)
+data_differ = search rules

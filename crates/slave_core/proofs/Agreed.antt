@@ -1,5 +1,5 @@
 -- What each event leaves at the machine is what looking back gives.
-use Rattle.slave_core.proofs.Common.{Code, Command, Deed, Did, InData, InReset, IsProper, IsRun, Move, Notes, Now, OfSlave, Outcome, SlaveSettings, State, Terms, after, as_now, code, data_next, data_reply, deed_of, did_on, is_whole, kit_of, length-replicate, next_state, nonce, notes_of, now_in, on_verdict, option_or, parameters, reply, rule_len, running, session_of, settles, slave-run, slave_conn, state_of, terms, upload_fault, upload_of, view_in, view_of, whole, whole_parameters}
+use Rattle.slave_core.proofs.Common.{Code, Command, Deed, Did, InData, InReset, IsProper, IsRun, Move, Notes, Now, OfSlave, Outcome, SlaveSettings, State, Terms, after, as_now, code, data_next, data_reply, deed_of, did_on, is_whole, kit_of, length-replicate, next_state, nonce, notes_of, now_in, on_verdict, parameters, reply, rule_len, running, session_of, settles, slave-run, slave_conn, state_of, terms, upload_fault, upload_of, view_in, view_of, whole, whole_parameters}
 use Rattle.std.proofs.Common.{◌≡◌, ℕ, ◌<◌, ◌≤◌, List, [], ◌∷◌, length, replicate, Bool, true, false, not, Option, Some, unwrap_or, Result, if◌then◌else◌, refl, sym, ap, subst, ◌∙◌, arith, rules}
 use Rattle.std.proofs.lemmas.Bool.{leb-true, eqb-true}
 use Rattle.fsoe_base.specs.declared.command.Command.TheVariants as command
@@ -75,12 +75,7 @@ connects-passed ss e bytes at s h k a =
     (connection_settles (upload_fault (upload_of ss (expected.Connection conn ss.address) u) ss.rule (came ss bytes).load) state.Session ss e bytes conn u))
     h.no_connection
     (connection-agrees (model.contents (OfSlave ss) e command.Connection (came ss bytes)) state.Session ss e bytes refl at s
-    (record {
-      conn_next = ap (λ (o : Option ℕ). option_or o (Some conn)) h.no_conn;
-      conn_said = λ m. absurd (nothing-joined (notes_of ss e).connection 2 h.no_connection (omega arith) m);
-      address_said = λ m. absurd (nothing-joined (notes_of ss e).connection 4 h.no_connection (omega arith) m);
-      no_parameter = h.no_parameter;
-    })
+    (search (rules, nothing-joined))
     a))
 
 -- in Connection it goes on, or the parameters begin
@@ -94,12 +89,7 @@ connection-passed ss e bytes at s h k a =
     (connection_settles (upload_fault (upload_of ss (expected.Connection n ss.address) (notes_of ss e).connection) ss.rule (came ss bytes).load) state.Connection ss e bytes n (notes_of ss e).connection))
     is
     (connection-agrees (model.contents (OfSlave ss) e command.Connection (came ss bytes)) state.Connection ss e bytes refl at s
-    (record {
-      conn_next = keeps (slave_conn ss e) (Some conn) conn (h.conn_is ∙ ap (λ (n : ℕ). Some n) (sym is));
-      conn_said = λ m. h.conn_said m ∙ sym is;
-      address_said = h.address_said;
-      no_parameter = h.no_parameter;
-    })
+    (search (rules, keeps))
     a))
 
 loads-passed : (ss : SlaveSettings) (e : List Deed) (bytes : List ℕ) → state_of (OfSlave ss) e ≡ state.Connection → Sound ss e → OfConnection ss (notes_of ss e)

@@ -1,5 +1,5 @@
 -- What an event leaves at the machine is what looking back gives: where nothing is taken.
-use Rattle.slave_core.proofs.Common.{AreBytes, Code, Deed, Did, Dropped, KitView, Move, Now, OfSlave, Outcome, SlaveSettings, SlaveView, State, code, code_sent, deed_of, dropped, drops, falls, first_of, kit_of, limit, notes_of, nothing, now_in, number_at, on_expiry, on_fault, on_reset_frame, quiet, refuses, reset_by_peer, resets, slave_age, slave_limit, state_of, takes_frame, tick_in_session, tick_of, ticks, view_in, view_of}
+use Rattle.slave_core.proofs.Common.{AreBytes, Code, Deed, Did, Dropped, KitView, Move, Now, OfSlave, Outcome, SlaveSettings, SlaveView, State, code, code_sent, deed_of, dropped, drops, falls, first_of, kit_of, limit, notes_of, nothing, now_in, on_expiry, on_fault, on_reset_frame, quiet, refuses, reset_by_peer, resets, slave_age, slave_limit, state_of, takes_frame, tick_in_session, tick_of, ticks, view_in, view_of}
 use Rattle.std.proofs.Common.{◌≡◌, ◌≢◌, ℕ, suc, ◌+◌, ◌<◌, ◌==◌, nat_le, List, [], ◌∷◌, length, Bool, true, false, if◌then◌else◌, refl, sym, ap, subst, ◌∙◌, arith, rules}
 use Rattle.fsoe_base.specs.declared.command.Command.TheVariants as command
 use Rattle.fsoe_base.specs.declared.command.State.TheVariants as state
@@ -30,7 +30,7 @@ pub same_slave : (k k' : KitView) (n n' : Now) (l l' a a' : ℕ) → k ≡ k' �
 same_slave k k' n n' l l' a a' h i j g = rw (h, i, j, g) refl
 
 pub fresh_limit : (ss : SlaveSettings) → slave_limit ss [] ≡ ss.hand
-fresh_limit ss = search (rules, number_at)
+fresh_limit ss = search rules
 
 -- a frame is dropped
 pub drop-agrees : (p : State) (ss : SlaveSettings) (e : List Deed) (bytes : List ℕ) (passed : Bool) (because : Dropped) → state_of (OfSlave ss) e ≡ p → Sound ss e

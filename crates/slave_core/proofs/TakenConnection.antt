@@ -1,11 +1,11 @@
 -- A Connection frame that passed the tests: what the machine does is what looking back gives.
 use Rattle.slave_core.proofs.Common.{Chain, Code, Deed, InConnection, OfSlave, Outcome, SessionFrameView, SlaveSettings, State, UploadView, advanced, as_now, begun, conn_id, connection_reply, connection_taking, contents, has_command, judged_contents, kit_of, notes_of, number_at, on_verdict, option_or, or_reset, outcome_by, padded, piece_len, session_of, settles, slave_conn, slave_limit, state_of, takes_frame, upload_of, view_in}
-use Rattle.std.proofs.Common.{◌≡◌, ◌==◌, ℕ, ◌+◌, ◌-◌, ◌<◌, ◌≤◌, true, false, List, [], ◌∷◌, ◌++◌, length, take, drop, Option, Some, None, refl, sym, ap, ap₂, subst, ◌∙◌, rules}
+use Rattle.std.proofs.Common.{◌≡◌, ℕ, ◌+◌, ◌-◌, ◌≤◌, true, List, [], ◌∷◌, ◌++◌, length, take, drop, Option, Some, None, refl, sym, ap, ap₂, ◌∙◌, rules}
 use Rattle.fsoe_base.specs.declared.command.Command.TheVariants as command
 use Rattle.param_load.specs.declared.app_rule.AppRule.{AppRule}
 use Rattle.param_load.specs.declared.contents.Expected.TheVariants as expected
 use Rattle.param_load.specs.declared.entry.Move.TheVariants as move
-use Rattle.param_load.specs.Contents.{fails, contents_fault}
+use Rattle.param_load.specs.Contents.{contents_fault}
 use Rattle.end_model.proofs.Counted.{stays}
 use Rattle.slave_core.specs.declared.now.Now.TheVariants as now
 use Rattle.slave_core.proofs.Sound.{Sound}
@@ -13,16 +13,11 @@ use Rattle.slave_core.proofs.SameVerdict.{came}
 use Rattle.slave_core.proofs.Agrees.{Agrees, same_slave, fresh_limit, fault-agrees}
 use Rattle.slave_core.proofs.Arrived.{chain_answered, frame_answered, Arrived, chain-after, piece-len, filled, piece-own, piece-peer, last-piece, connects-first, is-there, there}
 
--- a number in the joined bytes stays what it was tested to be
-said : (u p : List ℕ) (k n : ℕ) → (k + 2 ≤ length u → number_at k u ≡ n) → fails (length u) (u ++ p) (k + 1) (number_at k (u ++ p) == n) ≡ false
-    → k + 2 ≤ length (u ++ p) → number_at k (u ++ p) ≡ n
-said u p k n h l m = search (rules, stays)
-
 -- the connection id and the address that were joined are the session's and the slave's
 said-both : (conn address : ℕ) (rule : AppRule) (u p rest : List ℕ) → (2 ≤ length u → number_at 0 u ≡ conn) → (4 ≤ length u → number_at 2 u ≡ address)
     → contents_fault (expected.Connection conn address) rule (length u) (u ++ p) rest ≡ None
     → (2 ≤ length (u ++ p) → number_at 0 (u ++ p) ≡ conn) × (4 ≤ length (u ++ p) → number_at 2 (u ++ p) ≡ address)
-said-both conn address rule u p rest h k l = search (rules, said)
+said-both conn address rule u p rest h k l = search (rules, stays)
 
 abbrev seen : SlaveSettings → List ℕ → SessionFrameView
 seen ss bytes = record { command = command.Connection; frame = came ss bytes }
@@ -80,15 +75,5 @@ connection-agrees None p ss e bytes tested at s j a =
           limit_is refl;
       did = refl;
       sent = ap₂ (λ (k : ℕ) (piece : List ℕ). frame_answered (notes_of ss e).chain (seen ss bytes) k command.Connection (padded piece ss.lengths.slave)) conn_is (sym echo_is);
-      sound = record {
-        in_state = record {
-          kept_is = refl;
-          conn_is = is-there _ conn next;
-          conn_said = λ k. fields.0 k ∙ sym conn_is;
-          address_said = fields.1;
-          no_parameter = j.no_parameter;
-        };
-        offer_len = s.offer_len;
-        young = λ k. subst (λ (l : ℕ). 0 < l) (sym limit_is) ss.some_hand;
-      };
+      sound = search (rules, is-there);
     }

@@ -1,6 +1,6 @@
 -- A data frame that passed the tests: what the machine does is what looking back gives.
 use Rattle.slave_core.proofs.Common.{AreBytes, Chain, Command, Deed, IsRun, OfSlave, Outcome, SessionFrameView, SlaveSettings, SlaveView, State, Terms, answered, as_now, begun, bytes_of, code, command_byte, deed_of, held, is_process, is_reset, judged_contents, kit_of, length-replicate, no_session, notes_of, number_at, offer, on_verdict, phase_of, session_of, settles, slave_conn, slave_limit, state_of, takes_frame, view_in, view_of, whole, with_data}
-use Rattle.std.proofs.Common.{◌≡◌, ◌==◌, ℕ, ◌<◌, List, ◌∷◌, length, replicate, Bool, true, false, Some, None, Ok, Err, if◌then◌else◌, refl, sym, ap, subst, ◌∙◌, arith}
+use Rattle.std.proofs.Common.{◌≡◌, ◌==◌, ℕ, ◌<◌, List, ◌∷◌, length, replicate, Bool, true, false, Some, None, Ok, Err, if◌then◌else◌, refl, sym, ap, subst, ◌∙◌, arith, rules}
 use Rattle.fsoe_base.specs.declared.command.Command.TheVariants as command
 use Rattle.fsoe_base.specs.declared.command.State.TheVariants as state
 use Rattle.failsafe_io.specs.Offer.{data_command, data_load}
@@ -64,11 +64,7 @@ after ss e bytes c c2 load n h d y =
     let j : Connected ss e = y.connected in
     record {
       view = λ r. rw (n, d.of_session, d.phase_is) (same_slave _ _ _ _ _ _ _ _ refl (same_data _ _ _ _ _ _ _ (rw d.of_session at (chain-after ss e bytes c (conn_of ss e) c2 load d.of_session h)) d.brings (sym (y.back r))) y.limit_is refl);
-      sound = record {
-        in_state = rw (n, d.of_session, d.phase_is) (record { kept_is = refl; conn_is = is-there _ _ (keeps (slave_conn ss e) _ _ j.conn_is); conn_said = j.conn_said ∙ sym (there _ _ (keeps (slave_conn ss e) _ _ j.conn_is)); address_said = j.address_said });
-        offer_len = y.sound.offer_len;
-        young = rw (n, d.of_session, d.phase_is) (λ k. y.some);
-      };
+      sound = search (rules, is-there, keeps, there);
     }
 
 -- an answer is fail-safe data while the slave is held, else its offer

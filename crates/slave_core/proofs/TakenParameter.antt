@@ -69,14 +69,5 @@ parameter-agrees None p ss e bytes at s j a run =
           (ap (λ (b : Bool). if b then number_at 2 u else ss.hand) is_whole) refl;
       did = refl;
       sent = ap₂ (λ (k : ℕ) (piece : List ℕ). frame_answered (notes_of ss e).chain (seen ss bytes) k command.Parameter (padded piece ss.lengths.slave)) conn_is (sym echo_is);
-      sound = record {
-        in_state = record {
-          kept_is = refl;
-          conn_is = is-there _ conn next;
-          conn_said = j.conn_said ∙ sym conn_is;
-          address_said = j.address_said;
-        };
-        offer_len = s.offer_len;
-        young = λ k. young;
-      };
+      sound = search (rules, is-there);
     }

@@ -1,6 +1,6 @@
 -- A Session frame that passed the tests: what the machine does is what looking back gives.
 use Rattle.slave_core.proofs.Common.{Chain, Code, Deed, Expected, InSession, Notes, OfSlave, Outcome, SessionFrameView, SlaveSettings, State, UploadView, advanced, as_now, begun, id_piece, judged_contents, kit_of, nonce, notes_of, on_verdict, option_or, or_reset, outcome_by, padded, piece_from, piece_len, session_of, session_payload, session_reply, session_taking, settles, slave_limit, state_of, takes_frame, upload_of, view_in}
-use Rattle.std.proofs.Common.{◌≡◌, ℕ, ◌*◌, ◌<◌, List, [], ◌∷◌, length, take, true, Option, Some, None, unwrap_or, refl, sym, ap, subst, ◌∙◌, arith}
+use Rattle.std.proofs.Common.{◌≡◌, ℕ, ◌*◌, List, [], ◌∷◌, length, take, true, Option, Some, None, unwrap_or, refl, sym, ap, ◌∙◌, arith, rules}
 use Rattle.fsoe_base.specs.declared.command.Command.TheVariants as command
 use Rattle.fsoe_base.specs.declared.command.State.TheVariants as state
 use Rattle.param_load.specs.declared.contents.Expected.TheVariants as expected
@@ -76,16 +76,5 @@ session-agrees None p ss e bytes i at s o a =
           limit_is refl;
       did = refl;
       sent = ap (λ (piece : List ℕ). frame_answered (notes_of ss e).chain (seen ss bytes) 0 command.Session (padded piece ss.lengths.slave)) piece_is;
-      sound = record {
-        in_state = record {
-          kept_is = refl;
-          id_is = is-there _ i o.id_next;
-          no_conn = connects-none _ _ _ a.connects o.no_conn;
-          count_is = count-next _ (take (piece_len (OfSlave ss)) load) _ _ _ a.phase_is o.count_is (piece-len load ss.lengths.master (piece_len (OfSlave ss)) a.load_len (piece-peer ss));
-          no_connection = o.no_connection;
-          no_parameter = o.no_parameter;
-        };
-        offer_len = s.offer_len;
-        young = λ k. subst (λ (l : ℕ). 0 < l) (sym limit_is) ss.some_hand;
-      };
+      sound = search (rules, is-there, connects-none, count-next, take, piece-len, piece-peer);
     }

@@ -14,9 +14,4 @@ loop-i-preserved c =
     let before = take c.loop-i.i c.loop-i.values in
     let value = value_is c.loop-i.values c.loop-i.i cycle b _ c.step_block.result (omega arith) c.index-blocks-i.is c.step_block.ensures.given in
     let new : c.step_block.new.spec ≡ stepped before cycle b = cc in
-    record {
-      ready = ready_set c.loop-i.blocks c.loop-i.i c.step_block.new.spec c.loop-i.invariant.ready c.step_block.ensures.ready;
-      rest = rest_after c.loop-i.blocks c.args.blocks.now c.loop-i.i b c.step_block.new.spec within c.index-blocks-i.is c.loop-i.invariant.rest;
-      values = values_more c.loop-i.blocks c.args.blocks.now c.loop-i.i b before _ cycle _ within c.index-blocks-i.is c.loop-i.invariant.rest value c.loop-i.invariant.values;
-      blocks = blocks_more c.loop-i.blocks c.args.blocks.now c.loop-i.i b c.step_block.new.spec before _ cycle _ within c.index-blocks-i.is c.loop-i.invariant.rest value new c.loop-i.invariant.blocks;
-    }
+    search (rules, ready_set, rest_after, values_more, blocks_more)

@@ -1,4 +1,4 @@
-use Rattle.multi_master.proofs.Common.{All-nil, IsNumber, MasterView, PutStep, append-nil, common_steps, own_len, slice_get-get_or, slice_get_read}
+use Rattle.multi_master.proofs.Common.{All-nil, IsNumber, MasterView, PutStep, common_steps, own_len, slice_get-get_or, slice_get_read}
 use Rattle.std.proofs.Common.{◌≡◌, ◌<◌, ◌+◌, ◌++◌, ◌∷◌, [], ℕ, List, Some, length, slice_get, slice_index_or, sym, ap, ◌∙◌, arith, if◌then◌else◌, refl, rules}
 use Rattle.multi_master.proofs.Places.{same_at, same_length, map_set}
 use Rattle.multi_master.proofs.Looping.{puts_begun, puts_more, number_told}
@@ -24,12 +24,7 @@ loop-i-preserved c =
     let answer : List ℕ = c.bytes.result.now in
     let is : slice_get c.args.answers.now i ≡ Some answer = of ∙ ap (λ (xs : List ℕ). Some xs) (sym c.bytes.ensures.value) in
     let x : PutStep = record { old = m; shown = c.put_answer.ensures.shown; answer = answer; new = c.put_answer.new.master; told = c.put_answer.result } in
-    let told : c.if-put_answer.changed.items ≡ c.loop-i.changed.items ++ (if c.put_answer.result then (i + 1) ∷ [] else []) =
-    elim c.if-put_answer.branch [
-      | then-put_answer w ↦ rw w.if-put_answer.true (cc)
-      | else-put_answer w ↦ rw w.if-put_answer.false ((cc) ∙ sym (append-nil c.loop-i.changed.items))
-    ]
-    in
+    let told : c.if-put_answer.changed.items ≡ c.loop-i.changed.items ++ (if c.put_answer.result then (i + 1) ∷ [] else []) = search rules in
     record {
       fits = c.loop-i.invariant.fits ∙ sym (map_set own_len c.loop-i.masters i m c.put_answer.new.master at (ap (λ s. s.lengths.master) c.put_answer.ensures.step.settings));
       counted = elim c.if-put_answer.branch [

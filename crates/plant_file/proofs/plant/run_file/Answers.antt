@@ -1,4 +1,4 @@
-use Rattle.std.proofs.Common.{refl}
+use Rattle.std.proofs.Common.{refl, rules}
 use Rattle.std.specs.Prelude.{Ok, Err}
 use Rattle.fsoe_io.specs.declared.desk.LoadFault.TheVariants as load
 use Rattle.plant_file.proofs.plant.run_file.Goals as goal
@@ -21,11 +21,7 @@ returns-in-Err-Failed g c =
       ran = record {
         answer = Err load.Failed;
         may = told.cause refl;
-        ran = record {
-          nothing = record { left = refl; faults = refl; channels = refl; journal = c.requires.empty };
-          wrote = c.write_report.ensures.writes;
-          later = c.write_report.ensures.later;
-        };
+        ran = search rules;
         later = told.later;
       };
       others = told.others;
@@ -38,11 +34,7 @@ returns-in-Err-TooLong g c =
       ran = record {
         answer = Err load.TooLong;
         may = (told.too_long refl, told.stayed refl);
-        ran = record {
-          nothing = record { left = refl; faults = refl; channels = refl; journal = c.requires.empty };
-          wrote = c.refuse.ensures.writes;
-          later = c.refuse.ensures.later;
-        };
+        ran = search rules;
         later = told.later;
       };
       others = told.others;
@@ -55,12 +47,7 @@ returns g c =
       ran = record {
         answer = Err load.Memory;
         may = told.stayed refl;
-        ran = record {
-          nothing = record { left = refl; faults = refl; channels = refl; journal = c.requires.empty };
-          ended_is = refl;
-          written = refl;
-          faults = refl;
-        };
+        ran = search rules;
         later = told.later;
       };
       others = told.others;

@@ -1,6 +1,5 @@
-use Rattle.std.proofs.Common.{◌≡◌, List, ℕ, ap, ◌∙◌}
+use Rattle.std.proofs.Common.{◌≡◌, List, ℕ, ap, ◌∙◌, rules}
 use Rattle.fsoe_io.specs.Desk.{Shelf, failed_loads}
-use Rattle.fsoe_io.proofs.memory_desk.MemDeskDesk.load.Goals.{in_default-find_text-via-in-Some+else-not-fails, in_default-find_text-via-in_default-find_text}
 use Rattle.fsoe_io.proofs.memory_desk.MemDeskDesk.load.Goals as goal
 
 pub returns-in_default-find_text-clause-others : goal.returns-in_default-find_text-clause-others
@@ -10,7 +9,4 @@ returns-in_default-find_text-clause-others c =
     let before : failed_loads c.room_for.new.self.names other ≡ failed_loads c.args.self.now.failed other =
     ap (λ (names : List (List ℕ)). failed_loads names other) c.in-Ok.ensures.names
     ∙ ap (λ (shelf : Shelf). failed_loads shelf.failed other) c.self.view_is in
-    elim c.in_default-find_text.branch [
-      | in_default-find_text-via-in-Some+else-not-fails w ↦ noted ∙ rw w.self-inside-is before
-      | in_default-find_text-via-in_default-find_text w ↦ noted ∙ rw w.self-inside-is before
-    ]
+    search rules

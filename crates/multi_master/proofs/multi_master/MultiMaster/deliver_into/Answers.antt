@@ -119,13 +119,7 @@ invariant_of-self-2 g c =
     let h = heard g (goal.at.invariant_of-self-2 g c).After-index in
     let r = readied g (goal.at.invariant_of-self-2 g c).After-reply-arg-1 in
     let as_put : length (slice_set put place c.reply.new.self) ≡ length put = length-set put place c.reply.new.self in
-    rw (r.is_back, written_back c.run_cycle.new.answers c.self.inside.answers.items c.self.inside.answers.len (cc) (cc)) (record {
-      rest = one_rest masters put place c.index_mut.result.now c.accept_into.new.self c.reply.new.self r.dues h.placed.at (all_at (λ m. due_in m ≡ false) masters place c.index_mut.result.now c.self.invariant.rest h.placed.at) c.reply.ensures.done c.self.invariant.rest;
-      inputs_fit = length-set c.self.inside.inputs.items place c.set.new.self ∙ c.self.invariant.inputs_fit ∙ sym (as_put ∙ r.long);
-      answers_fit = c.run_cycle.ensures.fit ∙ sym (map_set own_len put place c.index_mut-3.result.now c.reply.new.self r.at (ap (λ k. k.settings.lengths.master) c.reply.ensures.kit));
-      most = rw (as_put, r.long) c.self.invariant.most;
-      numbers = rw as_put c.run_cycle.ensures.numbers;
-    })
+    rw (r.is_back, written_back c.run_cycle.new.answers c.self.inside.answers.items c.self.inside.answers.len (cc) (cc)) (search (rules, written_back, one_rest, all_at, map_set))
 
 abbrev heard-view : (g : _) → goal.After-did-1 g → MultiView
 heard-view g c = seen g.A.Application.rule g.A.Application.holds g.A.Application.guards (record {

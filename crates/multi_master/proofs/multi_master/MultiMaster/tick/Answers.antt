@@ -1,23 +1,19 @@
 use Rattle.multi_master.proofs.Common.{due_in, own_len, settings_in}
-use Rattle.std.proofs.Common.{◌≡◌, map, length, refl, sym, ap, ◌∙◌, arith}
+use Rattle.std.proofs.Common.{◌≡◌, map, length, refl, sym, ap, ◌∙◌, arith, rules}
 use Rattle.multi_master.proofs.Following.{runs_alike, ticks_alike, tick_follows, tick_answers}
 use Rattle.multi_master.proofs.Keeping.{written_back, all_rest, same_lens, ticks_settings, ticks_rest}
 use Rattle.multi_master.proofs.multi_master.MultiMaster.tick.Goals as goal
 
 pub run_cycle-requires-clause-fits : goal.run_cycle-requires-clause-fits
 run_cycle-requires-clause-fits g c =
-    let ticked : c.as_mut_slice-4.result.now ≡ c.tick_all.new.masters =
-    c.as_mut_slice-4.ensures.value ∙ written_back c.tick_all.new.masters c.self.inside.masters.items c.self.inside.masters.len (cc) (cc)
-    in
+    let ticked : c.as_mut_slice-4.result.now ≡ c.tick_all.new.masters = search (rules, written_back) in
     let settings : map settings_in c.tick_all.new.masters ≡ map settings_in c.self.inside.masters.items = ticks_settings _ _ _ _ _ _ c.tick_all.ensures ∙ ap (map settings_in) c.as_mut_slice.ensures.value in
     ap (map length) c.as_mut_slice-3.ensures.value ∙ c.self.invariant.answers_fit
     ∙ sym (same_lens c.tick_all.new.masters c.self.inside.masters.items settings) ∙ ap (map own_len) (sym ticked)
 
 pub invariant_of-self : goal.invariant_of-self
 invariant_of-self g c =
-    let ticked : c.as_mut_slice-4.result.now ≡ c.tick_all.new.masters =
-    c.as_mut_slice-4.ensures.value ∙ written_back c.tick_all.new.masters c.self.inside.masters.items c.self.inside.masters.len (cc) (cc)
-    in
+    let ticked : c.as_mut_slice-4.result.now ≡ c.tick_all.new.masters = search (rules, written_back) in
     let first = written_back c.tick_all.new.masters c.self.inside.masters.items c.self.inside.masters.len (cc) (cc) in
     let back = written_back c.run_cycle.new.masters c.tick_all.new.masters c.self.inside.masters.len (cc) (cc) in
     let inputs = written_back c.tick_all.new.inputs c.self.inside.inputs.items c.self.inside.inputs.len (cc) (cc) in
@@ -32,9 +28,7 @@ invariant_of-self g c =
 
 pub returns-clause-follows : goal.returns-clause-follows
 returns-clause-follows g c =
-    let ticked : c.as_mut_slice-4.result.now ≡ c.tick_all.new.masters =
-    c.as_mut_slice-4.ensures.value ∙ written_back c.tick_all.new.masters c.self.inside.masters.items c.self.inside.masters.len (cc) (cc)
-    in
+    let ticked : c.as_mut_slice-4.result.now ≡ c.tick_all.new.masters = search (rules, written_back) in
     let first = written_back c.tick_all.new.masters c.self.inside.masters.items c.self.inside.masters.len (cc) (cc) in
     let back = written_back c.run_cycle.new.masters c.tick_all.new.masters c.self.inside.masters.len (cc) (cc) in
     let inputs = written_back c.tick_all.new.inputs c.self.inside.inputs.items c.self.inside.inputs.len (cc) (cc) in
@@ -51,9 +45,7 @@ returns-clause-answers g c =
 
 pub returns-clause-settings : goal.returns-clause-settings
 returns-clause-settings g c =
-    let ticked : c.as_mut_slice-4.result.now ≡ c.tick_all.new.masters =
-    c.as_mut_slice-4.ensures.value ∙ written_back c.tick_all.new.masters c.self.inside.masters.items c.self.inside.masters.len (cc) (cc)
-    in
+    let ticked : c.as_mut_slice-4.result.now ≡ c.tick_all.new.masters = search (rules, written_back) in
     let first = written_back c.tick_all.new.masters c.self.inside.masters.items c.self.inside.masters.len (cc) (cc) in
     let back = written_back c.run_cycle.new.masters c.tick_all.new.masters c.self.inside.masters.len (cc) (cc) in
     rw (← c.self.view_is, first, back)

@@ -1,5 +1,5 @@
 use Rattle.plant_core.proofs.Common.{fixed_of, placed}
-use Rattle.std.proofs.Common.{◌-◌, refl, ap}
+use Rattle.std.proofs.Common.{◌-◌, ap, rules}
 use Rattle.plant_core.proofs.Acting.{fixed_set}
 use Rattle.plant_core.proofs.OneDeed.{cut_event}
 use Rattle.plant_core.proofs.ends.Ends.cut.Goals as goal
@@ -8,16 +8,7 @@ pub returns-clause-goes : goal.returns-clause-goes
 returns-clause-goes g c =
     let links = c.args.self.now.links in
     let p = placed links.items _ _ _ _ c.requires.link links.ok.0 c.from.ensures c.index_mut.ensures.value in
-    λ told. cut_event _ _ c.args.link c.args.cut told (record {
-      place = c.from.result - 1;
-      was = c.index_mut.result.now;
-      is = c.set_cut.new.self;
-      placed = p;
-      cut_is = c.set_cut.ensures;
-      master = refl;
-      links = refl;
-      journal = c.note.ensures.noted;
-    })
+    λ told. cut_event _ _ c.args.link c.args.cut told (search (rules, placed))
 
 pub returns-clause-fixed : goal.returns-clause-fixed
 returns-clause-fixed g c =

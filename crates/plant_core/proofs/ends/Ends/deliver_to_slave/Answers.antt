@@ -1,5 +1,5 @@
 use Rattle.plant_core.proofs.Common.{placed}
-use Rattle.std.proofs.Common.{◌-◌, refl}
+use Rattle.std.proofs.Common.{◌-◌, rules}
 use Rattle.plant_core.proofs.Acting.{fixed_set}
 use Rattle.plant_core.proofs.OneDeed.{slave_delivered}
 use Rattle.plant_core.proofs.ends.Ends.deliver_to_slave.Goals as goal
@@ -9,17 +9,7 @@ returns-clause-delivers g c =
     let links = c.args.self.now.links in
     let p = placed links.items _ _ _ _ c.requires.link links.ok.0 c.from.ensures c.index_mut-kept.ensures.value in
     let acts = rw c.bytes.ensures.value at c.deliver_to_slave.ensures.acts in
-    slave_delivered _ _ c.args.link c.args.frame.now _ _ (record {
-      place = c.from.result - 1;
-      was = c.index_mut-kept.result.now;
-      is = c.deliver_to_slave.new.link;
-      placed = p;
-      acts = acts;
-      cut = c.deliver_to_slave.ensures.notes.cut;
-      master = refl;
-      links = refl;
-      journal = c.note_pulled.ensures.noted;
-    })
+    slave_delivered _ _ c.args.link c.args.frame.now _ _ (search (rules, placed))
 
 pub returns-clause-fixed : goal.returns-clause-fixed
 returns-clause-fixed g c =

@@ -1,5 +1,5 @@
 use Rattle.plant_core.proofs.Common.{placed}
-use Rattle.std.proofs.Common.{◌-◌, refl, rules}
+use Rattle.std.proofs.Common.{◌-◌, rules}
 use Rattle.plant_core.proofs.Acting.{fixed_set}
 use Rattle.plant_core.proofs.OneDeed.{slave_event, proper_move}
 use Rattle.plant_core.proofs.ends.Ends.happen_at_slave.Goals as goal
@@ -8,17 +8,7 @@ pub returns-clause-goes : goal.returns-clause-goes
 returns-clause-goes g c =
     let links = c.args.self.now.links in
     let p = placed links.items _ _ _ _ c.requires.link links.ok.0 c.from.ensures c.index_mut-kept.ensures.value in
-    slave_event _ _ c.args.event.now c.args.link c.args.what.now _ _ c.requires.is (record {
-      place = c.from.result - 1;
-      was = c.index_mut-kept.result.now;
-      is = c.happen_at_slave.new.link;
-      placed = p;
-      acts = c.happen_at_slave.ensures.acts;
-      cut = c.happen_at_slave.ensures.notes.cut;
-      master = refl;
-      links = refl;
-      journal = c.note_event.ensures.noted;
-    })
+    slave_event _ _ c.args.event.now c.args.link c.args.what.now _ _ c.requires.is (search (rules, slave_event, placed))
 
 pub returns-clause-fixed : goal.returns-clause-fixed
 returns-clause-fixed c = search (rules, placed, fixed_set)

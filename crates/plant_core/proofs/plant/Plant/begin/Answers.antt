@@ -1,6 +1,5 @@
 use Rattle.plant_core.proofs.Common.{links_made}
 use Rattle.std.proofs.Common.{ap₂, ◌∙◌, rules}
-use Rattle.multi_master.specs.Standing as multi
 use Rattle.plant_core.proofs.Made.{made_count}
 use Rattle.plant_core.proofs.Pulling.{starts}
 use Rattle.plant_core.proofs.plant.Plant.begin.Goals as goal
@@ -16,11 +15,4 @@ returns-clause-starts g c =
     let steps = c.in_ok-take_room.ensures.steps ∙ c.journal.view_is ∙ c.new-journal.ensures in
     let offers = rw (links, steps) at c.start.ensures.offers in
     let begins = rw c.seed.ensures at c.begin.ensures.begins in
-    rw (← c.self.view_is, ← c.connect.ensures.app) (starts _ _ _ _ (record {
-      old = multi.seen A.rule A.holds A.guards c.connect.new.self.master;
-      stands = stands;
-      bounds = c.args.conf.now.bounds;
-      follows = c.start.ensures.follows;
-      offers = offers;
-      begins = begins;
-    }))
+    rw (← c.self.view_is, ← c.connect.ensures.app) (starts _ _ _ _ (search (rules, starts)))
