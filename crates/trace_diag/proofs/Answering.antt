@@ -114,7 +114,7 @@ sends_answer s e x d none takes =
     let y : Entry = next_entry s e what in
     let no_reset : y.did.reset ≡ None = ap (λ (x : Entry). x.did.reset) (sym d.is) ∙ none in
     let taken : IsSome y.did.took = subst (λ (x : Entry). TakesDelivery x) d.is takes refl in
-    let a : IsAnswer s (begun what (did_on s e what) ∷ e) (did_on s e what).reset (did_on s e what).took (did_on s e what).sent = search (rules, begun, answer-is) in
+    let a : IsAnswer s (begun what (did_on s e what) ∷ e) (did_on s e what).reset (did_on s e what).took (did_on s e what).sent = search (rules, answer-is) in
     record { took_what = a.took_what; is = ap (λ (x : Entry). x.sent) d.is ∙ (a.is ∙ ap (λ (x : Entry). answer s (begun x.what x.did ∷ e) a.took_what) (sym d.is)) }
 
 pub is_answered : (s : Setup) (e : List Deed) (x : Entry) → IsDelivery s e x → HasNoReset x → TakesDelivery x → is_empty x.sent ≡ false

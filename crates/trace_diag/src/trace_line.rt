@@ -1,13 +1,12 @@
 //! Lines of a recorded trace after its header.
-ghost use Rattle.std.specs.Prelude.{◌≡◌, ◌≤◌, [], ◌∷◌, length};
+ghost use Rattle.std.specs.Prelude.{◌≡◌, [], ◌∷◌};
 ghost use Rattle.std.specs.Str.{bytes_eq};
-ghost use Rattle.schedule_file.specs.Field.{fields_of};
-ghost use Rattle.schedule_file.specs.FieldsRead.{fields_after, Becomes, not_hex};
+ghost use Rattle.schedule_file.specs.FieldsRead.{fields_after, Becomes};
 ghost use Rattle.trace_diag.specs.Lines.{frame_line, trace_line};
 
 use crate::noted::Noted;
-use fsoe_base::{End, FrameBuf, MOST_FRAME};
-use schedule_file::{HexBytes, LineCause, cut, no_field, one_field};
+use fsoe_base::{End, FrameBuf};
+use schedule_file::{LineCause, bytes_field, cut, no_field};
 
 /// What a line of a trace says after the header.
 #[derive(Debug, Drop)]
@@ -18,18 +17,6 @@ pub enum TraceLine {
     Last,
 }
 
-/// Why a text isn't one field of digits.
-#[cold]
-#[inline(never)]
-fn not_hex(text: &[u8]) -> LineCause
-    ensures { result ≡ not_hex (fields_of text.now) }
-{
-    match one_field(Some(text)) {
-        Ok(_) => LineCause::Hex,
-        Err(cause) => cause,
-    }
-}
-
 /// Whether a word is this letter alone. Two slices would be compared by a call.
 fn is_letter(word: &[u8], letter: u8) -> bool
     ensures { result ≡ bytes_eq word.now (letter ∷ []) }
@@ -37,47 +24,29 @@ fn is_letter(word: &[u8], letter: u8) -> bool
     word.len() == 1 && word[0] == letter
 }
 
-/// Writes a frame from this end over `said`. It stays in its place where `said` has one.
-fn set_frame(from: End, frame: &[u8], said: &mut TraceLine)
-    requires { length frame.now ≤ MOST_FRAME }
-    ensures { said.new ≡ TraceLine.Sent (record { from = from; frame = frame.now }) }
+/// `<hex>`: a frame of 1 to 255 bytes from this end, written over `said`. It stays in its place where `said` has one.
+fn read_frame(from: End, fields: Option<&[u8]>, said: &mut TraceLine) -> Result<(), LineCause>
+    ensures { Becomes result said.new (frame_line from (fields_after fields.entry)) }
 {
     match said {
         TraceLine::Sent(noted) => {
+            bytes_field(fields, &mut noted.frame)?;
             noted.from = from;
-            noted.frame.set(frame);
+            Ok(())
         }
-        TraceLine::Last => set_first(from, frame, said),
+        TraceLine::Last => read_first(from, fields, said),
     }
 }
 
 /// The same where the line before had no frame.
 #[inline(never)]
-fn set_first(from: End, frame: &[u8], said: &mut TraceLine)
-    requires { length frame.now ≤ MOST_FRAME }
-    ensures { said.new ≡ TraceLine.Sent (record { from = from; frame = frame.now }) }
-{
-    let mut first = FrameBuf::new();
-    first.set(frame);
-    *said = TraceLine::Sent(Noted { from, frame: first });
-}
-
-/// `<hex>`: a frame of 1 to 255 bytes from this end, written over `said`. Digits have no space among them, so one is
-/// sought only if they aren't digits.
-#[tactic(auto, using(schedule_file::proofs::HexAlone::hex_said, schedule_file::proofs::HexAlone::hex_unsaid))]
-fn read_frame(from: End, fields: Option<&[u8]>, said: &mut TraceLine) -> Result<(), LineCause>
+fn read_first(from: End, fields: Option<&[u8]>, said: &mut TraceLine) -> Result<(), LineCause>
     ensures { Becomes result said.new (frame_line from (fields_after fields.entry)) }
 {
-    let Some(text) = fields else {
-        return Err(LineCause::Fields);
-    };
-    match HexBytes::read(text, MOST_FRAME) {
-        Some(bytes) => {
-            set_frame(from, bytes.bytes(), said);
-            Ok(())
-        }
-        None => Err(not_hex(text)),
-    }
+    let mut frame = FrameBuf::new();
+    bytes_field(fields, &mut frame)?;
+    *said = TraceLine::Sent(Noted { from, frame });
+    Ok(())
 }
 
 /// Parses a line after the header, and writes its meaning over `said`: `m <hex>` or `s <hex>`, a frame of 1 to 255
