@@ -60,36 +60,23 @@ fn links_made(alloc: Global, confs: &[LinkConf], bounds: &[BoundSpec]) -> Result
     Ok(links)
 }
 
-/// Places for what `count` masters do in a tick.
-fn dids_made(alloc: Global, count: usize) -> Result<Vec<Did>, Memory>
-    ensures { IfOk result (λ dids. vec_len dids ≡ count) }
+/// Places for what `count` masters do in a tick, and for the frames that they send then.
+fn places_made(alloc: Global, count: usize) -> Result<(Vec<Did>, Vec<FrameBuf>), Memory>
+    ensures dids { IfOk result (λ made. vec_len made.0 ≡ count) }
+    ensures outs { IfOk result (λ made. vec_len made.1 ≡ count) }
 {
-    let mut dids = match Vec::with_capacity(alloc, count) {
-        Ok(dids) => dids,
-        Err(_) => return Err(Memory),
+    let Ok(mut dids) = Vec::with_capacity(alloc, count) else {
+        return Err(Memory);
+    };
+    let Ok(mut outs) = Vec::with_capacity(alloc, count) else {
+        return Err(Memory);
     };
     for _ in 0..count {
-        if dids.push(Did::nothing()).is_err() {
+        if dids.push(Did::nothing()).is_err() || outs.push(FrameBuf::new()).is_err() {
             return Err(Memory);
         }
     }
-    Ok(dids)
-}
-
-/// Places for the frames that `count` masters send in a tick.
-fn outs_made(alloc: Global, count: usize) -> Result<Vec<FrameBuf>, Memory>
-    ensures { IfOk result (λ outs. vec_len outs ≡ count) }
-{
-    let mut outs = match Vec::with_capacity(alloc, count) {
-        Ok(outs) => outs,
-        Err(_) => return Err(Memory),
-    };
-    for _ in 0..count {
-        if outs.push(FrameBuf::new()).is_err() {
-            return Err(Memory);
-        }
-    }
-    Ok(outs)
+    Ok((dids, outs))
 }
 
 impl<A: Application> Ends<A> {
@@ -126,8 +113,7 @@ impl<A: Application> Ends<A> {
     {
         let settings = masters_set(alloc, confs)?;
         let links = links_made(alloc, confs, bounds)?;
-        let dids = dids_made(alloc, confs.len())?;
-        let outs = outs_made(alloc, confs.len())?;
+        let (dids, outs) = places_made(alloc, confs.len())?;
         let Ok(()) = self.master.connect(settings) else {
             return Err(Memory);
         };

@@ -9,7 +9,7 @@ returns-clause-ready g c =
     let links = c.in_ok-links.links in
     let set : settings.items ≡ map master_in c.args.confs.now = c.in_ok-settings.ensures in
     let links_are : links.items ≡ links_made 1 c.args.bounds.now c.args.confs.now = c.in_ok-links.ensures in
-    let dids : vec_len c.in_ok-dids.dids ≡ length c.args.confs.now = c.in_ok-dids.ensures in
-    let outs : vec_len c.in_ok-outs.outs ≡ length c.args.confs.now = c.in_ok-outs.ensures in
-    made_ready c.connect.new.self links.items c.in_ok-dids.dids.items c.in_ok-outs.outs.items c.args.bounds.now c.args.confs.now links_are c.requires
-    (ap length c.in-Ok.ensures.settings ∙ ap length set ∙ length-map c.args.confs.now master_in) (sym c.in_ok-dids.dids.ok.0 ∙ dids) (sym c.in_ok-outs.outs.ok.0 ∙ outs)
+    let dids : vec_len c.in_ok-dids.dids ≡ length c.args.confs.now = c.in_ok-dids.ensures.dids in
+    let outs : vec_len c.in_ok-dids.outs ≡ length c.args.confs.now = c.in_ok-dids.ensures.outs in
+    made_ready c.connect.new.self links.items c.in_ok-dids.dids.items c.in_ok-dids.outs.items c.args.bounds.now c.args.confs.now links_are c.requires
+    (ap length c.in-Ok.ensures.settings ∙ ap length set ∙ length-map c.args.confs.now master_in) (sym c.in_ok-dids.dids.ok.0 ∙ dids) (sym c.in_ok-dids.outs.ok.0 ∙ outs)

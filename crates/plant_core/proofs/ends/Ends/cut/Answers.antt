@@ -8,7 +8,7 @@ pub returns-clause-goes : goal.returns-clause-goes
 returns-clause-goes g c =
     let links = c.args.self.now.links in
     let p = placed links.items _ _ _ _ c.requires.link links.ok.0 c.from.ensures c.index_mut.ensures.value in
-    λ told. cut_event _ _ c.args.link c.args.cut told (search (rules, placed))
+    λ told. cut_event _ _ c.args.link c.args.cut told (search rules)
 
 pub returns-clause-fixed : goal.returns-clause-fixed
 returns-clause-fixed g c =

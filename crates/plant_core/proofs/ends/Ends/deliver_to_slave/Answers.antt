@@ -9,7 +9,7 @@ returns-clause-delivers g c =
     let links = c.args.self.now.links in
     let p = placed links.items _ _ _ _ c.requires.link links.ok.0 c.from.ensures c.index_mut-kept.ensures.value in
     let acts = rw c.bytes.ensures.value at c.deliver_to_slave.ensures.acts in
-    slave_delivered _ _ c.args.link c.args.frame.now _ _ (search (rules, placed))
+    slave_delivered _ _ c.args.link c.args.frame.now _ _ (search rules)
 
 pub returns-clause-fixed : goal.returns-clause-fixed
 returns-clause-fixed g c =

@@ -8,7 +8,7 @@ pub returns-clause-goes : goal.returns-clause-goes
 returns-clause-goes g c =
     let links = c.args.self.now.links in
     let p = placed links.items _ _ _ _ c.requires.link links.ok.0 c.from.ensures c.index_mut-kept.ensures.value in
-    slave_event _ _ c.args.event.now c.args.link c.args.what.now _ _ c.requires.is (search (rules, slave_event, placed))
+    slave_event _ _ c.args.event.now c.args.link c.args.what.now _ _ c.requires.is (search rules)
 
 pub returns-clause-fixed : goal.returns-clause-fixed
 returns-clause-fixed c = search (rules, placed, fixed_set)

@@ -54,7 +54,7 @@ returns-clause-goes g c =
     let slaves = rw c.as_mut_slice.ensures.value at c.tick_slaves.ensures.tick in
     let masters = rw (dids_are, outs_are, second) at c.masters_ticked.ensures.noted_are in
     let offers = rw (third, c.note.ensures.noted) at c.note_offers.ensures.offers in
-    rw (first, back, written) (tick_goes _ _ _ _ (search (rules, tick_goes)))
+    rw (first, back, written) (tick_goes _ _ _ _ (search rules))
 
 pub returns-clause-ready : goal.returns-clause-ready
 returns-clause-ready c = search (rules, written_back)
