@@ -15,7 +15,7 @@ pub struct Place {
 }
 
 /// A frame and where it goes.
-#[derive(Debug, Drop)]
+#[derive(Drop)]
 pub struct Parcel {
     pub to: Place,
     pub frame: FrameBuf,

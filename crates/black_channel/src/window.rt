@@ -8,7 +8,7 @@ use fsoe_base::{FrameBuf, MOST_FRAME};
 use std::marker::Model;
 
 /// The last 64 frames of one end, of which a channel may bring any again. Doesn't allocate.
-#[derive(Debug, Drop)]
+#[derive(Drop)]
 pub struct Window {
     ring: ArrayVec<FrameBuf, 64>,
     /// The place of the oldest frame, where the next one goes after all 64 places are used.

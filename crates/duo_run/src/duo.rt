@@ -15,7 +15,7 @@ use std::marker::Model;
 
 /// Both ends of a connection, with a channel that stores the last frames of each end: any of these can be delivered to
 /// the other end, also repeatedly. A monitor judges the run. No call allocates.
-#[derive(Debug, Drop)]
+#[derive(Drop)]
 pub struct Duo {
     master: Master,
     slave: Slave,

@@ -7,7 +7,7 @@ use fsoe_base::{FrameBuf, MOST_FRAME};
 use std::marker::Model;
 
 /// An item, or none. The next one is written over it, so that only its bytes are copied.
-#[derive(Debug, Drop)]
+#[derive(Drop)]
 pub struct Kept {
     there: bool,
     sent: Sent,

@@ -13,7 +13,7 @@ use std::alloc::Global;
 use std::marker::Model;
 
 /// An item of an end, and the number of the peer's item that it answers, if it answers one.
-#[derive(Debug, Drop)]
+#[derive(Drop)]
 pub struct Listed {
     sent: Sent,
     answers: Option<u64>,

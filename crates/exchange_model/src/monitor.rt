@@ -9,7 +9,7 @@ use std::marker::Model;
 
 /// Finds the first `other` entry of a run of both ends. It keeps of each end its newest item and the item that its peer
 /// awaits. Doesn't allocate.
-#[derive(Debug, Drop)]
+#[derive(Drop)]
 pub struct Monitor {
     noted: u64,
     other: Option<u64>,

@@ -10,14 +10,14 @@ use fsoe_base::{Did, FrameBuf, Took};
 use std::marker::Model;
 
 /// A frame that an end sent: its number among those of this end, from 1, and its bytes.
-#[derive(Debug, Drop)]
+#[derive(Drop)]
 pub struct Sent {
     pub(crate) number: u64,
     pub(crate) bytes: FrameBuf,
 }
 
 /// The newest item of an end, and the item of it that its peer awaits. Mostly these are one, which is kept once.
-#[derive(Debug, Drop)]
+#[derive(Drop)]
 pub struct Sender {
     pub(crate) newest: Kept,
     /// The item that the peer awaits if that isn't the newest.

@@ -27,7 +27,7 @@ pub fn data_holds(command: Command, load: &[u8]) -> bool
 }
 
 /// The safe data that an end offers, and whether fail-safe data are on (held): then it sends zeros in their place.
-#[derive(Debug, Drop)]
+#[derive(Drop)]
 pub struct Offer {
     image: Image,
     held: bool,

@@ -9,7 +9,7 @@ use std::marker::Model;
 
 /// The outputs of an end: the load of the last ProcessData frame taken, or zeros. In contracts the value is the list of
 /// these bytes.
-#[derive(Debug, Drop)]
+#[derive(Drop)]
 pub struct Outputs {
     image: Image,
 }

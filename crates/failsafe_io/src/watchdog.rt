@@ -2,7 +2,7 @@
 use std::marker::Model;
 
 /// Counts ticks up to a limit. Its age is always below the limit.
-#[derive(Debug, Drop)]
+#[derive(Drop)]
 pub struct Watchdog {
     limit: u16,
     age: u16,

@@ -9,7 +9,7 @@ use crate::kind::{BlockKind, MOST_INPUTS};
 use std::marker::Model;
 
 /// A function block. It keeps no cycles, only the few values that its output depends on, and doesn't allocate.
-#[derive(Debug, Drop)]
+#[derive(Drop)]
 pub struct Block {
     n: u16,
     held: Held,

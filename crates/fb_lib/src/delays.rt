@@ -14,7 +14,7 @@ pub(crate) fn risen(count: u16, ticked: bool) -> u16
 }
 
 /// How many ticked cycles, up to `n`, the input has been true.
-#[derive(Debug, Drop)]
+#[derive(Drop)]
 pub(crate) struct OnDelay {
     age: u16,
 }
@@ -43,7 +43,7 @@ impl OnDelay {
 }
 
 /// After how many more ticked cycles the output is false; in the last of them it is.
-#[derive(Debug, Drop)]
+#[derive(Drop)]
 pub(crate) struct OffDelay {
     left: u16,
 }

@@ -3,7 +3,7 @@ ghost use Rattle.std.specs.Prelude.{◌≡◌, false};
 ghost use Rattle.fb_lib.specs.Steps.{next_estop};
 
 /// Whether an emergency stop is on, and what `ack` was in the last cycle.
-#[derive(Debug, Drop)]
+#[derive(Drop)]
 pub(crate) struct Estop {
     on: bool,
     ack: bool,

@@ -5,7 +5,7 @@ ghost use Rattle.fb_lib.specs.Steps.{next_feedback};
 use crate::delays::risen;
 
 /// Whether the output is on, for how many ticked cycles the contactor hasn't followed, and whether that was too long.
-#[derive(Debug, Drop)]
+#[derive(Drop)]
 pub(crate) struct Feedback {
     on: bool,
     age: u16,

@@ -15,7 +15,7 @@ use crate::latch::Latch;
 use crate::two_hand::TwoHand;
 
 /// What a block of each kind keeps between cycles.
-#[derive(Debug, Drop)]
+#[derive(Drop)]
 pub(crate) enum Held {
     Const0,
     Const1,

@@ -3,7 +3,7 @@ ghost use Rattle.std.specs.Prelude.{◌≡◌, false};
 ghost use Rattle.fb_lib.specs.Steps.{next_latch};
 
 /// Whether a latch is on.
-#[derive(Debug, Drop)]
+#[derive(Drop)]
 pub(crate) struct Latch {
     on: bool,
 }

@@ -6,7 +6,7 @@ ghost use Rattle.fb_lib.specs.Steps.{risen, next_hands, is_on};
 use crate::delays::risen;
 
 /// What the two buttons did up to now.
-#[derive(Clone, Copy, Debug)]
+#[derive(Clone, Copy)]
 pub(crate) enum TwoHand {
     /// Both must be released first.
     Spent,

@@ -8,7 +8,7 @@ use fsoe_base::Image;
 
 /// Gives each connection its input bytes as its outputs where both exist, and 0 elsewhere. It guards each output bit by
 /// the same input bit.
-#[derive(Debug, Drop)]
+#[derive(Drop)]
 pub struct Mirror;
 
 /// A byte, or 0 where there is none.

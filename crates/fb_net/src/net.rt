@@ -15,7 +15,7 @@ use fsoe_base::Image;
 use std::marker::Model;
 
 /// A net: blocks that are stepped in order in each cycle, and output bits that are driven. A cycle doesn't allocate.
-#[derive(Debug, Drop)]
+#[derive(Drop)]
 pub struct Net {
     blocks: Vec<BlockSpec>,
     drives: Vec<Drive>,

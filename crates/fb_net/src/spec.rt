@@ -7,7 +7,7 @@ use failsafe_io::Bit;
 use fb_lib::{Block, BlockKind};
 
 /// A block of a net, and the wires of its inputs.
-#[derive(Debug, Drop)]
+#[derive(Drop)]
 pub struct BlockSpec {
     /// The block.
     pub block: Block,
@@ -29,7 +29,7 @@ impl BlockSpec {
 }
 
 /// An output bit that a net sets in each cycle, and what it reads for it.
-#[derive(Clone, Copy, Debug, PartialEq, Eq)]
+#[derive(Clone, Copy, PartialEq, Eq)]
 pub struct Drive {
     /// The output bit.
     pub out: Bit,

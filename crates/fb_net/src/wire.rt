@@ -5,7 +5,7 @@ use failsafe_io::Bit;
 use std::marker::Model;
 
 /// What a block's input or an output bit reads.
-#[derive(Clone, Copy, Debug, PartialEq, Eq)]
+#[derive(Clone, Copy, PartialEq, Eq)]
 pub enum Wire {
     /// A bit of the inputs.
     Input(Bit),
@@ -14,7 +14,7 @@ pub enum Wire {
 }
 
 /// The wires of a block's inputs, in their order. Contracts see it as a list.
-#[derive(Debug, Drop)]
+#[derive(Drop)]
 pub struct Wires {
     ins: Vec<Wire>,
 }

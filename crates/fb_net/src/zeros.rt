@@ -6,7 +6,7 @@ use failsafe_io::{Application, Bit};
 use fsoe_base::Image;
 
 /// Answers zeros, and guards every output bit by every input bit.
-#[derive(Debug, Drop)]
+#[derive(Drop)]
 pub struct Zeros;
 
 impl Application for Zeros {

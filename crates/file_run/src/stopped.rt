@@ -13,7 +13,7 @@ pub enum Stopped {
 }
 
 /// Why a header doesn't take its next line.
-#[derive(Clone, Copy, Debug)]
+#[derive(Clone, Copy)]
 pub enum Untaken {
     /// The line is refused.
     Line(LineCause),

@@ -8,7 +8,7 @@ use arrayvec::ArrayVec;
 use std::marker::Model;
 
 /// At most `MOST` bytes, which lie in the value itself. In contracts the value is the list of these bytes.
-#[derive(Debug, Drop)]
+#[derive(Drop)]
 pub struct ByteList<const MOST: usize> {
     /// The bytes, and behind them what other bytes left there, so that none is blanked when the list gets shorter.
     places: ArrayVec<u8, MOST>,

@@ -7,7 +7,7 @@ use std::marker::Model;
 
 /// What a master has in every state: its settings, its offer, and its nonce. It is made and changed by the master
 /// alone.
-#[derive(Debug, Drop)]
+#[derive(Drop)]
 pub(crate) struct Kit {
     settings: MasterSettings,
     offer: Offer,

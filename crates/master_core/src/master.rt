@@ -16,7 +16,7 @@ use std::marker::Model;
 
 /// The master of a connection. It has no clock and no communication interface: the caller passes in frames and ticks,
 /// and sends the frames that the master writes.
-#[derive(Debug, Drop)]
+#[derive(Drop)]
 pub struct Master {
     kit: Kit,
     phase: Phase,

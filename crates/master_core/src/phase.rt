@@ -13,7 +13,7 @@ use seq_chain::{Link, Session, SessionFrame, reset_frame, test_session};
 use std::mem;
 
 /// The phase that a master is in: that of the frame that it sent last, or of the one that is due.
-#[derive(Debug, Drop)]
+#[derive(Drop)]
 pub(crate) enum Phase {
     Reset(InReset),
     /// This Reset frame of the slave began a session, whose first frame is due.

@@ -20,35 +20,35 @@ use std::mem;
 
 /// A token: the master owes the frame of its phase. The code is that of the Reset frame in state Reset, and 0 in the
 /// other states. Accepting a frame or ending a session creates the token; sending the frame needs it and consumes it.
-#[derive(Debug, Drop)]
+#[derive(Drop)]
 pub struct Due {
     pub(crate) code: Code,
 }
 
 /// No session.
-#[derive(Debug, Drop)]
+#[derive(Drop)]
 pub struct InReset(pub(crate) ());
 
 /// A session in which session ids are exchanged.
-#[derive(Debug, Drop)]
+#[derive(Drop)]
 pub struct InSession {
     pub(crate) exchange: Exchange,
 }
 
 /// A session in which the connection id and the slave's address are exchanged.
-#[derive(Debug, Drop)]
+#[derive(Drop)]
 pub struct InConnection {
     pub(crate) exchange: Exchange,
 }
 
 /// A session in which the parameters are exchanged.
-#[derive(Debug, Drop)]
+#[derive(Drop)]
 pub struct InParameter {
     pub(crate) exchange: Exchange,
 }
 
 /// A session in which data are exchanged under complete terms.
-#[derive(Debug, Drop)]
+#[derive(Drop)]
 pub struct InData {
     pub(crate) session: Session,
     pub(crate) terms: Terms,
@@ -56,7 +56,7 @@ pub struct InData {
 }
 
 /// A phase of a handshake: the session, and the download of the phase.
-#[derive(Debug, Drop)]
+#[derive(Drop)]
 pub(crate) struct Exchange {
     pub(crate) session: Session,
     download: Download,

@@ -12,7 +12,7 @@ const MOST_APPLICATION: usize = 512;
 pub type AppBytes = ByteList<MOST_APPLICATION>;
 
 /// Which application parameters a slave accepts.
-#[derive(Debug, Drop)]
+#[derive(Drop)]
 pub enum AppRule {
     /// Accepts any list of this many bytes.
     Any(u16),

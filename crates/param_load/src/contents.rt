@@ -10,7 +10,7 @@ use crate::profile::Profile;
 use fsoe_base::{Code, is_all_zero};
 
 /// What an upload is expected to bring, with what its fields are compared with.
-#[derive(Debug, Drop)]
+#[derive(Drop)]
 pub(crate) enum Expected {
     /// A session id of this profile.
     Session(Profile),

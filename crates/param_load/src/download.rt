@@ -6,7 +6,7 @@ use std::marker::Model;
 
 /// A payload that a master sends piece by piece, one a frame, until each is answered. In contracts the value is the
 /// payload, the bytes of a piece, whether the answers are echoes, and the place where the current piece begins.
-#[derive(Debug, Drop)]
+#[derive(Drop)]
 pub struct Download {
     payload: Payload,
     piece: usize,

@@ -4,7 +4,7 @@ use crate::terms::Terms;
 use fsoe_base::{Did, End, FrameBuf, Image, State};
 
 /// One event at an end.
-#[derive(Debug, Drop)]
+#[derive(Drop)]
 pub enum Move {
     /// These bytes came as a frame of the peer.
     Deliver(FrameBuf),

@@ -9,7 +9,7 @@ use crate::terms::Terms;
 use fsoe_base::{End, Lengths, MOST_DATA};
 
 /// The settings of a master. The connection id and the watchdog aren't 0, and the profile allows the session id.
-#[derive(Debug, Drop)]
+#[derive(Drop)]
 pub struct MasterSettings {
     lengths: Lengths,
     conn: u16,

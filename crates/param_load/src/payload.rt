@@ -12,7 +12,7 @@ use fsoe_base::{ByteList, Image, MOST_DATA};
 use std::marker::Model;
 
 /// A payload of a handshake, at most 520 bytes, sent in pieces, one a frame. In contracts the value is its bytes.
-#[derive(Debug, Drop)]
+#[derive(Drop)]
 pub struct Payload {
     inner: ByteList<520>,
 }

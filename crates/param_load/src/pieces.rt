@@ -12,7 +12,7 @@ use std::marker::Model;
 /// The pieces of a payload, one in each frame, which are tested against what is expected. The caller of `take` keeps
 /// the rule for application parameters. In contracts the value is what is expected, the bytes of a piece, and the
 /// pieces so far, joined.
-#[derive(Debug, Drop)]
+#[derive(Drop)]
 pub struct Pieces {
     expected: Expected,
     piece: usize,

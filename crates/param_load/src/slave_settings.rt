@@ -10,7 +10,7 @@ use fsoe_base::{End, Lengths, MOST_DATA};
 
 /// The settings of a slave. The limits `hand` and `most` aren't 0, the rule is acceptable, and the profile allows the
 /// session id.
-#[derive(Debug, Drop)]
+#[derive(Drop)]
 pub struct SlaveSettings {
     lengths: Lengths,
     address: u16,

@@ -5,7 +5,7 @@ use crate::app_rule::AppBytes;
 use crate::profile::Profile;
 
 /// The parameters that both ends agreed on in the handshake, and that apply in state Data.
-#[derive(Debug, Drop)]
+#[derive(Drop)]
 pub struct Terms {
     /// The connection id.
     pub conn: u16,

@@ -19,7 +19,7 @@ pub enum Progress {
 
 /// A payload that comes piece by piece, with the rule for its application parameters. `Slave` has this rule in its
 /// settings, so it keeps only `Pieces`.
-#[derive(Debug, Drop)]
+#[derive(Drop)]
 pub struct Upload {
     pieces: Pieces,
     rule: AppRule,

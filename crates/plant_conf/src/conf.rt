@@ -8,7 +8,7 @@ use std::marker::Model;
 use std::mem;
 
 /// The settings of both ends of a connection, in profile One.
-#[derive(Debug, Drop)]
+#[derive(Drop)]
 pub struct LinkConf {
     /// The master.
     pub master: MasterSettings,
@@ -17,7 +17,7 @@ pub struct LinkConf {
 }
 
 /// A bound that is watched: how long an output bit may stay on after an input bit went off.
-#[derive(Clone, Copy, Debug, PartialEq, Eq)]
+#[derive(Clone, Copy, PartialEq, Eq)]
 pub struct BoundSpec {
     /// The input bit, such as that of an emergency stop.
     pub estop: Bit,
@@ -27,7 +27,7 @@ pub struct BoundSpec {
 
 /// The configuration of a plant: from 1 to 64 connections with different ids, and at most 256 blocks, 1,024 driven
 /// output bits and 16 bounds. Whether its net can be made, and whether the bits of its bounds exist, isn't tested here.
-#[derive(Debug, Drop)]
+#[derive(Drop)]
 pub struct PlantConf {
     pub(crate) links: Vec<LinkConf>,
     pub(crate) blocks: Vec<BlockSpec>,

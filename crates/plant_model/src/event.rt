@@ -3,7 +3,7 @@ use fsoe_base::{End, Image};
 use schedule_file::LineBuf;
 
 /// An event of a plant's script. Connections are numbered from 1.
-#[derive(Debug, Drop)]
+#[derive(Drop)]
 pub enum PlantEvent {
     /// The time of all ends goes on by one tick, and the channel brings what it does.
     Tick,

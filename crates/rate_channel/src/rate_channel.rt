@@ -16,7 +16,7 @@ use std::marker::Model;
 
 /// Of 10,000 pushed frames, about how many a channel loses, alters and repeats; and of 10,000 pulls, about how many
 /// give nothing, so that all that is under way is late.
-#[derive(Clone, Copy, Debug, Default, PartialEq, Eq)]
+#[derive(Clone, Copy, Default, PartialEq, Eq)]
 pub struct Rates {
     pub lose: u16,
     pub alter: u16,

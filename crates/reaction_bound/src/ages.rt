@@ -11,7 +11,7 @@ use std::marker::Model;
 
 /// Counts how old the outputs of both ends of a connection are: the ticks of an end since its peer sent the item of
 /// these outputs. It is also the connection's monitor, which finds the first `other` entry. Doesn't allocate.
-#[derive(Debug, Drop)]
+#[derive(Drop)]
 pub struct Ages {
     monitor: Monitor,
     master: EndAge,

@@ -7,7 +7,7 @@ use fsoe_base::{Command, Did};
 
 /// Outputs from an item: the ticks that are left until the watchdog expires, not 0, and the ticks since the item was
 /// sent.
-#[derive(Clone, Copy, Debug)]
+#[derive(Clone, Copy)]
 pub struct Standing {
     pub(crate) left: u16,
     pub(crate) age: u32,
@@ -15,7 +15,7 @@ pub struct Standing {
 
 /// The ticks since the awaited item was sent, 0 if none is; the outputs, if they are from an item; and the greatest age
 /// that they had. Ticks are those of the end, and their counts stop at 2^32 - 1.
-#[derive(Debug, Drop)]
+#[derive(Drop)]
 pub struct EndAge {
     pub(crate) waited: u32,
     pub(crate) standing: Option<Standing>,

@@ -3,7 +3,7 @@ use std::marker::Model;
 
 /// Finds the first tick at which a drive is on although its stop was pressed (its bit is 0) for `limit` ticks. Doesn't
 /// allocate.
-#[derive(Debug, Drop)]
+#[derive(Drop)]
 pub struct Reaction {
     limit: u32,
     ticks: u64,

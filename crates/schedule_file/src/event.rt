@@ -8,7 +8,7 @@ pub const MAX_EVENTS: u64 = 200_000;
 pub const MAX_BACK: u32 = 64;
 
 /// What happens to one end of a pair.
-#[derive(Debug, Drop)]
+#[derive(Drop)]
 pub enum Event {
     /// The end `to` is delivered the `back`-th frame back, from 1 to 64, of those that its peer sent.
     Deliver {
@@ -53,7 +53,7 @@ pub enum Event {
 }
 
 /// What a line after the header says.
-#[derive(Debug, Drop)]
+#[derive(Drop)]
 pub enum ScheduleLine {
     /// An event.
     Step(Event),

@@ -35,7 +35,7 @@ use std::marker::Model;
 /// - `go`.
 ///
 /// A nonce above 65,535 is one of profile Two, so the `profile` of its end has to come next.
-#[derive(Debug, Drop)]
+#[derive(Drop)]
 pub struct Header {
     kind: HeaderKind,
     place: Place,

@@ -12,14 +12,14 @@ use crate::place::Word;
 use fsoe_base::Lengths;
 
 /// The numbers of a `lengths` line: how many safe data bytes each end sends.
-#[derive(Clone, Copy, Debug)]
+#[derive(Clone, Copy)]
 pub struct LengthsLine {
     pub master: u16,
     pub slave: u16,
 }
 
 /// The numbers of a `master` line: the connection id, the slave's address, the watchdog in ticks and the session id.
-#[derive(Clone, Copy, Debug)]
+#[derive(Clone, Copy)]
 pub struct MasterLine {
     pub conn: u16,
     pub address: u16,
@@ -29,7 +29,7 @@ pub struct MasterLine {
 
 /// The numbers of a `slave` line: its address, the handshake timeout in ticks, the longest watchdog in ticks that it
 /// accepts, and the session id.
-#[derive(Clone, Copy, Debug)]
+#[derive(Clone, Copy)]
 pub struct SlaveLine {
     pub address: u16,
     pub hand: u16,

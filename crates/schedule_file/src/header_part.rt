@@ -16,7 +16,7 @@ use std::marker::Model;
 pub const MAX_APP: usize = 512;
 
 /// What the lines of the master say together.
-#[derive(Debug, Drop)]
+#[derive(Drop)]
 pub struct MasterPart {
     line: MasterLine,
     profile: Profile,
@@ -37,7 +37,7 @@ impl Model for MasterPart {
 }
 
 /// What the lines of the slave say together.
-#[derive(Debug, Drop)]
+#[derive(Drop)]
 pub struct SlavePart {
     line: SlaveLine,
     profile: Profile,

@@ -14,7 +14,7 @@ use rand_pcg::Pcg32;
 use std::marker::Model;
 
 /// The next event in turn.
-#[derive(Clone, Copy, Debug)]
+#[derive(Clone, Copy)]
 enum Turn {
     /// The first tick of the master.
     Tick,
@@ -25,7 +25,7 @@ enum Turn {
 }
 
 /// Makes the events of a number's schedule, one after another, without an end.
-#[derive(Debug, Drop)]
+#[derive(Drop)]
 pub struct Maker {
     turn: Turn,
     /// How many events in turn come before those by the generator; None if all are in turn.

@@ -16,7 +16,7 @@ use param_load::Profiles;
 use std::marker::Model;
 
 /// What a line after the header of several pairs says.
-#[derive(Debug, Drop)]
+#[derive(Drop)]
 pub enum PairsLine {
     /// The time of all pairs goes on by one tick: of every slave in the order of pairs, and then of every master.
     Tick,
@@ -27,7 +27,7 @@ pub enum PairsLine {
 }
 
 /// What happens to several pairs: a line that isn't the end.
-#[derive(Debug, Drop)]
+#[derive(Drop)]
 pub enum PairsEvent {
     /// The time of all pairs goes on by one tick.
     Tick,

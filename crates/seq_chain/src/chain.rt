@@ -14,7 +14,7 @@ use fsoe_frame::FrameView;
 
 /// The sequence number and the CRC_0 of the last frame that an end sent in a session, and of the last that it took.
 /// Reset frames don't belong to it, so a session begins with a new chain.
-#[derive(Clone, Copy, Debug, PartialEq, Eq)]
+#[derive(Clone, Copy, PartialEq, Eq)]
 pub struct Chain {
     own: Option<Link>,
     taken: Option<Link>,

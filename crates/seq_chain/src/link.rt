@@ -10,7 +10,7 @@ use crate::cover::{common_part, first_crc};
 use fsoe_crc::Register;
 
 /// What one direction of a session stores of its last frame. Only a seal or a passed CRC test creates it.
-#[derive(Clone, Copy, Debug, PartialEq, Eq)]
+#[derive(Clone, Copy, PartialEq, Eq)]
 pub struct Link {
     /// The sequence number, 1 to 65,535, which isn't on the wire.
     pub(crate) number: u16,

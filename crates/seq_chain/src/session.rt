@@ -11,7 +11,7 @@ use crate::session_frame::SessionFrame;
 use fsoe_base::{Code, Command, FrameBuf};
 
 /// What an end keeps of a session: its chain, and the last frame that it took, to detect a repeat.
-#[derive(Debug, Drop)]
+#[derive(Drop)]
 pub struct Session {
     chain: Chain,
     last: FrameBuf,

@@ -7,7 +7,7 @@ use std::marker::Model;
 
 /// What a slave has in every state: its settings, its offer, and its nonce. It is made and changed by the slave
 /// alone.
-#[derive(Debug, Drop)]
+#[derive(Drop)]
 pub struct Kit {
     settings: SlaveSettings,
     offer: Offer,

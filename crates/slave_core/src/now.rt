@@ -7,7 +7,7 @@ use param_load::Terms;
 use seq_chain::{Link, Session, SessionFrame, test_session};
 
 /// The state that a slave is in.
-#[derive(Debug, Drop)]
+#[derive(Drop)]
 pub(crate) enum Now {
     Reset(InReset),
     Session(InSession),

@@ -14,7 +14,7 @@ use std::marker::Model;
 
 /// The slave of a connection. It has no clock and no communication interface: the caller passes in frames and ticks,
 /// and sends the frames that the slave writes.
-#[derive(Debug, Drop)]
+#[derive(Drop)]
 pub struct Slave {
     kit: Kit,
     state: Now,

@@ -22,13 +22,13 @@ use seq_chain::Session;
 use std::mem;
 
 /// No session.
-#[derive(Debug, Drop)]
+#[derive(Drop)]
 pub struct InReset {
     private: (),
 }
 
 /// State Session: session ids are being exchanged, or they are complete and the first Connection frame hasn't come yet.
-#[derive(Debug, Drop)]
+#[derive(Drop)]
 pub struct InSession {
     pub(crate) session: Session,
     id: u32,
@@ -37,7 +37,7 @@ pub struct InSession {
 
 /// State Connection: connection id and slave address are being exchanged, or they are complete and the first Parameter
 /// frame hasn't come yet.
-#[derive(Debug, Drop)]
+#[derive(Drop)]
 pub struct InConnection {
     pub(crate) session: Session,
     pub(crate) conn: u16,
@@ -45,7 +45,7 @@ pub struct InConnection {
 }
 
 /// State Parameter: the parameters are being exchanged, or they are complete and the first data frame hasn't come yet.
-#[derive(Debug, Drop)]
+#[derive(Drop)]
 pub struct InParameter {
     pub(crate) session: Session,
     pub(crate) conn: u16,
@@ -54,7 +54,7 @@ pub struct InParameter {
 }
 
 /// State Data: safe data are exchanged under complete terms.
-#[derive(Debug, Drop)]
+#[derive(Drop)]
 pub struct InData {
     pub(crate) session: Session,
     pub(crate) terms: Terms,

@@ -2,7 +2,7 @@
 use fsoe_base::{End, FrameBuf};
 
 /// A recorded frame, and the end that it was seen to come from.
-#[derive(Debug, Drop)]
+#[derive(Drop)]
 pub struct Noted {
     pub from: End,
     pub frame: FrameBuf,

@@ -9,7 +9,7 @@ use fsoe_base::{End, FrameBuf};
 use schedule_file::{LineCause, bytes_field, cut, no_field};
 
 /// What a line of a trace says after the header.
-#[derive(Debug, Drop)]
+#[derive(Drop)]
 pub enum TraceLine {
     /// A frame.
     Sent(Noted),
