@@ -31,9 +31,9 @@
 //! A program whose next data depend on the received frame calls `accept` in place of `deliver`, reads `outputs`, and
 //! calls `put`. If `due()` is then true, it calls `reply`: if that sends a ProcessData frame, the frame carries what
 //! was put. `hold(true)` makes the master send fail-safe data (zeros) in place of what was put, until `hold(false)`.
-//! `nonce` sets the session id. A session takes the id that was set last before the master's first Session frame in it.
-//! The master never makes an id itself: call `nonce` with a fresh one before each session. A reset changes neither what
-//! was put, nor the hold, nor the id.
+//! `nonce` sets the session id. When the master sends the first Session frame of a session, the id that was set last
+//! becomes the id of this session. The master never makes an id itself: call `nonce` with a fresh one before each
+//! session. A reset changes neither what was put, nor the hold, nor the id.
 //!
 //! ```rust
 //! use fsoe_base::{FrameBuf, Lengths};

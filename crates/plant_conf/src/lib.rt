@@ -1,6 +1,7 @@
 //! Reads the configuration of a plant from TOML text. A plant is many connections with both ends, an application and a
 //! channel. The result has the connections, the net of function blocks, the bounds that are watched, and the names of
-//! the application and of the channel. Or it is the first fault, and the key that it is about, if it is about a key.
+//! the application and of the channel. If the text has faults, the result is the first of them, with its key if it has
+//! one.
 //!
 //! ```rust
 //! use plant_conf::read_conf;

@@ -6,7 +6,7 @@
 //! ```text
 //! let mut images = Images::new(size_in, size_out, slots)?;
 //! loop {
-//!     images.write(0, &cycle.input());          // or only the part that came
+//!     images.write(0, &cycle.input());          // or only the slots that came whole
 //!     images.sample(&mut dids);                 // for each end whose slot has changed, what it did
 //!     cycle.give(images.out());                 // returns when the fieldbus has copied it
 //!     if clock.ticked() {
@@ -19,15 +19,16 @@
 //! This has consequences that the program has to know:
 //!
 //! - Two equal frames one after the other are seen as one. A slave's Reset frame after a local reset has the same bytes
-//!   as its answer to the master's Reset(0). So the master doesn't see that answer, and waits. Write other bytes into
-//!   the master's slot, `sample`, and write the answer again.
+//!   as its answer to the master's Reset(0). So the master doesn't see that answer. The master waits for ever: its next
+//!   Reset frames have the same bytes as its last one, so the slave doesn't see them either. Write other bytes into the
+//!   master's slot, call `sample`, and write the answer again.
 //! - Zeros are a frame, too, if the slot had other bytes at the sample before. A bus that fills its image with zeros
 //!   ends each session.
 //! - Bytes of the input image that are overwritten before they were sampled are lost. A frame in the output image is
 //!   lost, too, if its end sends the next one before the image was passed on. Pass it on after each sample and each
 //!   tick.
-//! - If only a part of a frame was written before the sample, the end takes the bytes there for another frame. That
-//!   ends the session, unless the end is in state Reset or the bytes happen to pass all tests.
+//! - If only a part of a frame was written before the sample, the end reads the bytes that are there as another frame.
+//!   That ends the session, unless the end is in state Reset or the bytes happen to pass all tests.
 //!
 //! ```rust
 //! use fsoe_base::Lengths;

@@ -1,7 +1,7 @@
 //! How old the outputs of both ends of a connection are, and whether an emergency stop switches a drive off in time.
-//! The laws say how old outputs can be. A plant counts for each bound of its configuration how old the outputs of the
-//! bound's two connections are, and watches whether the drive is off in time. Time is counted in ticks; no clock is
-//! read.
+//! The laws say how old outputs can be. A plant may have bounds in its configuration. For each bound it counts the age
+//! of the outputs of both connections, and watches whether the drive is off in time. Time is counted in ticks; no clock
+//! is read.
 //!
 //! ```rust
 //! use reaction_bound::Reaction;

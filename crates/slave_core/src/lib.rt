@@ -27,9 +27,9 @@
 //! ```
 //!
 //! `hold(true)` makes the slave send fail-safe data (zeros) in place of what was put, until `hold(false)`. `nonce` sets
-//! the session id. A session takes the id that was set last before the slave's first Session frame in it. The slave
-//! never makes an id itself: call `nonce` with a fresh one before each session. A reset changes neither what was put,
-//! nor the hold, nor the id.
+//! the session id. When the slave sends the first Session frame of a session, the id that was set last becomes the id
+//! of this session. The slave never makes an id itself: call `nonce` with a fresh one before each session. A reset
+//! changes neither what was put, nor the hold, nor the id.
 //!
 //! ```rust
 //! use fsoe_base::{FrameBuf, Lengths, State};

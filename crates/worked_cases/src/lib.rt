@@ -3,8 +3,8 @@
 //! answers are compared with values that were found without this code. What the program does is tested in `runs/`. What
 //! a contract states needs no test.
 //!
-//! Tests have crates of their own, since a crate would be proved twice if it had tests. Those of single ends and of the
-//! crates around them are in `worked_ends`, those of complete runs in `worked_runs`.
+//! Tests have crates of their own, since a crate would be proved twice if it had tests. Tests of single ends, and of
+//! the crates around them, are in `worked_ends`; tests of complete runs are in `worked_runs`.
 #![tactic(auto)]
 
 #[cfg(test)]

@@ -1,6 +1,6 @@
-//! Tests of `slave_core` and `master_core`, and of crates that run or judge ends, with one module for each crate; one
-//! module is for what errors say. The expected values were found without this code. Tests of most crates that run no
-//! end are in `worked_cases`.
+//! Tests of `slave_core` and `master_core`, and of crates that run or judge ends. There is one module of tests for each
+//! of these crates, and one more for the texts of errors. The expected values were found without this code. Tests of
+//! most crates that run no end are in `worked_cases`.
 #![tactic(auto)]
 
 #[cfg(test)]
