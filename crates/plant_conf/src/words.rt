@@ -11,10 +11,24 @@ use fb_lib::BlockKind;
 use fb_net::Wire;
 use memchr::memchr;
 use param_load::{AppBytes, AppRule};
-use schedule_file::read_number;
+use schedule_file::{find_word, read_number};
 
 /// The most bytes of application parameters.
 const MOST_APPLICATION: usize = 512;
+
+/// The kinds of blocks.
+const KINDS: [(&[u8], BlockKind); 10] = [
+    (b"const0", BlockKind::Const0),
+    (b"const1", BlockKind::Const1),
+    (b"and", BlockKind::And),
+    (b"or", BlockKind::Or),
+    (b"latch", BlockKind::Latch),
+    (b"estop", BlockKind::Estop),
+    (b"twohand", BlockKind::TwoHand),
+    (b"ondelay", BlockKind::OnDelay),
+    (b"offdelay", BlockKind::OffDelay),
+    (b"feedback", BlockKind::Feedback),
+];
 
 /// A number of 16 bits, in digits with no sign and no leading zero.
 fn number(text: &[u8]) -> Option<u16>
@@ -90,29 +104,7 @@ pub(crate) fn wire(text: &[u8]) -> Option<Wire>
 pub(crate) fn kind(text: &[u8]) -> Option<BlockKind>
     ensures { result ≡ kind_said text.now }
 {
-    if text == b"const0".as_slice() {
-        Some(BlockKind::Const0)
-    } else if text == b"const1".as_slice() {
-        Some(BlockKind::Const1)
-    } else if text == b"and".as_slice() {
-        Some(BlockKind::And)
-    } else if text == b"or".as_slice() {
-        Some(BlockKind::Or)
-    } else if text == b"latch".as_slice() {
-        Some(BlockKind::Latch)
-    } else if text == b"estop".as_slice() {
-        Some(BlockKind::Estop)
-    } else if text == b"twohand".as_slice() {
-        Some(BlockKind::TwoHand)
-    } else if text == b"ondelay".as_slice() {
-        Some(BlockKind::OnDelay)
-    } else if text == b"offdelay".as_slice() {
-        Some(BlockKind::OffDelay)
-    } else if text == b"feedback".as_slice() {
-        Some(BlockKind::Feedback)
-    } else {
-        None
-    }
+    find_word(&KINDS, text)
 }
 
 /// What a rule says of application parameters: `any` bytes of the number of these, or `exact`ly these.

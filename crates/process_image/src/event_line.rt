@@ -11,7 +11,8 @@ use crate::said::Said;
 use fsoe_base::Image;
 use param_load::Profile;
 use schedule_file::{
-    LineCause, cut, next_field, no_field, number_16, number_32, one_field, read_bytes, read_switch,
+    LineCause, cut, find_word, next_field, no_field, number_16, number_32, one_field, read_bytes,
+    read_switch,
 };
 
 /// The word that begins a line of an event, or `end`.
@@ -26,6 +27,18 @@ pub(crate) enum Word {
     Reset,
     End,
 }
+
+/// The words of events, and `end`.
+const WORDS: [(&[u8], Word); 8] = [
+    (b"w", Word::Write),
+    (b"s", Word::Sample),
+    (b"t", Word::Tick),
+    (b"p", Word::Put),
+    (b"h", Word::Hold),
+    (b"n", Word::Nonce),
+    (b"z", Word::Reset),
+    (b"end", Word::End),
+];
 
 /// What lines of events look at of the end of a slot.
 #[derive(Clone, Copy)]
@@ -49,25 +62,7 @@ impl Default for SlotEnd {
 fn read_word(text: &[u8]) -> Option<Word>
     ensures { result ≡ word_of text.now }
 {
-    if text == b"w".as_slice() {
-        Some(Word::Write)
-    } else if text == b"s".as_slice() {
-        Some(Word::Sample)
-    } else if text == b"t".as_slice() {
-        Some(Word::Tick)
-    } else if text == b"p".as_slice() {
-        Some(Word::Put)
-    } else if text == b"h".as_slice() {
-        Some(Word::Hold)
-    } else if text == b"n".as_slice() {
-        Some(Word::Nonce)
-    } else if text == b"z".as_slice() {
-        Some(Word::Reset)
-    } else if text == b"end".as_slice() {
-        Some(Word::End)
-    } else {
-        None
-    }
+    find_word(&WORDS, text)
 }
 
 /// The end of the slot of this number, where there is one.

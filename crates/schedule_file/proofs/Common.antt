@@ -24,7 +24,7 @@ pub use Rattle.schedule_file.specs.FieldsRead.{Becomes, fields_after, not_hex}
 pub use Rattle.schedule_file.specs.Header.{Heading, IsMasterOf, IsSlaveOf, fields_taken, heading_after, heading_new, heading_with, profile_given, profile_taken, rule_place, title_taken}
 pub use Rattle.schedule_file.specs.HeaderLine.{any_line, header_line, lengths_line, listed_line, master_line, profile_line, range_line, rule_line, slave_line}
 pub use Rattle.schedule_file.specs.HeaderPart.{highs_of, list_with, lows_of, master_with_app, profile_for, ranges_with, rule_begun, rule_with_bytes, rule_with_pairs, slave_with_bytes, slave_with_pairs}
-pub use Rattle.schedule_file.specs.Input.{AtEnd, InputCause, InputFormat, NoLine, Refused, Stop, WholeHeaderOf, event_of, header_in, header_of, header_read, header_step, heading_profile, input_after, input_by, input_of, input_read, is_full, lines_in, lines_of, open_line, own_length, said_after, schedule_format, steps, texts, whole_line, with_room}
+pub use Rattle.schedule_file.specs.Input.{AtEnd, InputCause, InputFormat, NoLine, Refused, Stop, WholeHeaderOf, event_of, header_in, header_of, header_read, header_step, heading_profile, input_by, input_of, input_read, is_full, lines_in, lines_of, open_line, own_length, said_after, schedule_format, steps, texts, whole_line, with_room}
 pub use Rattle.schedule_file.specs.PairEvent.{end_letter, event_said, pair_line, pair_said, pair_said_by, pair_word_of}
 pub use Rattle.schedule_file.specs.PairsEvent.{common_line, is_digits, numbered, numbered_line, of_pair, pairs_line, pairs_said, refused_for, said_to, said_to_number, unlinked}
 pub use Rattle.schedule_file.specs.PairsFit.{FitsEnds, FitsPair, IsPair, PairsLineFits, line_of_event, with_pair}

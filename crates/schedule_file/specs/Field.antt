@@ -1,7 +1,7 @@
 -- The fields of a line, and what one field says.
-use Rattle.std.specs.Prelude.{ℕ, ◌==◌, ◌&&◌, ◌||◌, nat_le, nat_lt, length, slice_index, Bool, List, Option, Some, None, Result, Ok, Err, if◌then◌else◌}
+use Rattle.std.specs.Prelude.{ℕ, ◌==◌, ◌&&◌, ◌||◌, nat_le, nat_lt, length, slice_index, Bool, List, [], ◌∷◌, Option, Some, None, Result, Ok, Err, if◌then◌else◌}
 use Rattle.std.specs.List.{slice_split}
-use Rattle.std.specs.Str.{all_ascii_digits}
+use Rattle.std.specs.Str.{all_ascii_digits, bytes_eq}
 use Rattle.std.specs.Str.Parse.{digits_value}
 use Rattle.hex.specs.Hex.{decode_of}
 use Rattle.hex.specs.declared.error.FromHexError.{FromHexError}
@@ -13,6 +13,11 @@ is_space b = b == 32
 -- a line is cut at each single space, so a field may be empty
 abbrev pub fields_of : List ℕ → List (List ℕ)
 fields_of line = slice_split is_space line
+
+-- what stands beside this text in a table of words, the first if there are several
+abbrev pub word_in : {T : Type 0} → List (List ℕ × T) → List ℕ → Option T
+word_in [] text = None
+word_in ((word, meaning) ∷ words) text = if bytes_eq text word then Some meaning else word_in words text
 
 -- a number is digits with no leading zero, or just 0
 abbrev pub is_number : List ℕ → Bool

@@ -15,20 +15,6 @@ use Rattle.schedule_file.specs.declared.line_cause.LineCause.TheVariants as caus
 use Rattle.schedule_file.specs.declared.pair_event.PairWord.{PairWord}
 use Rattle.schedule_file.specs.declared.pair_event.PairWord.TheVariants as word
 
--- the word of a put, a hold, a session id or a local reset with the letter of its end, or `end`
-abbrev pub later_word_of : List ℕ → Option PairWord
-later_word_of text =
-    if bytes_eq text (codes "pm") then Some (word.Put side.Master)
-    else if bytes_eq text (codes "ps") then Some (word.Put side.Slave)
-    else if bytes_eq text (codes "hm") then Some (word.Hold side.Master)
-    else if bytes_eq text (codes "hs") then Some (word.Hold side.Slave)
-    else if bytes_eq text (codes "nm") then Some (word.Nonce side.Master)
-    else if bytes_eq text (codes "ns") then Some (word.Nonce side.Slave)
-    else if bytes_eq text (codes "zm") then Some (word.Local side.Master)
-    else if bytes_eq text (codes "zs") then Some (word.Local side.Slave)
-    else if bytes_eq text (codes "end") then Some word.End
-    else None
-
 -- the word of an event with the letter of its end, or `end`
 abbrev pub pair_word_of : List ℕ → Option PairWord
 pair_word_of text =
@@ -40,7 +26,16 @@ pair_word_of text =
     else if bytes_eq text (codes "rs") then Some (word.Raw side.Slave)
     else if bytes_eq text (codes "tm") then Some (word.Tick side.Master)
     else if bytes_eq text (codes "ts") then Some (word.Tick side.Slave)
-    else later_word_of text
+    else if bytes_eq text (codes "pm") then Some (word.Put side.Master)
+    else if bytes_eq text (codes "ps") then Some (word.Put side.Slave)
+    else if bytes_eq text (codes "hm") then Some (word.Hold side.Master)
+    else if bytes_eq text (codes "hs") then Some (word.Hold side.Slave)
+    else if bytes_eq text (codes "nm") then Some (word.Nonce side.Master)
+    else if bytes_eq text (codes "ns") then Some (word.Nonce side.Slave)
+    else if bytes_eq text (codes "zm") then Some (word.Local side.Master)
+    else if bytes_eq text (codes "zs") then Some (word.Local side.Slave)
+    else if bytes_eq text (codes "end") then Some word.End
+    else None
 
 -- what a word says with its fields, where the ends send so many safe data bytes and have these profiles
 abbrev pub pair_said : (End → ℕ) → (End → Profile) → Option PairWord → List (List ℕ) → Result ScheduleLine LineCause

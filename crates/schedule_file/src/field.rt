@@ -1,9 +1,9 @@
 //! The fields of a line, and what one field says.
-ghost use Rattle.std.specs.Prelude.{◌≡◌, ◌≤◌, ◌<◌, ◌∷◌, length, IfSome, IfOk, OnOk, OnErr};
+ghost use Rattle.std.specs.Prelude.{◌≡◌, ◌≤◌, ◌<◌, ◌∷◌, map, length, IfSome, IfOk, OnOk, OnErr};
 ghost use Rattle.memchr.specs.Find.{IsFirstByte, is_byte};
 ghost use Rattle.schedule_file.specs.Fields.{value_or, next_field, no_field, one_field, number_16, number_32, one_hex_field};
 ghost use Rattle.schedule_file.specs.FieldsRead.{not_hex, IsField, AreFields, Becomes, fields_after};
-ghost use Rattle.schedule_file.specs.Field.{fields_of, number_said, bytes_said};
+ghost use Rattle.schedule_file.specs.Field.{fields_of, word_in, number_said, bytes_said};
 ghost use Rattle.schedule_file.specs.declared.line_cause.LineCause.TheVariants as cause;
 
 use crate::hex_digits::read_hex;
@@ -104,6 +104,19 @@ impl HexBytes {
     {
         &self.bytes[..self.len]
     }
+}
+
+/// What stands beside this text in a table of words, the first if there are several.
+#[inline(always)]
+pub fn find_word<T: Copy>(words: &[(&[u8], T)], text: &[u8]) -> Option<T>
+    ensures { result ≡ word_in (map (λ row. (row.0.now, row.1)) words.now) text.now }
+{
+    for (word, meaning) in words {
+        if text == *word {
+            return Some(*meaning);
+        }
+    }
+    None
 }
 
 /// A field that is a number of 16 bits. `Number` where it isn't.

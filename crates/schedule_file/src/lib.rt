@@ -38,8 +38,8 @@ pub use event::{Event, MAX_BACK, MAX_EVENTS, ScheduleLine};
 pub use event_line::read_switch;
 pub use event_text::{end_letter, write_event};
 pub use field::{
-    HexBytes, MAX_HEX, bytes_field, cut, next_field, no_field, number_16, number_32, one_field,
-    read_bytes, read_number,
+    HexBytes, MAX_HEX, bytes_field, cut, find_word, next_field, no_field, number_16, number_32,
+    one_field, read_bytes, read_number,
 };
 pub use header::Header;
 pub use header_kind::HeaderKind;

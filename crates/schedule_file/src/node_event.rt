@@ -9,7 +9,7 @@ use crate::event::{Event, ScheduleLine};
 use crate::event_line::{
     read_end, read_hold, read_local, read_nonce, read_put, read_raw, read_tick,
 };
-use crate::field::cut;
+use crate::field::{cut, find_word};
 use crate::line_cause::LineCause;
 use fsoe_base::{End, Lengths};
 use param_load::Profile;
@@ -26,27 +26,22 @@ enum Word {
     End,
 }
 
+/// The words of events, and `end`.
+const WORDS: [(&[u8], Word); 7] = [
+    (b"t", Word::Tick),
+    (b"d", Word::Deliver),
+    (b"p", Word::Put),
+    (b"h", Word::Hold),
+    (b"n", Word::Nonce),
+    (b"z", Word::Local),
+    (b"end", Word::End),
+];
+
 /// The word that begins a line.
 fn read_word(text: &[u8]) -> Option<Word>
     ensures { result ≡ word_of text.now }
 {
-    if text == b"t".as_slice() {
-        Some(Word::Tick)
-    } else if text == b"d".as_slice() {
-        Some(Word::Deliver)
-    } else if text == b"p".as_slice() {
-        Some(Word::Put)
-    } else if text == b"h".as_slice() {
-        Some(Word::Hold)
-    } else if text == b"n".as_slice() {
-        Some(Word::Nonce)
-    } else if text == b"z".as_slice() {
-        Some(Word::Local)
-    } else if text == b"end".as_slice() {
-        Some(Word::End)
-    } else {
-        None
-    }
+    find_word(&WORDS, text)
 }
 
 /// Parses a line after the header, without its newline: an event at the node at `end`, or the end of the schedule. An

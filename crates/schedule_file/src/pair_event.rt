@@ -3,14 +3,14 @@ ghost use Rattle.std.specs.Prelude.{◌≡◌, IfOk, OnOk, OnErr};
 ghost use Rattle.fsoe_base.specs.LengthsOf.{length_of};
 ghost use Rattle.schedule_file.specs.Event.{Fits, PairLineFits, profile_of};
 ghost use Rattle.schedule_file.specs.FieldsRead.{fields_after, Becomes};
-ghost use Rattle.schedule_file.specs.PairEvent.{pair_word_of, later_word_of, event_said, pair_line};
+ghost use Rattle.schedule_file.specs.PairEvent.{pair_word_of, event_said, pair_line};
 
 use crate::event::{Event, ScheduleLine};
 use crate::event_line::{
     read_altered, read_deliver, read_end, read_hold, read_local, read_nonce, read_put, read_raw,
     read_tick,
 };
-use crate::field::cut;
+use crate::field::{cut, find_word};
 use crate::line_cause::LineCause;
 use fsoe_base::{End, Lengths};
 use param_load::{Profile, Profiles};
@@ -29,57 +29,32 @@ pub enum PairWord {
     End,
 }
 
+/// The words of events, each with the letter of its end, and `end`.
+const WORDS: [(&[u8], PairWord); 17] = [
+    (b"dm", PairWord::Deliver(End::Master)),
+    (b"ds", PairWord::Deliver(End::Slave)),
+    (b"am", PairWord::Altered(End::Master)),
+    (b"as", PairWord::Altered(End::Slave)),
+    (b"rm", PairWord::Raw(End::Master)),
+    (b"rs", PairWord::Raw(End::Slave)),
+    (b"tm", PairWord::Tick(End::Master)),
+    (b"ts", PairWord::Tick(End::Slave)),
+    (b"pm", PairWord::Put(End::Master)),
+    (b"ps", PairWord::Put(End::Slave)),
+    (b"hm", PairWord::Hold(End::Master)),
+    (b"hs", PairWord::Hold(End::Slave)),
+    (b"nm", PairWord::Nonce(End::Master)),
+    (b"ns", PairWord::Nonce(End::Slave)),
+    (b"zm", PairWord::Local(End::Master)),
+    (b"zs", PairWord::Local(End::Slave)),
+    (b"end", PairWord::End),
+];
+
 /// The word that begins a line.
 pub fn read_pair_word(text: &[u8]) -> Option<PairWord>
     ensures { result ≡ pair_word_of text.now }
 {
-    if text == b"dm".as_slice() {
-        Some(PairWord::Deliver(End::Master))
-    } else if text == b"ds".as_slice() {
-        Some(PairWord::Deliver(End::Slave))
-    } else if text == b"am".as_slice() {
-        Some(PairWord::Altered(End::Master))
-    } else if text == b"as".as_slice() {
-        Some(PairWord::Altered(End::Slave))
-    } else if text == b"rm".as_slice() {
-        Some(PairWord::Raw(End::Master))
-    } else if text == b"rs".as_slice() {
-        Some(PairWord::Raw(End::Slave))
-    } else if text == b"tm".as_slice() {
-        Some(PairWord::Tick(End::Master))
-    } else if text == b"ts".as_slice() {
-        Some(PairWord::Tick(End::Slave))
-    } else {
-        read_later_word(text)
-    }
-}
-
-/// The word of a put, a hold, a session id or a local reset, or `end`.
-#[inline]
-fn read_later_word(text: &[u8]) -> Option<PairWord>
-    ensures { result ≡ later_word_of text.now }
-{
-    if text == b"pm".as_slice() {
-        Some(PairWord::Put(End::Master))
-    } else if text == b"ps".as_slice() {
-        Some(PairWord::Put(End::Slave))
-    } else if text == b"hm".as_slice() {
-        Some(PairWord::Hold(End::Master))
-    } else if text == b"hs".as_slice() {
-        Some(PairWord::Hold(End::Slave))
-    } else if text == b"nm".as_slice() {
-        Some(PairWord::Nonce(End::Master))
-    } else if text == b"ns".as_slice() {
-        Some(PairWord::Nonce(End::Slave))
-    } else if text == b"zm".as_slice() {
-        Some(PairWord::Local(End::Master))
-    } else if text == b"zs".as_slice() {
-        Some(PairWord::Local(End::Slave))
-    } else if text == b"end".as_slice() {
-        Some(PairWord::End)
-    } else {
-        None
-    }
+    find_word(&WORDS, text)
 }
 
 /// The profile of an end.

@@ -1,6 +1,7 @@
 //! Which header line may stand where.
 ghost use Rattle.std.specs.Prelude.{◌≡◌, IsTrue, IfOk};
 
+use crate::field::find_word;
 use crate::header_kind::HeaderKind;
 use crate::line_cause::LineCause;
 use fsoe_base::End;
@@ -19,6 +20,19 @@ pub enum Word {
     Go,
 }
 
+/// The words of a header.
+const WORDS: [(&[u8], Word); 9] = [
+    (b"lengths", Word::Lengths),
+    (b"master", Word::Master),
+    (b"profile", Word::Profile),
+    (b"app", Word::App),
+    (b"slave", Word::Slave),
+    (b"rule", Word::Rule),
+    (b"bytes", Word::Bytes),
+    (b"range", Word::Range),
+    (b"go", Word::Go),
+];
+
 impl Word {
     ghost use Rattle.schedule_file.specs.Place.{header_word_of};
 
@@ -26,27 +40,7 @@ impl Word {
     pub fn read(text: &[u8]) -> Option<Word>
         ensures { result ≡ header_word_of text.now }
     {
-        if text == b"lengths".as_slice() {
-            Some(Word::Lengths)
-        } else if text == b"master".as_slice() {
-            Some(Word::Master)
-        } else if text == b"profile".as_slice() {
-            Some(Word::Profile)
-        } else if text == b"app".as_slice() {
-            Some(Word::App)
-        } else if text == b"slave".as_slice() {
-            Some(Word::Slave)
-        } else if text == b"rule".as_slice() {
-            Some(Word::Rule)
-        } else if text == b"bytes".as_slice() {
-            Some(Word::Bytes)
-        } else if text == b"range".as_slice() {
-            Some(Word::Range)
-        } else if text == b"go".as_slice() {
-            Some(Word::Go)
-        } else {
-            None
-        }
+        find_word(&WORDS, text)
     }
 }
 
