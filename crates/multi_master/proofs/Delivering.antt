@@ -1,13 +1,13 @@
 -- A delivery to one of many connections, by what its master and the application do.
-use Rattle.multi_master.proofs.Common.{Accepts, AllZip, Answer, AnswersFrame, AppView, Call, Connection, Deed, Deliver, Did, Follows, IsWhere, MasterSettings, MasterView, Meant, MultiView, PutsEach, Replies, RunsCycle, ShowsDue, StandsFor, after, answer, changed_from, cycle_in, deed, event_at, is_due, map-set, meant, newest_at, next_deed, numbers_of, offer_at, offer_len, out, outputs_at, own_len, same_deed, settings_in, setup, tells_due, with_cycle, with_event, with_offers}
-use Rattle.std.proofs.Common.{◌≡◌, ℕ, suc, List, [], ◌∷◌, map, slice_get, slice_set, Option, Some, None, Bool, true, false, if◌then◌else◌, refl, sym, ap, ap₂, subst, ◌∙◌, arith}
+use Rattle.multi_master.proofs.Common.{Accepts, All-head, All-tail, AllZip, Answer, AnswersFrame, AppView, Call, Connection, Deed, Deliver, Did, Follows, GuardsBy, IsWhere, MasterSettings, MasterView, Meant, Move, MultiView, Replies, RunsCycle, ShowsDue, Stands, StandsFor, StandsIf, Waits, after, answer, cycle_in, deed, delivery_at, due_in, event_at, get_or_from_slice_get, map-set, meant, newest_at, next_deed, offer_at, offer_len, out, outputs_at, own_len, same_deed, settings_in, setup, tells_due, with_cycle, with_event, with_offers}
+use Rattle.std.proofs.Common.{◌≡◌, ℕ, suc, List, [], ◌∷◌, map, slice_get, slice_set, All, Option, Some, None, Bool, true, false, if◌then◌else◌, refl, sym, ap, ap₂, subst, ◌∙◌, arith}
+use Rattle.std.proofs.lemmas.List.{set-get_or}
 use Rattle.param_load.specs.declared.entry.Move.TheVariants as move
-use Rattle.multi_master.proofs.Following.{own_lens, cycle_answers, guards_alike}
-use Rattle.multi_master.proofs.Hearing.{replied}
-use Rattle.multi_master.proofs.Places.{at_place, map_set, set_there}
-use Rattle.multi_master.proofs.Putting.{offers_put, all_outputs_put, puts_told}
+use Rattle.multi_master.proofs.Following.{own_lens, cycle_put}
+use Rattle.multi_master.proofs.Places.{at_place, map_set, same_at, set_there, zip_set}
+use Rattle.multi_master.proofs.Putting.{all_outputs_put, all_settings_put}
 use Rattle.multi_master.proofs.Quiet.{quiet_frame, quiet_deed, same_outputs}
-use Rattle.multi_master.proofs.Reading.{StandsIn, stands_so, event_is, quiet_stands}
+use Rattle.multi_master.proofs.Reading.{StandsIn, stands_so, event_is, quiet_stands, with_one}
 
 -- the cycle of a delivery to a connection that exists
 cycle-is : (m : Meant) (place : ℕ) (c : Connection) (bytes : List ℕ) (b : Bool) → slice_get m.connections place ≡ Some c → tells_due (next_deed (move.Deliver bytes) c).did ≡ b
@@ -18,71 +18,73 @@ cycle-is m place c bytes b h k = grind arith
 newest-is : (m : Meant) (place : ℕ) (c : Connection) (x : Deed) (e : List Deed) → slice_get m.connections place ≡ Some c → c.deeds ≡ x ∷ e → newest_at (suc place) m ≡ Some x
 newest-is m place c x e h k = grind arith
 
--- nothing is taken of the frame and no session ends
-pub record Drops (old : MultiView) (place : ℕ) (bytes : List ℕ) (did : Did) (new : MultiView) : Type 0 where
-  pub before : MasterView
-  pub last : MasterView
-  pub at : slice_get old.masters place ≡ Some before
-  pub accepts : Accepts before bytes did last
-  pub rest : is_due last.state ≡ false
-  pub none : tells_due did ≡ false
-  pub unsent : did.sent ≡ false
-  pub masters_are : new.masters ≡ slice_set old.masters place last
-  pub app_is : new.app ≡ old.app
-  pub inputs_are : new.inputs ≡ old.inputs
-  pub changed_are : new.changed ≡ []
-
--- what such a delivery is to its connection
-record Dropped (m : Meant) (place : ℕ) (bytes : List ℕ) (did : Did) (last : MasterView) : Type 0 where
+-- what a delivery means: its cycle, if it ran one, the connection then, and the deed there that answers the frame
+pub record Delivered (m : Meant) (place : ℕ) (bytes : List ℕ) (did : Did) (new : MultiView) (frame : List ℕ) : Type 0 where
+  pub cycle : Option Answer
+  pub cycle_is : cycle_in (Deliver (suc place) bytes) m ≡ cycle
   pub there : Connection
-  pub is : slice_get m.connections place ≡ Some there
-  pub none : tells_due (next_deed (move.Deliver bytes) there).did ≡ false
-  pub holds : IsWhere (with_event (move.Deliver bytes) there) last
-  pub deed_is : next_deed (move.Deliver bytes) there ≡ deed (move.Deliver bytes) did []
+  pub is : slice_get (with_cycle cycle m).connections place ≡ Some there
+  pub stands : StandsIn m.connections cycle (with_one (with_cycle cycle m) place (move.Deliver bytes) there) new
+  pub deed_is : next_deed (move.Deliver bytes) there ≡ deed (move.Deliver bytes) did frame
 
-dropped : (settings : List MasterSettings) (app : AppView) (old new : MultiView) (calls : List Call) (place : ℕ) (bytes : List ℕ) (did : Did) → StandsFor settings app old calls
-    → (d : Drops old place bytes did new) → Dropped (meant settings app calls) place bytes did d.last
-dropped settings app old new calls place bytes did h d =
-    let p = at_place IsWhere (meant settings app calls).connections old.masters place d.before h.masters d.at in
-    let c : Connection = p.there in
-    let u = d.accepts.under_way c.settings c.deeds p.holds in
-    let none : tells_due (next_deed (move.Deliver bytes) c).did ≡ false = sym (ap (λ (x : Did). tells_due x) u.did) ∙ d.none in
-    record {
-      there = c;
-      is = p.is;
-      none = none;
-      holds = u.is_after d.rest;
-      deed_is = quiet_deed (setup c) c.deeds bytes p.holds.reached none ∙ ap (λ (x : Did). deed (move.Deliver bytes) x []) (sym u.did);
-    }
+pub record Delivers (old : MultiView) (place : ℕ) (bytes : List ℕ) (did : Did) (new : MultiView) (frame : List ℕ) : Type 0 where
+  pub each : (settings : List MasterSettings) (app : AppView) (calls : List Call) → StandsFor settings app old calls → Delivered (meant settings app calls) place bytes did new frame
 
-pub drop_follows : (old new : MultiView) (link place : ℕ) (bytes : List ℕ) (did : Did) → link ≡ suc place → Drops old place bytes did new → Follows old (Deliver link bytes) new
-drop_follows old new link place bytes did n d = record {
+after-is : (m : Meant) (place : ℕ) (bytes : List ℕ) (did : Did) (new : MultiView) (frame : List ℕ) (x : Delivered m place bytes did new frame)
+    → after (Deliver (suc place) bytes) m ≡ with_one (with_cycle x.cycle m) place (move.Deliver bytes) x.there
+after-is m place bytes did new frame x =
+    ap (λ (o : Option Answer). event_at (suc place) (move.Deliver bytes) (with_cycle o m)) x.cycle_is ∙ event_is (with_cycle x.cycle m) place x.there (move.Deliver bytes) x.is
+
+pub delivery_follows : (old new : MultiView) (place : ℕ) (bytes : List ℕ) (did : Did) (frame : List ℕ) → Delivers old place bytes did new frame → Follows old (Deliver (suc place) bytes) new
+delivery_follows old new place bytes did frame d = record {
   stands = λ settings app calls h.
-      let m : Meant = meant settings app calls in
-      let x = dropped settings app old new calls place bytes did h d in
-      let none : cycle_in (Deliver link bytes) m ≡ None = ap (λ (k : ℕ). cycle_in (Deliver k bytes) m) n ∙ cycle-is m place x.there bytes false x.is x.none in
-      let is : after (Deliver link bytes) m ≡ event_at (suc place) (move.Deliver bytes) m =
-      ap₂ (λ (k : ℕ) (o : Option Answer). event_at k (move.Deliver bytes) (with_cycle o m)) n none in
-      quiet_stands settings app old new calls (Deliver link bytes) place (move.Deliver bytes) x.there d.last h none is
-      (record { is = x.is; outputs = quiet_frame (setup x.there) x.there.deeds bytes x.none }) x.holds d.masters_are d.app_is d.inputs_are d.changed_are;
+      let x = d.each settings app calls h in
+      stands_so settings app old new calls (Deliver (suc place) bytes) x.cycle _ h x.cycle_is (after-is _ place bytes did new frame x) x.stands;
 }
 
-pub drop_answers : (old new : MultiView) (link place : ℕ) (bytes : List ℕ) (did : Did) (frame : List ℕ) → link ≡ suc place → frame ≡ [] → Drops old place bytes did new
-    → AnswersFrame old link bytes did frame
-drop_answers old new link place bytes did frame n f d = record {
+pub delivery_answers : (old new : MultiView) (place : ℕ) (bytes : List ℕ) (did : Did) (frame : List ℕ) → Delivers old place bytes did new frame → AnswersFrame old (suc place) bytes did frame
+delivery_answers old new place bytes did frame d = record {
   answers = λ settings app calls h.
-      let m : Meant = meant settings app calls in
-      let x = dropped settings app old new calls place bytes did h d in
-      let later : Meant = record m { connections = slice_set m.connections place (with_event (move.Deliver bytes) x.there) } in
-      let is : after (Deliver (suc place) bytes) m ≡ later =
-      ap (λ (o : Option Answer). event_at (suc place) (move.Deliver bytes) (with_cycle o m)) (cycle-is m place x.there bytes false x.is x.none)
-      ∙ event_is m place x.there (move.Deliver bytes) x.is
-      in
-      ap (λ (k : ℕ). newest_at k (after (Deliver k bytes) m)) n
-      ∙ ap (λ (y : Meant). newest_at (suc place) y) is
-      ∙ newest-is later place (with_event (move.Deliver bytes) x.there) (next_deed (move.Deliver bytes) x.there) x.there.deeds (set_there m.connections place x.there _ x.is) refl
-      ∙ ap (λ (y : Deed). Some y) (x.deed_is ∙ ap (λ (sent : List ℕ). deed (move.Deliver bytes) did sent) (sym f));
+      let x = d.each settings app calls h in
+      let put : Meant = with_cycle x.cycle (meant settings app calls) in
+      let what : Move = move.Deliver bytes in
+      ap (λ (y : Meant). newest_at (suc place) y) (after-is _ place bytes did new frame x)
+      ∙ newest-is (with_one put place what x.there) place (with_event what x.there) (next_deed what x.there) x.there.deeds (set_there put.connections place x.there _ x.is) refl
+      ∙ ap (λ (y : Deed). Some y) x.deed_is;
 }
+
+-- nothing is taken of the frame and no session ends
+pub dropped : (old new : MultiView) (place : ℕ) (bytes : List ℕ) (did : Did) (before last : MasterView) (frame : List ℕ) → slice_get old.masters place ≡ Some before → Accepts before bytes did last
+    → due_in last ≡ false → tells_due did ≡ false → frame ≡ [] → new.masters ≡ slice_set old.masters place last → new.app ≡ old.app → new.inputs ≡ old.inputs → new.changed ≡ []
+    → Delivers old place bytes did new frame
+dropped old new place bytes did before last frame at accepts rest untold f nm na ni nc = record {
+  each = λ settings app calls h.
+      let m : Meant = meant settings app calls in
+      let p = at_place IsWhere m.connections old.masters place before h.masters at in
+      let c : Connection = p.there in
+      let u = accepts.under_way c.settings c.deeds p.holds in
+      let none : tells_due (next_deed (move.Deliver bytes) c).did ≡ false = sym (ap (λ (x : Did). tells_due x) u.did) ∙ untold in
+      record {
+        cycle = None;
+        cycle_is = cycle-is m place c bytes false p.is none;
+        there = c;
+        is = p.is;
+        stands = quiet_stands settings app old new calls place (move.Deliver bytes) c last h p.is (quiet_frame (setup c) c.deeds bytes none) (u.is_after rest) nm na ni nc;
+        deed_is = quiet_deed (setup c) c.deeds bytes p.holds.reached none ∙ ap₂ (λ (x : Did) (sent : List ℕ). deed (move.Deliver bytes) x sent) (sym u.did) (sym f);
+      };
+}
+
+-- masters with no frame due stand alike, whether or not a frame came
+stand-alike : (frame : List ℕ × Did) (cs : List Connection) (ms : List MasterView) → AllZip IsWhere cs ms → AllZip (Stands (Some frame)) cs ms
+stand-alike frame [] [] h = tt
+stand-alike frame (c ∷ cs) (m ∷ ms) h = (subst (λ (due : Bool). StandsIf (Some frame) due c m) (sym (ap due_in h.0.is)) h.0, stand-alike frame cs ms h.1)
+stand-alike frame _ _ h = absurd h
+
+stand-again : (frame : List ℕ × Did) (cs : List Connection) (ms : List MasterView) → All (λ m. due_in m ≡ false) ms → AllZip (Stands (Some frame)) cs ms → AllZip IsWhere cs ms
+stand-again frame [] [] r h = tt
+stand-again frame (c ∷ cs) (m ∷ ms) r h =
+    (subst (λ (due : Bool). StandsIf (Some frame) due c m) (All-head (λ m. due_in m ≡ false) m ms r) h.0, stand-again frame cs ms (All-tail (λ m. due_in m ≡ false) m ms r) h.1)
+stand-again frame _ _ r h = absurd h
 
 -- the frame is taken, or its session ends
 pub record Hears (old : MultiView) (place : ℕ) (bytes : List ℕ) (did : Did) (new : MultiView) (frame : List ℕ) : Type 0 where
@@ -96,102 +98,72 @@ pub record Hears (old : MultiView) (place : ℕ) (bytes : List ℕ) (did : Did) 
   pub accepts : Accepts before bytes did accepted
   pub settings : settings_in accepted ≡ settings_in before
   pub some : tells_due did ≡ true
+  pub waits : due_in accepted ≡ true
   pub reads : ShowsDue accepted input out
   pub inputs_are : new.inputs ≡ slice_set old.inputs place input
   pub cycle : RunsCycle old.app false new.inputs (slice_set old.masters place accepted) new.app put new.changed
   pub ready_at : slice_get put place ≡ Some ready
-  pub due : is_due ready.state ≡ true
+  pub due : due_in ready ≡ true
   pub replies : Replies ready last frame
   pub masters_are : new.masters ≡ slice_set put place last
+  pub rest : All (λ m. due_in m ≡ false) (slice_set put place last)
 
--- what such a delivery means
-record Heard (m : Meant) (place : ℕ) (bytes : List ℕ) (did : Did) (new : MultiView) (frame : List ℕ) : Type 0 where
-  pub later : Meant
-  pub there : Connection
-  pub cycle : Answer
-  pub cycle_is : cycle_in (Deliver (suc place) bytes) m ≡ Some cycle
-  pub after_is : after (Deliver (suc place) bytes) m ≡ later
-  pub stands : StandsIn m (Some cycle) later new
-  pub is : slice_get later.connections place ≡ Some (with_event (move.Deliver bytes) there)
-  pub deed_is : next_deed (move.Deliver bytes) there ≡ deed (move.Deliver bytes) (record did { sent = true }) frame
-
-heard : (settings : List MasterSettings) (app : AppView) (old new : MultiView) (calls : List Call) (place : ℕ) (bytes : List ℕ) (did : Did) (frame : List ℕ) → StandsFor settings app old calls
-    → Hears old place bytes did new frame → Heard (meant settings app calls) place bytes did new frame
-heard settings app old new calls place bytes did frame h t =
-    let m : Meant = meant settings app calls in
-    let cs : List Connection = m.connections in
-    let p = at_place IsWhere cs old.masters place t.before h.masters t.at in
-    let c : Connection = p.there in
-    let d : Connection = with_event (move.Deliver bytes) c in
-    let u = t.accepts.under_way c.settings c.deeds p.holds in
-    let taken : tells_due (next_deed (move.Deliver bytes) c).did ≡ true = sym (ap (λ (x : Did). tells_due x) u.did) ∙ t.some in
-    let with_frame : Meant = record m { connections = slice_set cs place d } in
-    let frame_is : event_at (suc place) (move.Deliver bytes) m ≡ with_frame = event_is m place c (move.Deliver bytes) p.is in
-    let input_is : t.input ≡ outputs_at d = t.reads.shows _ u.waits in
-    let inputs : new.inputs ≡ map outputs_at with_frame.connections =
-    t.inputs_are ∙ ap₂ (λ (xs : List (List ℕ)) (x : List ℕ). slice_set xs place x) h.inputs_are input_is ∙ sym (map-set outputs_at cs place d)
-    in
-    let lens : map own_len (slice_set old.masters place t.accepted) ≡ map offer_len with_frame.connections =
-    map_set own_len old.masters place t.before t.accepted t.at (ap (λ s. s.lengths.master) t.settings) ∙ own_lens cs old.masters h.masters ∙ sym (map_set offer_len cs place c d p.is refl)
-    in
-    let a : Answer = answer false with_frame in
-    let said = cycle_answers with_frame old.app new.app false new.inputs (map own_len (slice_set old.masters place t.accepted)) t.cycle.answers h.app_is inputs lens t.cycle.cycle in
-    let puts : PutsEach (slice_set old.masters place t.accepted) t.cycle.answers t.put new.changed = t.cycle.puts in
-    let loads : List (List ℕ) = map (λ x. x.answer) puts.steps in
-    let load : loads ≡ a.outputs = puts.answers_are ∙ said.0 in
-    let ready_at : slice_get (map (λ x. x.new) puts.steps) place ≡ Some t.ready = ap (λ (ms : List MasterView). slice_get ms place) puts.new_are ∙ t.ready_at in
-    let r = replied cs old.masters puts.steps place c t.accepted t.ready t.last bytes frame did h.masters p.is puts.old_are puts.each u.waits ready_at t.replies in
-    let e : Connection = with_event (move.Deliver bytes) r.there in
-    let offered : Meant = record { connections = with_offers loads cs; app = record m.app { holds = a.holds } } in
-    let later : Meant = record offered { connections = slice_set (with_offers loads cs) place e } in
-    let cycle_so : cycle_in (Deliver (suc place) bytes) m ≡ Some a = cycle-is m place c bytes true p.is taken ∙ ap (λ (x : Meant). Some (answer false x)) frame_is in
-    let same_did : (next_deed (move.Deliver bytes) r.there).did ≡ record did { sent = true } = r.did_is ∙ ap (λ (b : Bool). record did { sent = b }) t.due in
-    let took : (next_deed (move.Deliver bytes) r.there).did.took ≡ (next_deed (move.Deliver bytes) c).did.took = ap (λ (x : Did). x.took) same_did ∙ ap (λ (x : Did). x.took) u.did in
-    let reset : (next_deed (move.Deliver bytes) r.there).did.reset ≡ (next_deed (move.Deliver bytes) c).did.reset = ap (λ (x : Did). x.reset) same_did ∙ ap (λ (x : Did). x.reset) u.did in
-    let shows : outputs_at e ≡ outputs_at d = same_outputs c r.there bytes r.settings_are r.outputs_are took reset in
-    let inputs_after : new.inputs ≡ map outputs_at later.connections =
-    inputs ∙ map-set outputs_at cs place d
-    ∙ ap₂ (λ (xs : List (List ℕ)) (x : List ℕ). slice_set xs place x) (sym (all_outputs_put cs loads)) (sym shows) ∙ sym (map-set outputs_at (with_offers loads cs) place e)
-    in
-    record {
-      later = later;
-      there = r.there;
-      cycle = a;
-      cycle_is = cycle_so;
-      after_is = ap (λ (o : Option Answer). event_at (suc place) (move.Deliver bytes) (with_cycle o m)) cycle_so
-          ∙ ap (λ (xs : List (List ℕ)). event_at (suc place) (move.Deliver bytes) (record { connections = with_offers xs cs; app = record m.app { holds = a.holds } })) (sym load)
-          ∙ event_is offered place r.there (move.Deliver bytes) r.is;
-      stands = record {
-        masters = subst (λ (ms : List MasterView). AllZip IsWhere later.connections ms) (ap (λ (ms : List MasterView). slice_set ms place t.last) puts.new_are ∙ sym t.masters_are) r.masters;
-        app_is = said.1;
-        inputs_are = inputs_after;
-        changed_are = puts.changed_are ∙ sym (puts_told 1 cs puts.steps r.shown) ∙ ap (λ (answers : List (List ℕ)). numbers_of (changed_from 1 cs answers)) load;
-        sound = record {
-          answered = map_set offer_at (with_offers loads cs) place r.there e r.is refl ∙ offers_put cs puts.steps r.shown ∙ load;
-          guarded = guards_alike old.app.guards m.app.guards new.inputs _ t.cycle.answers _ (ap (λ (app : AppView). app.guards) h.app_is) inputs_after said.0 t.cycle.cycle.guarded;
+pub answered : (old new : MultiView) (place : ℕ) (bytes : List ℕ) (did : Did) (frame : List ℕ) → Hears old place bytes did new frame → Delivers old place bytes (record did { sent = true }) new frame
+answered old new place bytes did frame t = record {
+  each = λ settings app calls h.
+      let m : Meant = meant settings app calls in
+      let cs : List Connection = m.connections in
+      let what : Move = move.Deliver bytes in
+      let p = at_place IsWhere cs old.masters place t.before h.masters t.at in
+      let c : Connection = p.there in
+      let d : Connection = with_event what c in
+      let u = t.accepts.under_way c.settings c.deeds p.holds in
+      let taken : tells_due (next_deed what c).did ≡ true = sym (ap (λ (x : Did). tells_due x) u.did) ∙ t.some in
+      let with_frame : Meant = with_one m place what c in
+      let inputs : new.inputs ≡ map outputs_at with_frame.connections =
+      t.inputs_are ∙ ap₂ (λ (xs : List (List ℕ)) (x : List ℕ). slice_set xs place x) h.inputs_are (t.reads.shows _ u.waits) ∙ sym (map-set outputs_at cs place d)
+      in
+      let lens : map own_len (slice_set old.masters place t.accepted) ≡ map offer_len with_frame.connections =
+      map_set own_len old.masters place t.before t.accepted t.at (ap (λ s. s.lengths.master) t.settings) ∙ own_lens cs old.masters h.masters ∙ sym (map_set offer_len cs place c d p.is refl)
+      in
+      let came : List ℕ × Did = (bytes, did) in
+      let waiting : Stands (Some came) c t.accepted = subst (λ (due : Bool). StandsIf (Some came) due c t.accepted) (sym t.waits) u.waits in
+      let same : slice_set cs place c ≡ cs = ap (slice_set cs place) (sym (get_or_from_slice_get cs place c c p.is)) ∙ set-get_or cs place c in
+      let stand : AllZip (Stands (Some came)) cs (slice_set old.masters place t.accepted) =
+      subst (λ (xs : List Connection). AllZip (Stands (Some came)) xs (slice_set old.masters place t.accepted)) same
+      (zip_set (Stands (Some came)) cs old.masters place c t.accepted (stand-alike came cs old.masters h.masters) waiting)
+      in
+      let a : Answer = answer false with_frame in
+      let y = cycle_put with_frame false (Some came) cs old.app new.app new.inputs (slice_set old.masters place t.accepted) t.put new.changed h.app_is inputs lens stand t.cycle in
+      let put : List Connection = with_offers a.outputs cs in
+      let q = at_place (Stands (Some came)) put t.put place t.ready y.stand t.ready_at in
+      let e : Connection = with_event what q.there in
+      let waits : Waits t.ready (delivery_at q.there came) = subst (λ (due : Bool). StandsIf (Some came) due q.there t.ready) t.due q.holds in
+      let same_did : (next_deed what q.there).did ≡ record did { sent = true } = t.replies.did (delivery_at q.there came) waits ∙ ap (λ (b : Bool). record did { sent = b }) t.due in
+      let shows : outputs_at e ≡ outputs_at d =
+      same_outputs c q.there bytes (same_at (λ (x : Connection). x.settings) (λ (x : Connection). x.settings) put cs place q.there c (all_settings_put cs a.outputs) q.is p.is)
+      (same_at outputs_at outputs_at put cs place q.there c (all_outputs_put cs a.outputs) q.is p.is)
+      (ap (λ (x : Did). x.took) same_did ∙ ap (λ (x : Did). x.took) u.did) (ap (λ (x : Did). x.reset) same_did ∙ ap (λ (x : Did). x.reset) u.did)
+      in
+      let kept : map outputs_at with_frame.connections ≡ map outputs_at (slice_set put place e) =
+      map-set outputs_at cs place d ∙ ap₂ (λ (xs : List (List ℕ)) (x : List ℕ). slice_set xs place x) (sym (all_outputs_put cs a.outputs)) (sym shows) ∙ sym (map-set outputs_at put place e)
+      in
+      let replied : Stands (Some came) e t.last = subst (λ (due : Bool). StandsIf (Some came) due e t.last) (sym (ap due_in (t.replies.is_after _ waits).is)) (t.replies.is_after _ waits) in
+      record {
+        cycle = Some a;
+        cycle_is = cycle-is m place c bytes true p.is taken ∙ ap (λ (x : Meant). Some (answer false x)) (event_is m place c what p.is);
+        there = q.there;
+        is = q.is;
+        stands = record {
+          masters = rw t.masters_are (stand-again came (slice_set put place e) (slice_set t.put place t.last) t.rest (zip_set (Stands (Some came)) put t.put place e t.last y.stand replied));
+          app_is = y.app_is;
+          inputs_are = inputs ∙ kept;
+          changed_are = y.told_are;
+          sound = record {
+            answered = map_set offer_at put place q.there e q.is refl ∙ y.answered;
+            guarded = subst (λ (xs : List (List ℕ)). GuardsBy m.app.guards xs a.outputs) kept y.guarded;
+          };
         };
+        deed_is = same_deed what _ _ _ _ same_did (sym (t.replies.sent (delivery_at q.there came) waits));
       };
-      is = set_there (with_offers loads cs) place r.there e r.is;
-      deed_is = same_deed (move.Deliver bytes) _ _ _ _ same_did (sym r.sent_is);
-    }
-
-pub hear_follows : (old new : MultiView) (link place : ℕ) (bytes : List ℕ) (did : Did) (frame : List ℕ) → link ≡ suc place → Hears old place bytes did new frame → Follows old (Deliver link bytes) new
-hear_follows old new link place bytes did frame n t = record {
-  stands = λ settings app calls h.
-      let m : Meant = meant settings app calls in
-      let x = heard settings app old new calls place bytes did frame h t in
-      stands_so settings app old new calls (Deliver link bytes) (Some x.cycle) x.later h (ap (λ (k : ℕ). cycle_in (Deliver k bytes) m) n ∙ x.cycle_is)
-      (ap (λ (k : ℕ). after (Deliver k bytes) m) n ∙ x.after_is) x.stands;
-}
-
-pub hear_answers : (old new : MultiView) (link place : ℕ) (bytes : List ℕ) (did : Did) (frame : List ℕ) → link ≡ suc place → Hears old place bytes did new frame
-    → AnswersFrame old link bytes (record did { sent = true }) frame
-hear_answers old new link place bytes did frame n t = record {
-  answers = λ settings app calls h.
-      let m : Meant = meant settings app calls in
-      let x = heard settings app old new calls place bytes did frame h t in
-      ap (λ (k : ℕ). newest_at k (after (Deliver k bytes) m)) n
-      ∙ ap (λ (y : Meant). newest_at (suc place) y) x.after_is
-      ∙ newest-is x.later place (with_event (move.Deliver bytes) x.there) (next_deed (move.Deliver bytes) x.there) x.there.deeds x.is refl
-      ∙ ap (λ (y : Deed). Some y) x.deed_is;
 }

@@ -1,36 +1,14 @@
--- What stays when answers are put, and when all masters tick.
-use Rattle.multi_master.proofs.Common.{All-cons, All-head, All-map, All-nil, All-tail, All-weaker, AreNumbers, Did, IsMulti, IsNumber, IsPutStep, IsTickStep, MasterSettings, MasterView, PutsEach, TicksEach, common_steps, due_in, map-set, own_len, set-set, settings_in}
-use Rattle.std.proofs.Common.{◌≡◌, ℕ, List, [], ◌∷◌, ◌++◌, map, length, take, drop, All, Bool, false, slice_get, slice_set, Some, refl, sym, ap, subst, ◌∙◌, arith}
+-- What stays as it was while masters change.
+use Rattle.multi_master.proofs.Common.{All-cons, All-head, All-nil, All-tail, AreNumbers, IsMulti, IsNumber, MasterSettings, MasterView, common_steps, due_in, map-set, own_len, set-set, settings_in}
+use Rattle.std.proofs.Common.{◌≡◌, ℕ, List, [], ◌∷◌, ◌++◌, map, length, take, drop, All, Bool, false, slice_get, slice_set, Some, sym, ap, subst, ◌∙◌, arith}
+use Rattle.std.proofs.lemmas.Simd.{map-map}
 use Rattle.multi_master.proofs.Places.{map_set, same_length}
 
--- the lengths of masters are those of their settings
-pub lens_in : (ms : List MasterView) → map own_len ms ≡ map (λ s. s.lengths.master) (map settings_in ms)
-lens_in [] = refl
-lens_in (m ∷ ms) = ap (λ (ns : List ℕ). own_len m ∷ ns) (lens_in ms)
-
+-- masters with the same settings have the same lengths
 pub same_lens : (ms ns : List MasterView) → map settings_in ms ≡ map settings_in ns → map own_len ms ≡ map own_len ns
-same_lens ms ns h = lens_in ms ∙ ap (λ (ss : List MasterSettings). map (λ s. s.lengths.master) ss) h ∙ sym (lens_in ns)
-
--- what each step leaves as it was at a master
-kept : {S A : Type 0} (Is : S → Type 0) (old new : S → MasterView) (what : MasterView → A) (steps : List S) → ((x : S) → Is x → what (new x) ≡ what (old x)) → All Is steps
-    → map what (map new steps) ≡ map what (map old steps)
-kept Is old new what [] so s = refl
-kept Is old new what (x ∷ xs) so s = rw (so x (All-head Is x xs s), kept Is old new what xs so (All-tail Is x xs s)) refl
-
-pub puts_settings : (old : List MasterView) (answers : List (List ℕ)) (new : List MasterView) (told : List ℕ) → PutsEach old answers new told → map settings_in new ≡ map settings_in old
-puts_settings old answers new told p = rw (← p.new_are, ← p.old_are) (kept IsPutStep (λ x. x.old) (λ x. x.new) settings_in p.steps (λ x s. s.settings) p.each)
-
-pub puts_due : (old : List MasterView) (answers : List (List ℕ)) (new : List MasterView) (told : List ℕ) → PutsEach old answers new told → map due_in new ≡ map due_in old
-puts_due old answers new told p = rw (← p.new_are, ← p.old_are) (kept IsPutStep (λ x. x.old) (λ x. x.new) due_in p.steps (λ x s. s.due) p.each)
-
-pub ticks_settings : (old : List MasterView) (inputs : List (List ℕ)) (new : List MasterView) (read : List (List ℕ)) (dids : List Did) (sent : List (List ℕ)) → TicksEach old inputs new read dids sent
-    → map settings_in new ≡ map settings_in old
-ticks_settings old inputs new read dids sent p = rw (← p.new_are, ← p.old_are) (kept IsTickStep (λ x. x.old) (λ x. x.new) settings_in p.steps (λ x s. s.settings) p.each)
-
-pub ticks_rest : (old : List MasterView) (inputs : List (List ℕ)) (new : List MasterView) (read : List (List ℕ)) (dids : List Did) (sent : List (List ℕ)) → TicksEach old inputs new read dids sent
-    → All (λ m. due_in m ≡ false) new
-ticks_rest old inputs new read dids sent p =
-    rw (← p.new_are) (All-map (λ m. due_in m ≡ false) (λ x. x.new) p.steps (All-weaker IsTickStep (λ x. due_in x.new ≡ false) (λ x s. s.rest) p.steps p.each))
+same_lens ms ns h =
+    let len = λ (s : MasterSettings). s.lengths.master in
+    sym (map-map len settings_in ms) ∙ ap (map len) h ∙ map-map len settings_in ns
 
 -- masters of which no frame is due, by whether it is
 pub all_rest : (ms ns : List MasterView) → map due_in ms ≡ map due_in ns → All (λ m. due_in m ≡ false) ns → All (λ m. due_in m ≡ false) ms

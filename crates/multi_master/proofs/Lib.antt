@@ -2,7 +2,6 @@ pub mod Places
 pub mod Beginning
 pub mod Delivering
 pub mod Following
-pub mod Hearing
 pub mod Keeping
 pub mod Looping
 pub mod Neighbours

@@ -73,7 +73,3 @@ set_before (a ∷ xs) zero zero y h = absurd (omega arith)
 set_before (a ∷ xs) (suc i) zero y h = absurd (omega arith)
 set_before (a ∷ xs) (suc i) (suc k) y h = set_before xs i k y (omega arith)
 set_before _ _ _ y h = refl
-
--- what was set at a place is read there
-pub read_back : {A : Type 0} (xs : List A) (k : ℕ) (y r : A) → k < length xs → r ≡ slice_index_or (slice_set xs k y) k r → r ≡ y
-read_back xs k y r h l = grind (arith, common_steps)

@@ -1,16 +1,17 @@
 -- What is shown of one connection, and an event at one.
-use Rattle.multi_master.proofs.Common.{AllZip, Answer, AppView, Call, Connection, Deed, Follows, IsSound, IsWhere, MasterSettings, MasterView, Meant, Move, MultiView, Nonce, Setup, ShowsAt, StandsFor, after, changed_by, cycle_in, event_at, event_on, meant, numbers_of, outputs_at, setup, with_event}
-use Rattle.std.proofs.Common.{◌≡◌, ℕ, zero, suc, List, [], ◌∷◌, map, slice_get, slice_set, Option, Some, None, IfSome, refl, sym, ap, ◌∙◌, arith}
+use Rattle.multi_master.proofs.Common.{AllZip, Answer, AppView, Call, Connection, Deed, Follows, IsNumber, IsSound, IsWhere, MasterSettings, MasterView, Meant, Move, MultiView, Nonce, Setup, ShowsAt, StandsFor, after, changed_by, cycle_in, event_at, event_on, meant, numbers_of, outputs_at, settings_in, setup, with_event}
+use Rattle.std.proofs.Common.{◌≡◌, ◌-◌, ℕ, zero, suc, length, slice_index_or, List, [], ◌∷◌, map, slice_get, slice_set, Option, Some, None, IfSome, refl, sym, ap, ◌∙◌, arith}
 use Rattle.param_load.specs.declared.entry.Move.TheVariants as move
 use Rattle.master_core.specs.Standing as core
-use Rattle.multi_master.proofs.Places.{Placed, at_place, zip_set, map_set}
+use Rattle.multi_master.proofs.Places.{Placed, at_place, map_set, master_placed, zip_set}
 
--- a word of the master at a place is that word of its connection
-pub shown_at : {X : Type 0} (v : MultiView) (link place : ℕ) (m : MasterView) (shown : X) (word : Setup → List Deed → X) → Placed v.masters link place m → core.Shows m shown word
-    → ShowsAt v link shown (λ c. word (setup c) c.deeds)
-shown_at v link place m shown word is s = record {
+-- a word of the master that is read at the place of a connection is that word of the connection
+pub shown_at : {X : Type 0} (v : MultiView) (link from : ℕ) (m : MasterView) (shown : X) (word : Setup → List Deed → X) → IsNumber (length (map settings_in v.masters)) link → from ≡ link
+    → m ≡ slice_index_or v.masters (from - 1) m → core.Shows m shown word → ShowsAt v link shown (λ c. word (setup c) c.deeds)
+shown_at v link from m shown word has f read s = record {
   shows = λ settings app calls h.
-      let p = at_place IsWhere (meant settings app calls).connections v.masters place m h.masters is.at in
+      let is = master_placed v.masters link from m has f read in
+      let p = at_place IsWhere (meant settings app calls).connections v.masters (from - 1) m h.masters is.at in
       rw (is.number, p.is) (ap (λ x. Some x) (sym (s.shows p.there.settings p.there.deeds p.holds)));
 }
 
@@ -24,45 +25,44 @@ pub event_is : (m : Meant) (place : ℕ) (c : Connection) (what : Move) → slic
     → event_at (suc place) what m ≡ record m { connections = slice_set m.connections place (with_event what c) }
 event_is m place c what h = ap (λ (cs : List Connection). record m { connections = cs }) (event_set m.connections place c what h)
 
--- it stands where a call led from what was meant before, with the answer of its cycle, if it ran one
-pub record StandsIn (m : Meant) (o : Option Answer) (later : Meant) (v : MultiView) : Type 0 where
+-- it stands where a call led, with the answer of its cycle, if it ran one, over these connections
+pub record StandsIn (cs : List Connection) (o : Option Answer) (later : Meant) (v : MultiView) : Type 0 where
   pub masters : AllZip IsWhere later.connections v.masters
   pub app_is : v.app ≡ later.app
   pub inputs_are : v.inputs ≡ map outputs_at later.connections
-  pub changed_are : v.changed ≡ numbers_of (changed_by o m.connections)
+  pub changed_are : v.changed ≡ numbers_of (changed_by o cs)
   pub sound : IfSome o (IsSound later)
 
 pub stands_so : (settings : List MasterSettings) (app : AppView) (old v : MultiView) (calls : List Call) (call : Call) (o : Option Answer) (later : Meant) → StandsFor settings app old calls → cycle_in call (meant settings app calls) ≡ o
-    → after call (meant settings app calls) ≡ later → StandsIn (meant settings app calls) o later v → StandsFor settings app v (call ∷ calls)
+    → after call (meant settings app calls) ≡ later → StandsIn (meant settings app calls).connections o later v → StandsFor settings app v (call ∷ calls)
 stands_so settings app old v calls call o later h k l m = grind arith
 
--- an event at one master that changes no outputs
-pub record Quiets (m : Meant) (place : ℕ) (what : Move) (c : Connection) : Type 0 where
-  pub is : slice_get m.connections place ≡ Some c
-  pub outputs : outputs_at (with_event what c) ≡ outputs_at c
+-- an event at one connection that changes no outputs, and runs no cycle
+abbrev pub with_one : Meant → ℕ → Move → Connection → Meant
+with_one m place what c = record m { connections = slice_set m.connections place (with_event what c) }
 
-pub quiet_stands : (settings : List MasterSettings) (app : AppView) (old new : MultiView) (calls : List Call) (call : Call) (place : ℕ) (what : Move) (c : Connection) (last : MasterView)
-    → StandsFor settings app old calls → cycle_in call (meant settings app calls) ≡ None → after call (meant settings app calls) ≡ event_at (suc place) what (meant settings app calls)
-    → Quiets (meant settings app calls) place what c → IsWhere (with_event what c) last → new.masters ≡ slice_set old.masters place last → new.app ≡ old.app → new.inputs ≡ old.inputs → new.changed ≡ []
-    → StandsFor settings app new (call ∷ calls)
-quiet_stands settings app old new calls call place what c last h none a q w nm na ni nc =
-    let m : Meant = meant settings app calls in
-    stands_so settings app old new calls call None (record m { connections = slice_set m.connections place (with_event what c) }) h none (a ∙ event_is m place c what q.is)
-    (record {
-      masters = rw nm (zip_set IsWhere m.connections old.masters place (with_event what c) last h.masters w);
+pub quiet_stands : (settings : List MasterSettings) (app : AppView) (old new : MultiView) (calls : List Call) (place : ℕ) (what : Move) (c : Connection) (last : MasterView) → StandsFor settings app old calls
+    → slice_get (meant settings app calls).connections place ≡ Some c → outputs_at (with_event what c) ≡ outputs_at c → IsWhere (with_event what c) last
+    → new.masters ≡ slice_set old.masters place last → new.app ≡ old.app → new.inputs ≡ old.inputs → new.changed ≡ []
+    → StandsIn (meant settings app calls).connections None (with_one (meant settings app calls) place what c) new
+quiet_stands settings app old new calls place what c last h is o w nm na ni nc =
+    let cs : List Connection = (meant settings app calls).connections in
+    record {
+      masters = rw nm (zip_set IsWhere cs old.masters place (with_event what c) last h.masters w);
       app_is = na ∙ h.app_is;
-      inputs_are = ni ∙ h.inputs_are ∙ sym (map_set outputs_at m.connections place c (with_event what c) q.is q.outputs);
+      inputs_are = ni ∙ h.inputs_are ∙ sym (map_set outputs_at cs place c (with_event what c) is o);
       changed_are = nc;
       sound = tt;
-    })
+    }
 
 -- a session id is set at one connection
 pub nonce_follows : (old new : MultiView) (link place id : ℕ) (m last : MasterView) → Placed old.masters link place m → core.Follows m (move.Nonce id) last
     → new.masters ≡ slice_set old.masters place last → new.app ≡ old.app → new.inputs ≡ old.inputs → new.changed ≡ [] → Follows old (Nonce link id) new
 nonce_follows old new link place id m last at f nm na ni nc = record {
   stands = λ settings app calls h.
-      let p = at_place IsWhere (meant settings app calls).connections old.masters place m h.masters at.at in
+      let later : Meant = meant settings app calls in
+      let p = at_place IsWhere later.connections old.masters place m h.masters at.at in
       let c : Connection = p.there in
-      quiet_stands settings app old new calls (Nonce link id) place (move.Nonce id) c last h refl (ap (λ k. event_at k (move.Nonce id) (meant settings app calls)) at.number)
-      (record { is = p.is; outputs = refl }) (f.is_after c.settings c.deeds p.holds) nm na ni nc;
+      stands_so settings app old new calls (Nonce link id) None (with_one later place (move.Nonce id) c) h refl (ap (λ k. event_at k (move.Nonce id) later) at.number ∙ event_is later place c (move.Nonce id) p.is)
+      (quiet_stands settings app old new calls place (move.Nonce id) c last h p.is refl (f.is_after c.settings c.deeds p.holds) nm na ni nc);
 }

@@ -1,10 +1,7 @@
 -- Why settings of many connections are refused.
-use Rattle.std.specs.Prelude.{◌≡◌, ℕ, false, nat_lt, List, [], length, Option, Some, option_map, map, if◌then◌else◌}
+use Rattle.std.specs.Prelude.{ℕ, nat_lt, List, length, Option, Some, option_map, map, if◌then◌else◌}
 use Rattle.param_load.specs.SameConn.{same_conn}
 use Rattle.param_load.specs.declared.master_settings.MasterSettings.{MasterSettings}
-use Rattle.master_core.specs.MasterView.{MasterView}
-use Rattle.master_core.specs.Now.{is_due}
-use Rattle.master_core.specs.Standing.{MasterIsAfter}
 use Rattle.multi_master.specs.declared.fault.NewFault.{NewFault}
 use Rattle.multi_master.specs.declared.fault.NewFault.TheVariants as fault
 
@@ -20,9 +17,3 @@ first_pair settings = option_map pair_fault (same_conn 1 (map (λ s. s.conn) set
 -- from 1
 abbrev pub first_fault : List MasterSettings → Option NewFault
 first_fault settings = if nat_lt 64 (length settings) then Some fault.TooMany else first_pair settings
-
--- a master with these settings to which nothing happened yet; contracts of private functions alone rest on it
-pub record IsNewMaster (settings : MasterSettings) (m : MasterView) : Type 0 where
-  pub is_after : MasterIsAfter settings m []
-  pub settings_are : m.kit.settings ≡ settings
-  pub rest : is_due m.state ≡ false

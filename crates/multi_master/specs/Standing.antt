@@ -7,10 +7,11 @@ use Rattle.failsafe_io.specs.declared.bit.Bit.{Bit}
 use Rattle.param_load.specs.declared.entry.Move.TheVariants as move
 use Rattle.param_load.specs.declared.master_settings.MasterSettings.{MasterSettings}
 use Rattle.end_model.specs.Deed.{Deed}
+use Rattle.end_model.specs.Setup.{OfMaster, sends}
 use Rattle.master_core.specs.MasterView.{MasterView}
+use Rattle.master_core.specs.Now.{is_due}
 use Rattle.master_core.specs.Standing.{MasterIsAfter}
 use Rattle.multi_master.specs.Connection.{Connection, next_deed, outputs_at}
-use Rattle.multi_master.specs.Puts.{own_len, due_in}
 use Rattle.multi_master.specs.Calls.{Rule, AppView, Call, Deliver, Meant, IsSound, connection, cycle_in, meant, changed_by}
 
 -- what a master of many connections is, with an application of any type: the masters in the order of the connections,
@@ -40,6 +41,14 @@ seen rule holds guards v = record { masters = v.masters; app = app_view rule hol
 -- the settings of a master
 abbrev pub settings_in : MasterView → MasterSettings
 settings_in m = m.kit.settings
+
+-- the safe data bytes of a master's frames
+abbrev pub own_len : MasterView → ℕ
+own_len m = sends (OfMaster m.kit.settings)
+
+-- whether a master's frame is due
+abbrev pub due_in : MasterView → Bool
+due_in m = is_due m.state
 
 -- the settings of each connection
 abbrev pub settings_of : {A : Type 0} → MultiValue A → List MasterSettings

@@ -1,8 +1,8 @@
 //! All masters tick, and the results of a cycle are put.
 ghost use Rattle.std.specs.Prelude.{◌≡◌, ◌≤◌, false, length, map, All};
 ghost use Rattle.master_core.specs.Now.{is_due};
-ghost use Rattle.multi_master.specs.Standing.{app_view, settings_in, AreNumbers};
-ghost use Rattle.multi_master.specs.Puts.{own_len, due_in, PutsAnswer, PutsEach, RunsCycle, IsTickStep, TicksEach};
+ghost use Rattle.multi_master.specs.Standing.{app_view, due_in, own_len, settings_in, AreNumbers};
+ghost use Rattle.multi_master.specs.Puts.{PutsAnswer, PutsEach, RunsCycle, TicksOne, TicksEach};
 
 use crate::making::MOST_LINKS;
 use arrayvec::ArrayVec;
@@ -28,6 +28,8 @@ fn put_answers(masters: &mut [Master], answers: &[Image], changed: &mut ArrayVec
     requires most { length masters.old ≤ MOST_LINKS }
     ensures puts { PutsEach masters.old answers.now masters.new changed.new.items }
     ensures numbers { AreNumbers (length masters.new) changed.new.items }
+    ensures settings { map settings_in masters.new ≡ map settings_in masters.old }
+    ensures due { map due_in masters.new ≡ map due_in masters.old }
 {
     changed.clear();
     for i in 0..masters.len() {
@@ -62,7 +64,7 @@ pub(crate) fn run_cycle<A: Application>(
 /// Counts a tick at a master, and reads its outputs if its session ended.
 fn tick_one(master: &mut Master, input: &mut Image, did: &mut Did, out: &mut FrameBuf)
     requires { is_due master.old.state ≡ false }
-    ensures { IsTickStep (record { old = master.old; new = master.new; did = did.new; sent = out.new; before = input.old; after = input.new }) }
+    ensures { TicksOne master.old input.old master.new input.new did.new out.new }
 {
     master.tick_into(did, out);
     if did.reset.is_some() {
@@ -82,7 +84,9 @@ pub(crate) fn tick_all(
     requires inputs { length inputs.old ≡ length masters.old }
     requires outs { length outs.old ≡ length masters.old }
     requires dids { length dids.old ≡ length masters.old }
-    ensures { TicksEach masters.old inputs.old masters.new inputs.new dids.new outs.new }
+    ensures ticks { TicksEach masters.old inputs.old masters.new inputs.new dids.new outs.new }
+    ensures settings { map settings_in masters.new ≡ map settings_in masters.old }
+    ensures rest { All (λ m. due_in m ≡ false) masters.new }
 {
     for i in 0..masters.len() {
         tick_one(&mut masters[i], &mut inputs[i], &mut dids[i], &mut outs[i]);

@@ -1,9 +1,11 @@
 //! Whether there is such a master of many connections, and what it is made of.
-ghost use Rattle.std.specs.Prelude.{◌≡◌, ◌≤◌, length, map, IfOk, IfErr};
+ghost use Rattle.std.specs.Prelude.{◌≡◌, ◌≤◌, false, length, map, All, IfOk, IfErr};
 ghost use Rattle.std.specs.List.{AllZip};
 ghost use Rattle.multi_master.specs.declared.fault.NewFault.TheVariants as fault;
-ghost use Rattle.multi_master.specs.New.{first_pair, first_fault, IsNewMaster};
-ghost use Rattle.multi_master.specs.Puts.{own_len, first_input};
+ghost use Rattle.multi_master.specs.Connection.{fresh};
+ghost use Rattle.multi_master.specs.New.{first_pair, first_fault};
+ghost use Rattle.multi_master.specs.Puts.{first_input};
+ghost use Rattle.multi_master.specs.Standing.{due_in, own_len, settings_in, IsWhere};
 
 use crate::fault::NewFault;
 use arrayvec::ArrayVec;
@@ -48,12 +50,13 @@ pub(crate) fn first_fault(settings: &[MasterSettings]) -> Option<NewFault>
 
 /// New masters with these settings, in their order.
 pub(crate) fn masters_of(settings: Vec<MasterSettings>) -> Result<Vec<Master>, NewFault>
-    ensures made { IfOk result (λ masters. AllZip IsNewMaster settings.items masters.items) }
+    ensures stand { IfOk result (λ masters. AllZip IsWhere (map fresh settings.items) masters.items) }
+    ensures settings { IfOk result (λ masters. map settings_in masters.items ≡ settings.items) }
+    ensures rest { IfOk result (λ masters. All (λ m. due_in m ≡ false) masters.items) }
     ensures memory { IfErr result (λ found. found ≡ fault.Memory) }
 {
-    let mut masters = match Vec::with_capacity(*settings.allocator(), settings.len()) {
-        Ok(masters) => masters,
-        Err(_) => return Err(NewFault::Memory),
+    let Ok(mut masters) = Vec::with_capacity(*settings.allocator(), settings.len()) else {
+        return Err(NewFault::Memory);
     };
     for own in settings {
         if masters.push(Master::new(own)).is_err() {
@@ -63,38 +66,27 @@ pub(crate) fn masters_of(settings: Vec<MasterSettings>) -> Result<Vec<Master>, N
     Ok(masters)
 }
 
-/// The outputs of new masters, which are zeros.
-pub(crate) fn inputs_of(alloc: Global, masters: &[Master]) -> Result<Vec<Image>, NewFault>
-    ensures zeros { IfOk result (λ images. images.items ≡ map first_input masters.now) }
+/// The outputs of new masters, which are zeros, and room for the results of an application for them.
+pub(crate) fn images_of(
+    alloc: Global,
+    masters: &[Master],
+) -> Result<(Vec<Image>, Vec<Image>), NewFault>
+    ensures zeros { IfOk result (λ images. images.0.items ≡ map first_input masters.now) }
+    ensures fit { IfOk result (λ images. map length images.1.items ≡ map own_len masters.now) }
     ensures memory { IfErr result (λ found. found ≡ fault.Memory) }
 {
-    let mut images = match Vec::with_capacity(alloc, masters.len()) {
-        Ok(images) => images,
-        Err(_) => return Err(NewFault::Memory),
+    let Ok(mut inputs) = Vec::with_capacity(alloc, masters.len()) else {
+        return Err(NewFault::Memory);
+    };
+    let Ok(mut answers) = Vec::with_capacity(alloc, masters.len()) else {
+        return Err(NewFault::Memory);
     };
     for i in 0..masters.len() {
-        let image = Image::zeros(masters[i].settings().peer_len());
-        if images.push(image).is_err() {
+        let input = Image::zeros(masters[i].settings().peer_len());
+        let answer = Image::zeros(masters[i].settings().own_len());
+        if inputs.push(input).is_err() || answers.push(answer).is_err() {
             return Err(NewFault::Memory);
         }
     }
-    Ok(images)
-}
-
-/// Room for the results of an application for these masters.
-pub(crate) fn answers_of(alloc: Global, masters: &[Master]) -> Result<Vec<Image>, NewFault>
-    ensures fit { IfOk result (λ images. map length images.items ≡ map own_len masters.now) }
-    ensures memory { IfErr result (λ found. found ≡ fault.Memory) }
-{
-    let mut images = match Vec::with_capacity(alloc, masters.len()) {
-        Ok(images) => images,
-        Err(_) => return Err(NewFault::Memory),
-    };
-    for i in 0..masters.len() {
-        let image = Image::zeros(masters[i].settings().own_len());
-        if images.push(image).is_err() {
-            return Err(NewFault::Memory);
-        }
-    }
-    Ok(images)
+    Ok((inputs, answers))
 }

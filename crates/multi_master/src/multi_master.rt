@@ -6,7 +6,7 @@ ghost use Rattle.multi_master.specs.declared.fault.NewFault.TheVariants as fault
 
 use crate::cycle::{run_cycle, tick_all};
 use crate::fault::NewFault;
-use crate::making::{MOST_LINKS, answers_of, first_fault, inputs_of, masters_of};
+use crate::making::{MOST_LINKS, first_fault, images_of, masters_of};
 use arrayvec::ArrayVec;
 use failsafe_io::{Application, Bit};
 use fsoe_base::{Did, FrameBuf, Image, MOST_DATA, State};
@@ -93,8 +93,7 @@ impl<A: Application> MultiMaster<A> {
         }
         let alloc = *settings.allocator();
         let masters = masters_of(settings)?;
-        let inputs = inputs_of(alloc, masters.as_slice())?;
-        let answers = answers_of(alloc, masters.as_slice())?;
+        let (inputs, answers) = images_of(alloc, masters.as_slice())?;
         self.masters = masters;
         self.inputs = inputs;
         self.answers = answers;
@@ -125,13 +124,14 @@ impl<A: Application> MultiMaster<A> {
         ensures settings { settings_of self.new ≡ settings_of self.old }
     {
         let place = usize::from(link) - 1;
-        self.masters[place].accept_into(frame, did);
-        if !self.masters[place].due() {
+        let master = &mut self.masters[place];
+        master.accept_into(frame, did);
+        if !master.due() {
             self.changed.clear();
             out.clear();
             return;
         }
-        self.inputs[place].set(self.masters[place].outputs());
+        self.inputs[place].set(master.outputs());
         run_cycle(
             &mut self.app,
             false,
