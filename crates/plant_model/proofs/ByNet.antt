@@ -1,6 +1,7 @@
 -- A net that runs answers by looking back over its cycles.
 use Rattle.plant_model.proofs.Common.{Act, Answer, AppView, Beginning, Call, ChangeApp, Connection, Deliver, MasterSettings, Meant, Nonce, Rule, Tick, after, all_tick, answer, call_of, calls, connection, cycle_in, event_at, event_keeps, event_on, is_heard, is_offer, masters, meant, offer_len, option_and_then, option_to_list, outputs_at, settings, settings_alone, with_cycle, with_event, with_offers}
 use Rattle.std.proofs.Common.{◌≡◌, ℕ, zero, suc, Bool, true, false, List, [], ◌∷◌, ◌++◌, map, Option, Some, None, IfSome, if◌then◌else◌, refl, sym, ap, ap₂, ◌∙◌, arith}
+use Rattle.std.proofs.lemmas.Simd.{map-map}
 use Rattle.fb_net.specs.Calls as net
 use Rattle.fb_net.specs.Calls.{cycles_of, held_after}
 use Rattle.fb_net.specs.NetView.{NetView}
@@ -13,16 +14,11 @@ use Rattle.multi_master.proofs.Putting.{all_outputs_put, outputs_put}
 use Rattle.plant_model.specs.NetCycles.{AnswersByNet, app_begun, app_cycles, cycles_before, is_ticked, net_app, sent_lens, with_answered}
 
 -- the lengths of what is answered never change
-lens_by : (cs : List Connection) → map offer_len cs ≡ sent_lens (map (λ c. c.settings) cs)
-lens_by [] = refl
-lens_by (c ∷ cs) = ap (λ (ls : List ℕ). offer_len c ∷ ls) (lens_by cs)
-
 lens_are : (settings : List MasterSettings) (app : AppView) (calls : List Call) → map offer_len (meant settings app calls).connections ≡ sent_lens settings
-lens_are settings app calls = lens_by (meant settings app calls).connections ∙ ap sent_lens (settings_alone settings app calls)
+lens_are settings app calls = sym (map-map (λ s. s.lengths.master) (λ c. c.settings) (meant settings app calls).connections) ∙ ap sent_lens (settings_alone settings app calls)
 
 ticked_lens : (cs : List Connection) → map offer_len (map (with_event move.Tick) cs) ≡ map offer_len cs
-ticked_lens [] = refl
-ticked_lens (c ∷ cs) = ap (λ (ls : List ℕ). offer_len c ∷ ls) (ticked_lens cs)
+ticked_lens cs = map-map offer_len (with_event move.Tick) cs
 
 -- an answer that was put before a frame changes nothing of what the frame brings
 put_delivered : (c : Connection) (load bytes : List ℕ) (b : Bool) → outputs_at (with_event (move.Deliver bytes) (if b then c else with_event (move.Put load) c)) ≡ outputs_at (with_event (move.Deliver bytes) c)

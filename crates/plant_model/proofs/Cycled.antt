@@ -1,34 +1,19 @@
 -- Which acts run a cycle, and that its answer is sound.
-use Rattle.plant_model.proofs.Common.{Act, AllSound, Answer, Beginning, Call, Cycles, Deed, Deliver, End, Entry, Event, Happen, IfSome, IsSound, JournalStep, LinkConf, MasterSettings, OfMaster, Parcel, PullFrom, append-nil, call_of, calls, changed_by, connection, cycle_in, deeds, delivery_call, did_on, is_heard, is_some, journal, link_at, master_hears, masters, meant, next_of, offer_step, option_and_then, option_to_list, pair, place_of, settings, tells_hearing}
-use Rattle.fsoe_base.specs.Did.{nothing}
-use Rattle.std.proofs.Common.{◌≡◌, ℕ, zero, suc, ◌==◌, Bool, true, false, List, [], ◌∷◌, ◌++◌, map, slice_get, Option, Some, None, if◌then◌else◌, refl, sym, ap, ◌∙◌, append_assoc, arith}
+use Rattle.plant_model.proofs.Common.{Act, AllSound, Answer, Beginning, Call, Cycles, Deliver, End, Event, Happen, IfSome, IsSound, JournalStep, LinkConf, Parcel, PullFrom, call_of, calls, changed_by, connection, cycle_in, delivery_call, is_heard, is_some, journal, link_at, master_hears, masters, meant, next_of, offer_step, option_and_then, option_to_list, pair, place_of, settings, tells_hearing}
+use Rattle.std.proofs.Common.{◌≡◌, ℕ, zero, suc, Bool, List, [], ◌∷◌, ◌++◌, map, slice_get, Option, Some, None, if◌then◌else◌, refl, sym, ap, ◌∙◌, append_assoc, arith}
 use Rattle.fsoe_base.specs.declared.command.End.TheVariants as side
 use Rattle.param_load.specs.declared.entry.Move.TheVariants as move
 use Rattle.master_core.specs.Calls.{tells_due}
 use Rattle.multi_master.specs.Standing as multi
 use Rattle.plant_model.specs.declared.event.PlantEvent.TheVariants as event
 use Rattle.plant_model.specs.declared.journal.JournalStep.TheVariants as step
-use Rattle.plant_model.proofs.Growing.{pair_own, pair_one}
+use Rattle.plant_model.proofs.Growing.{offers_kept, pair_own}
 use Rattle.plant_model.proofs.Masters.{mastered, offers_by}
 
--- a put changes nothing of what is done with a frame
-put_first : (ms : MasterSettings) (e : List Deed) (load bytes : List ℕ) → did_on (OfMaster ms) (record { what = move.Put load; did = nothing; sent = [] } ∷ e) (move.Deliver bytes) ≡ did_on (OfMaster ms) e (move.Deliver bytes)
-put_first ms e load bytes = refl
-
-put_if : (link : LinkConf) (load bytes : List ℕ) (w : List Entry) (b : Bool)
-    → (next_of side.Master (move.Deliver bytes) link (if b then next_of side.Master (move.Put load) link w ∷ w else w)).did ≡ (next_of side.Master (move.Deliver bytes) link w).did
-put_if link load bytes w true = put_first link.master (deeds side.Master w) load bytes
-put_if link load bytes w false = refl
-
--- offers change nothing of it
+-- offers change nothing of what is done with a frame
 after_offers : (listed : List (ℕ × List ℕ)) (link : LinkConf) (k : ℕ) (bytes : List ℕ) (steps : List JournalStep)
     → (next_of side.Master (move.Deliver bytes) link (pair link k (steps ++ map offer_step listed))).did ≡ (next_of side.Master (move.Deliver bytes) link (pair link k steps)).did
-after_offers [] link k bytes steps = ap (λ (z : List JournalStep). (next_of side.Master (move.Deliver bytes) link (pair link k z)).did) (append-nil steps)
-after_offers (x ∷ listed) link k bytes steps =
-    ap (λ (z : List JournalStep). (next_of side.Master (move.Deliver bytes) link (pair link k z)).did) (sym (append_assoc steps (offer_step x ∷ []) (map offer_step listed)))
-    ∙ after_offers listed link k bytes (steps ++ offer_step x ∷ [])
-    ∙ ap (λ (w : List Entry). (next_of side.Master (move.Deliver bytes) link w).did) (pair_one link k steps (offer_step x) x.0 side.Master (move.Put x.1) (record { part = λ j. refl }))
-    ∙ put_if link x.1 bytes (pair link k steps) (x.0 == k)
+after_offers listed link k bytes steps = offers_kept (λ w. (next_of side.Master (move.Deliver bytes) link w).did) link k listed steps (λ load w. refl)
 
 some_if : (b : Bool) (a : Answer) → is_some (if b then Some a else None) ≡ b
 some_if b a = grind arith

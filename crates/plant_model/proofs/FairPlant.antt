@@ -1,11 +1,12 @@
 -- A pair is a world of proper events where the deeds of both its ends are runs; and the law of the pair holds of
 -- worlds.
-use Rattle.plant_model.proofs.Common.{End, Entry, Fair, HasSameLengths, IfSome, IsNextEntry, IsWorld, JournalStep, Lengths, LinkConf, MasterSettings, Move, OfMaster, OfSlave, PairsAreFair, SameLengths, SlaveSettings, before_other, deed_in, deeds, end_of_event, entry_on, fair_world, frames_of, going_on, link_at, move_from, next_entry, own_events, pair, peer, same_end, setup_of, world_after}
-use Rattle.std.proofs.Common.{◌≡◌, ℕ, zero, suc, List, [], ◌∷◌, slice_get, Option, Some, None, if◌then◌else◌, refl, sym, ap, arith}
+use Rattle.plant_model.proofs.Common.{End, Entry, Fair, HasSameLengths, IfSome, IsNextEntry, IsWorld, JournalStep, LinkConf, MasterSettings, Move, OfMaster, OfSlave, PairsAreFair, SameLengths, SlaveSettings, before_other, deed_in, deeds, end_of_event, entry_on, fair_world, frames_of, going_on, link_at, move_from, next_entry, own_events, pair, peer, same_end, setup_of, world_after}
+use Rattle.std.proofs.Common.{◌≡◌, ℕ, zero, suc, List, [], ◌∷◌, slice_get, Option, Some, None, if◌then◌else◌, refl, arith}
 use Rattle.fsoe_base.specs.declared.command.End.TheVariants as side
 use Rattle.schedule_file.specs.declared.event.Event.{Event}
 use Rattle.end_model.specs.Runs.{IsRun}
 use Rattle.exchange_model.proofs.Worlds.Others.{before_is_clean, before_is_world}
+use Rattle.plant_model.proofs.Proper.{has_same}
 
 -- each entry is the next one of its end after those before it
 abbrev pub AreNext : MasterSettings → SlaveSettings → List Entry → Type 0
@@ -45,7 +46,7 @@ pub record WorldOf (link : LinkConf) (k : ℕ) (steps : List JournalStep) : Type
 pub world_of_runs : (link : LinkConf) (k : ℕ) (steps : List JournalStep) → HasSameLengths link → IsRun (OfMaster link.master) (deeds side.Master (pair link k steps)) → IsRun (OfSlave link.slave) (deeds side.Slave (pair link k steps))
     → WorldOf link k steps
 world_of_runs link k steps e m s = record {
-  lengths = record { master = ap (λ (z : Lengths). z.master) (sym e); slave = ap (λ (z : Lengths). z.slave) (sym e) };
+  lengths = has_same link e;
   world = is_world link.master link.slave (pair link k steps) (are_next link.master link.slave (own_events k steps) [] tt) m s;
 }
 
@@ -53,18 +54,14 @@ world_of_runs link k steps e m s = record {
 abbrev pub AreWorlds : List LinkConf → List JournalStep → Type 0
 AreWorlds links steps = (place : ℕ) (link : LinkConf) → slice_get links place ≡ Some link → WorldOf link (suc place) steps
 
-fair_at : (links : List LinkConf) (steps : List JournalStep) (place : ℕ) (link : LinkConf) → AreWorlds links steps → slice_get links place ≡ Some link
-    → Fair link.master.lengths (before_other (pair link (suc place) steps))
-fair_at links steps place link are e =
-    let w = are place link e in
-    let clean : List Entry = before_other (pair link (suc place) steps) in
-    fair_world link.master link.slave clean w.lengths (before_is_world link.master link.slave (pair link (suc place) steps) w.world) (before_is_clean (pair link (suc place) steps))
-
 fair_if : (links : List LinkConf) (steps : List JournalStep) (k : ℕ) (o : Option LinkConf) → link_at links k ≡ o → AreWorlds links steps
     → IfSome o (λ link. Fair link.master.lengths (before_other (pair link k steps)))
 fair_if links steps k None e are = tt
 fair_if links steps zero (Some link) e are = absurd (cc e)
-fair_if links steps (suc place) (Some link) e are = fair_at links steps place link are e
+fair_if links steps (suc place) (Some link) e are =
+    let w = are place link e in
+    let all : List Entry = pair link (suc place) steps in
+    fair_world link.master link.slave (before_other all) w.lengths (before_is_world link.master link.slave all w.world) (before_is_clean all)
 
 pub worlds_are_fair : (links : List LinkConf) (steps : List JournalStep) → AreWorlds links steps → PairsAreFair links steps
 worlds_are_fair links steps are = λ k. fair_if links steps k (link_at links k) refl are

@@ -1,30 +1,10 @@
 -- How the entries of a pair grow with the journal, and which frames are pushed then.
-use Rattle.plant_model.proofs.Common.{End, Entry, JournalStep, LinkConf, MasterSettings, Move, SlaveSettings, Use, append-nil, deeds, each_uses, end_of_event, entry_at, entry_on, eq-eqb, flat_map-append, frames_of, going_on, if_same, is_empty, move_from, newer, next_entry, next_of, own_events, own_part, pair, pairs_by, peer, place_of, push_to, pushes_of, same_end, sent_uses, setup_of, world_after}
-use Rattle.std.proofs.Common.{◌≡◌, ◌≢◌, ◌<◌, ℕ, zero, suc, ◌+◌, ◌-◌, ◌==◌, Bool, false, List, [], ◌∷◌, ◌++◌, map, slice_get, Option, Some, if◌then◌else◌, refl, sym, ap, ap₂, subst, ◌∙◌, arith, rules}
+use Rattle.plant_model.proofs.Common.{End, Entry, JournalStep, LinkConf, Move, Use, append-nil, each_uses, entry_at, eq-eqb, frames_of, going_on, if_same, is_empty, newer, next_of, offer_step, own_events, own_part, pair, pairs_by, peer, place_of, push_to, pushes_of, same_end, sent_uses, world_after}
+use Rattle.std.proofs.Common.{◌≡◌, ◌≢◌, ◌<◌, ℕ, zero, suc, ◌+◌, ◌==◌, Bool, true, false, List, [], ◌∷◌, ◌++◌, map, slice_get, Option, Some, None, if◌then◌else◌, refl, sym, ap, ap₂, ◌∙◌, append_assoc, arith, rules}
+use Rattle.fsoe_base.specs.declared.command.End.TheVariants as side
 use Rattle.param_load.specs.declared.entry.Move.TheVariants as move
 use Rattle.schedule_file.specs.declared.event.Event.{Event}
 use Rattle.schedule_file.specs.declared.event.Event.TheVariants as at
-
--- an event names no frame
-abbrev pub IsPlain : Event → Type 0
-IsPlain (at.Deliver to back) = ⊥
-IsPlain (at.Altered to back pos mask) = ⊥
-IsPlain _ = Unit {0}
-
-abbrev pub ArePlain : List Event → Type 0
-ArePlain [] = Unit {0}
-ArePlain (e ∷ events) = IsPlain e × ArePlain events
-
-plain_append : (xs ys : List Event) → ArePlain xs → ArePlain ys → ArePlain (xs ++ ys)
-plain_append [] ys h i = i
-plain_append (e ∷ xs) ys h i = (h.0, plain_append xs ys h.1 i)
-
-step_plain : (k : ℕ) (s : JournalStep) → ArePlain (own_part k s)
-step_plain k s = grind arith
-
-pub events_plain : (k : ℕ) (steps : List JournalStep) → ArePlain (own_events k steps)
-events_plain k [] = tt
-events_plain k (s ∷ steps) = plain_append (own_part k s) (own_events k steps) (step_plain k s) (events_plain k steps)
 
 pub not_same : (n k : ℕ) → n ≢ k → (n == k) ≡ false
 not_same n k h = search rules
@@ -38,28 +18,34 @@ event_for end (move.Hold failsafe) = at.Hold end failsafe
 event_for end (move.Nonce id) = at.Nonce end id
 event_for end move.Local = at.Local end
 
--- what such an event is to its end
-plain_move : (e : Event) → IsPlain e → (m : Move) × ((frames : List (List ℕ)) → move_from frames e ≡ Some m)
-plain_move (at.Raw to frame) h = (move.Deliver frame, λ frames. refl)
-plain_move (at.Tick end) h = (move.Tick, λ frames. refl)
-plain_move (at.Put end load) h = (move.Put load, λ frames. refl)
-plain_move (at.Hold end failsafe) h = (move.Hold failsafe, λ frames. refl)
-plain_move (at.Nonce end id) h = (move.Nonce id, λ frames. refl)
-plain_move (at.Local end) h = (move.Local, λ frames. refl)
-plain_move _ h = absurd h
+-- what a step means for a connection stands for entries of their own, since none of its events names a frame
+step_apart : (link : LinkConf) (k : ℕ) (s : JournalStep) (rest : List Event) (w : List Entry)
+    → world_after link.master link.slave (own_part k s ++ rest) w ≡ world_after link.master link.slave rest (world_after link.master link.slave (own_part k s) w)
+step_apart link k s rest w = grind arith
 
-world_append : (ms : MasterSettings) (ss : SlaveSettings) (xs ys : List Event) (w : List Entry) → ArePlain xs → world_after ms ss (xs ++ ys) w ≡ world_after ms ss ys (world_after ms ss xs w)
-world_append ms ss [] ys w h = refl
-world_append ms ss (e ∷ xs) ys w h =
-    let p = plain_move e h.0 in
-    let here : End = end_of_event e in
-    let found : entry_at ms ss w e ≡ Some (next_entry (setup_of ms ss here) (deeds here w) p.0) = ap (entry_on (setup_of ms ss here) (deeds here w)) (p.1 (frames_of (peer here) w)) in
-    subst (λ (o : Option Entry). going_on w o (world_after ms ss (xs ++ ys)) ≡ world_after ms ss ys (going_on w o (world_after ms ss xs))) (sym found)
-    (world_append ms ss xs ys (next_entry (setup_of ms ss here) (deeds here w) p.0 ∷ w) h.1)
+more_after : (link : LinkConf) (k : ℕ) (before more : List JournalStep) (w : List Entry)
+    → world_after link.master link.slave (own_events k (before ++ more)) w ≡ world_after link.master link.slave (own_events k more) (world_after link.master link.slave (own_events k before) w)
+more_after link k [] more w = refl
+more_after link k (s ∷ before) more w =
+    step_apart link k s (own_events k (before ++ more)) w
+    ∙ more_after link k before more (world_after link.master link.slave (own_part k s) w)
+    ∙ ap (world_after link.master link.slave (own_events k more)) (sym (step_apart link k s (own_events k before) w))
 
 -- the entries of a pair by a longer journal
 pub pair_more : (link : LinkConf) (k : ℕ) (before more : List JournalStep) → pair link k (before ++ more) ≡ world_after link.master link.slave (own_events k more) (pair link k before)
-pair_more link k before more = search (rules, flat_map-append, world_append, events_plain)
+pair_more link k before more = more_after link k before more []
+
+-- they are those before, and more
+later_if : (o : Option Entry) (w : List Entry) (f : List Entry → List Entry) → ((x : Entry) → (new : List Entry) × (f (x ∷ w) ≡ new ++ x ∷ w)) → (new : List Entry) × (going_on w o f ≡ new ++ w)
+later_if None w f h = ([], refl)
+later_if (Some x) w f h = let rest = h x in (rest.0 ++ x ∷ [], rest.1 ∙ sym (append_assoc rest.0 (x ∷ []) w))
+
+later : (link : LinkConf) (events : List Event) (w : List Entry) → (new : List Entry) × (world_after link.master link.slave events w ≡ new ++ w)
+later link [] w = ([], refl)
+later link (e ∷ events) w = later_if (entry_at link.master link.slave w e) w (world_after link.master link.slave events) (λ x. later link events (x ∷ w))
+
+pub pair_later : (link : LinkConf) (k : ℕ) (before more : List JournalStep) → (new : List Entry) × (pair link k (before ++ more) ≡ new ++ pair link k before)
+pair_later link k before more = let rest = later link (own_events k more) (pair link k before) in (rest.0, pair_more link k before more ∙ rest.1)
 
 -- one more entry of an end of connection n
 abbrev pub one_more : ℕ → End → Move → (ℕ → LinkConf → List Entry) → ℕ → LinkConf → List Entry
@@ -142,3 +128,17 @@ each_one uses k n (suc place) (l ∷ links) link h e i =
 -- a step that means nothing for the ends
 pub no_entry : (link : LinkConf) (k : ℕ) (steps : List JournalStep) (s : JournalStep) → own_part k s ≡ [] → pair link k (steps ++ s ∷ []) ≡ pair link k steps
 no_entry link k steps s h = pair_more link k steps (s ∷ []) ∙ ap (λ (es : List Event). world_after link.master link.slave (es ++ []) (pair link k steps)) h
+
+-- what a put at the master leaves, the offers of a cycle leave
+if_kept : {X : Type 0} (F : List Entry → X) (x : Entry) (w : List Entry) (b : Bool) → F (x ∷ w) ≡ F w → F (if b then x ∷ w else w) ≡ F w
+if_kept F x w true h = h
+if_kept F x w false h = refl
+
+pub offers_kept : {X : Type 0} (F : List Entry → X) (link : LinkConf) (k : ℕ) (listed : List (ℕ × List ℕ)) (steps : List JournalStep) → ((load : List ℕ) (w : List Entry) → F (next_of side.Master (move.Put load) link w ∷ w) ≡ F w)
+    → F (pair link k (steps ++ map offer_step listed)) ≡ F (pair link k steps)
+offers_kept F link k [] steps h = ap (λ (z : List JournalStep). F (pair link k z)) (append-nil steps)
+offers_kept F link k (x ∷ listed) steps h =
+    ap (λ (z : List JournalStep). F (pair link k z)) (sym (append_assoc steps (offer_step x ∷ []) (map offer_step listed)))
+    ∙ offers_kept F link k listed (steps ++ offer_step x ∷ []) h
+    ∙ ap F (pair_one link k steps (offer_step x) x.0 side.Master (move.Put x.1) (record { part = λ j. refl }))
+    ∙ if_kept F (next_of side.Master (move.Put x.1) link (pair link k steps)) (pair link k steps) (x.0 == k) (h x.1 (pair link k steps))

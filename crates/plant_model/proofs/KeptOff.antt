@@ -1,8 +1,10 @@
 -- The bits of a bound at the master of many connections and in the pairs: what the application reads is what the master
 -- of a pair has, and what it answers is what that master offers. Acts and entries are listed newest first.
-use Rattle.plant_model.proofs.Common.{Act, Beginning, Bit, Connection, End, Entry, FailSafe, IsWorld, LinkConf, MasterSettings, OfMaster, SameLengths, Setup, SlaveSettings, bit_at, bit_of, cycle_of, deed_in, deeds, event_keeps, inputs_after, is_held, journal, last_put, link_at, masters, next_offered, of_end, offer_at, offered_put, offers_after, offers_bit, out, outputs_at, outputs_due, pair, received_len, same_end, sends, setup_of}
+use Rattle.plant_model.proofs.Common.{Act, Beginning, Bit, Connection, End, Entry, FailSafe, IsWorld, LinkConf, MasterSettings, OfMaster, SameLengths, Setup, SlaveSettings, bit_at, bit_of, cycle_of, deed_in, deeds, event_keeps, inputs_after, is_held, journal, last_put, link_at, masters, next_offered, of_end, offer_at, offered_put, offers_after, offers_bit, out, option_map, outputs_at, outputs_due, pair, received_len, same_end, sends, setup_of}
 use Rattle.end_model.specs.Readiness.{held, offer}
 use Rattle.std.proofs.Common.{◌≡◌, ℕ, zero, suc, Bool, false, ◌&&◌, not, List, [], ◌∷◌, map, get_or, replicate, slice_get, Option, Some, None, if◌then◌else◌, refl, sym, ap, ap₂, ◌∙◌, arith, rules}
+use Rattle.std.proofs.lemmas.Bool.{and_right}
+use Rattle.std.proofs.lemmas.Option.{get_or_from_slice_get, slice_get-map}
 use Rattle.fsoe_base.specs.declared.command.End.TheVariants as side
 use Rattle.fb_net.proofs.Bits.{zero_bit}
 use Rattle.exchange_model.proofs.Fairness.Shown.{due_is_out, receives_is}
@@ -39,14 +41,9 @@ bit_by s bit _ _ = refl
 pub offers_is : (s : Setup) (which : End) (bit : ℕ) (w : List Entry) → offers_bit bit (next_offered (of_end which w)) ≡ (not (held (deeds which w)) && bit_of (offer s (deeds which w)) bit)
 offers_is s which bit w = search (rules, bit_by, held_is, offer_is)
 
-pub and_false : (b : Bool) → (b && false) ≡ false
-and_false b = grind arith
-
 -- what has the place of a connection in a list of what all have
 mapped_at : (f : Connection → List ℕ) (cs : List Connection) (place : ℕ) (c : Connection) → slice_get cs place ≡ Some c → get_or (map f cs) place [] ≡ f c
-mapped_at f [] place c e = absurd (cc e)
-mapped_at f (a ∷ cs) zero c e = let i : a ≡ c = cc in ap f i
-mapped_at f (a ∷ cs) (suc place) c e = mapped_at f cs place c e
+mapped_at f cs place c e = get_or_from_slice_get (map f cs) place (f c) [] (slice_get-map f cs place ∙ ap (option_map f) e)
 
 -- the outputs of an end, by its entries
 pub out_due : (ms : MasterSettings) (ss : SlaveSettings) (which : End) (w : List Entry) → SameLengths ms ss → IsWorld ms ss w
@@ -75,7 +72,7 @@ offered_zero b bit acts link e is_off =
     let w : List Entry = pair link bit.link (journal b acts) in
     offers_is (OfMaster link.master) side.Master bit.bit w
     ∙ ap (λ (z : Bool). not (held (deeds side.Master w)) && z) (sym (bit_in offer_at b bit.bit acts bit.link link e) ∙ is_off)
-    ∙ and_false (not (held (deeds side.Master w)))
+    ∙ and_right (not (held (deeds side.Master w))) false refl
 
 -- nor does an act that runs none
 pub act_keeps : (b : Beginning) (act : Act) (acts : List Act) → cycle_of b act acts ≡ None → offers_after b (act ∷ acts) ≡ offers_after b acts

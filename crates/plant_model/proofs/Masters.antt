@@ -1,188 +1,151 @@
 -- The masters of a plant did what their pairs in the journal say: connection by connection both have the same deeds.
-use Rattle.plant_model.proofs.Common.{Act, Answer, App, AppView, Beginning, Call, Connection, End, Entry, Happen, IsSomeAnd, JournalStep, LinkConf, MastersAgree, Move, PullFrom, SaysEvent, Start, append-nil, calls, changed_by, changed_from, connection, cycle_in, cycle_of, deeds, delivery_call, eq-eqb, event_on, fresh, is_offer, journal, link_at, masters, meant, next_of, offer_step, option_and_then, option_map, option_to_list, own_events, own_part, pair, settings, with_cycle, with_event, with_offers, world_after}
-use Rattle.std.proofs.Common.{◌≡◌, ℕ, zero, suc, ◌+◌, ◌<◌, ◌==◌, List, [], ◌∷◌, ◌++◌, map, slice_get, Option, Some, None, IfSome, Bool, true, false, if◌then◌else◌, refl, sym, ap, ap₂, subst, ◌∙◌, append_assoc, arith, rules}
+use Rattle.plant_model.proofs.Common.{Act, Answer, App, Beginning, Call, Connection, Deed, End, Entry, Happen, IsSomeAnd, JournalStep, LinkConf, MastersAgree, Meant, Move, PullFrom, SaysEvent, Start, all_tick, append-nil, calls, changed_by, changed_from, connection, cycle_in, cycle_of, deeds, delivery_call, eq-eqb, event_on, fresh, is_offer, journal, link_at, masters, meant, next_of, offer_step, option_and_then, option_map, option_to_list, own_events, own_part, pair, settings, with_cycle, with_event, with_offers, world_after}
+use Rattle.std.proofs.Common.{◌≡◌, ◌≢◌, ℕ, zero, suc, ◌+◌, ◌<◌, ◌==◌, List, [], ◌∷◌, ◌++◌, map, slice_get, Option, Some, None, IfSome, Bool, true, false, if◌then◌else◌, refl, sym, ap, ap₂, subst, ◌∙◌, append_assoc, arith}
+use Rattle.std.proofs.lemmas.Option.{slice_get-map}
 use Rattle.fsoe_base.specs.declared.command.End.TheVariants as side
 use Rattle.param_load.specs.declared.entry.Move.TheVariants as move
 use Rattle.schedule_file.specs.declared.event.Event.{Event}
 use Rattle.schedule_file.specs.declared.event.Event.TheVariants as at
+use Rattle.multi_master.proofs.Neighbours.{suc-suc}
 use Rattle.multi_master.proofs.Ticking.{told_ticked}
 use Rattle.plant_model.specs.declared.event.PlantEvent.TheVariants as event
 use Rattle.plant_model.specs.declared.journal.JournalStep.TheVariants as step
-use Rattle.plant_model.proofs.Growing.{IsOne, not_same, pair_more, pair_one, pair_other, pair_own, no_entry}
+use Rattle.plant_model.proofs.Growing.{IsOne, not_same, pair_more, pair_one, pair_other, no_entry}
 
--- a master that did what a pair with these entries says, and so those of these connections by a journal, the first of
--- which has number k
+-- a master that did what a pair with these entries says
 abbrev pub master_with : LinkConf → List Entry → Connection
 master_with link w = record { settings = link.master; deeds = deeds side.Master w }
 
-abbrev pub masters_from : ℕ → List LinkConf → List JournalStep → List Connection
-masters_from k [] js = []
-masters_from k (link ∷ links) js = master_with link (pair link k js) ∷ masters_from (suc k) links js
+-- a list has the master of a connection at its place, by a journal
+abbrev Has : List Connection → ℕ → LinkConf → List JournalStep → Type 0
+Has cs place link js = slice_get cs place ≡ Some (master_with link (pair link (suc place) js))
 
--- both have the same masters, connection by connection
-same_from : (k : ℕ) (links : List LinkConf) (js ks : List JournalStep) → ((j : ℕ) (link : LinkConf) → deeds side.Master (pair link j js) ≡ deeds side.Master (pair link j ks))
-    → masters_from k links js ≡ masters_from k links ks
-same_from k [] js ks h = refl
-same_from k (link ∷ links) js ks h = ap₂ (λ e (cs : List Connection). record { settings = link.master; deeds = e } ∷ cs) (h k link) (same_from (suc k) links js ks h)
+-- so it has it by the same entries
+by_entries : (cs : List Connection) (place : ℕ) (link : LinkConf) (js : List JournalStep) (w : List Entry) → slice_get cs place ≡ Some (master_with link w) → pair link (suc place) js ≡ w → Has cs place link js
+by_entries cs place link js w h e = h ∙ ap (λ (z : List Entry). Some (master_with link z)) (sym e)
 
+-- a step at a slave
 slave_keeps : (link : LinkConf) (what : Move) (w : List Entry) (b : Bool) → deeds side.Master (if b then next_of side.Slave what link w ∷ w else w) ≡ deeds side.Master w
 slave_keeps link what w b = grind arith
 
--- a step at a slave, and one that means nothing for any end
-slave_from : (links : List LinkConf) (js : List JournalStep) (s : JournalStep) (n : ℕ) (what : Move) → IsOne s n side.Slave what → masters_from 1 links (js ++ s ∷ []) ≡ masters_from 1 links js
-slave_from links js s n what h =
-    same_from 1 links (js ++ s ∷ []) js (λ j link. ap (deeds side.Master) (pair_one link j js s n side.Slave what h) ∙ slave_keeps link what (pair link j js) (n == j))
+slave_step : (cs : List Connection) (place : ℕ) (link : LinkConf) (js : List JournalStep) (s : JournalStep) (n : ℕ) (what : Move) → IsOne s n side.Slave what → Has cs place link js → Has cs place link (js ++ s ∷ [])
+slave_step cs place link js s n what one h =
+    let w : List Entry = pair link (suc place) js in
+    let same = ap (deeds side.Master) (pair_one link (suc place) js s n side.Slave what one) ∙ slave_keeps link what w (n == suc place) in
+    h ∙ ap (λ (e : List Deed). Some (record { settings = link.master; deeds = e })) (sym same)
 
-pub ticks_from : (k : ℕ) (links : List LinkConf) (js : List JournalStep) → masters_from k links (js ++ step.Script event.Tick ∷ []) ≡ map (with_event move.Tick) (masters_from k links js)
-ticks_from k [] js = refl
-ticks_from k (link ∷ links) js = ap₂ (λ (w : List Entry) (cs : List Connection). master_with link w ∷ cs) (pair_more link k js (step.Script event.Tick ∷ [])) (ticks_from (suc k) links js)
+-- a step at a master
+abbrev one_of : Bool → Move → Connection → Connection
+one_of b what c = if b then with_event what c else c
 
--- a step at the master of connection n
-past_from : (k n : ℕ) (links : List LinkConf) (js : List JournalStep) (s : JournalStep) (what : Move) → IsOne s n side.Master what → n < k → masters_from k links (js ++ s ∷ []) ≡ masters_from k links js
-past_from k n [] js s what h less = refl
-past_from k n (link ∷ links) js s what h less =
-    ap₂ (λ (w : List Entry) (cs : List Connection). master_with link w ∷ cs) (pair_other link k js s n side.Master what h (λ e. absurd (omega arith))) (past_from (suc k) n links js s what h (omega arith))
+as_told : (what : Move) (c : Connection) (o : Option Connection) (a b : Bool) → o ≡ Some (one_of a what c) → b ≡ a → o ≡ Some (one_of b what c)
+as_told what c o a b h e = h ∙ ap (λ (x : Bool). Some (one_of x what c)) (sym e)
 
-place_from : (k n place : ℕ) (links : List LinkConf) (js : List JournalStep) (s : JournalStep) (what : Move) → IsOne s n side.Master what → n ≡ k + place
-    → masters_from k links (js ++ s ∷ []) ≡ event_on (suc place) what (masters_from k links js)
-place_from k n place [] js s what h e = refl
-place_from k n zero (link ∷ links) js s what h e =
-    let same : n ≡ k = omega arith in
-    ap₂ (λ (w : List Entry) (cs : List Connection). master_with link w ∷ cs)
-    (ap (λ (j : ℕ). pair link j (js ++ s ∷ [])) (sym same) ∙ pair_own link js s n side.Master what h ∙ ap (λ (j : ℕ). next_of side.Master what link (pair link j js) ∷ pair link j js) same)
-    (past_from (suc k) n links js s what h (omega arith))
-place_from k n (suc place) (link ∷ links) js s what h e =
-    ap₂ (λ (w : List Entry) (cs : List Connection). master_with link w ∷ cs) (pair_other link k js s n side.Master what h (λ z. absurd (omega arith))) (place_from (suc k) n place links js s what h (omega arith))
+event_there : (cs : List Connection) (n place : ℕ) (what : Move) (c : Connection) → slice_get cs place ≡ Some c → slice_get (event_on n what cs) place ≡ Some (one_of (n == suc place) what c)
+event_there [] n place what c h = absurd (cc h)
+event_there (a ∷ cs) zero place what c h = as_told what c (slice_get (a ∷ cs) place) false (0 == suc place) h (grind arith)
+event_there (a ∷ cs) (suc zero) zero what c h = let i : a ≡ c = cc in ap (λ (d : Connection). Some (with_event what d)) i
+event_there (a ∷ cs) (suc zero) (suc k) what c h = as_told what c (slice_get cs k) false (1 == suc (suc k)) h (grind arith)
+event_there (a ∷ cs) (suc (suc p)) zero what c h = as_told what c (Some a) false (suc (suc p) == 1) h (grind arith)
+event_there (a ∷ cs) (suc (suc p)) (suc k) what c h =
+    as_told what c (slice_get (event_on (suc p) what cs) k) (suc p == suc k) (suc (suc p) == suc (suc k)) (event_there cs (suc p) k what c h) (suc-suc (suc p) (suc k))
 
-none_on : (what : Move) (cs : List Connection) → event_on 0 what cs ≡ cs
-none_on what [] = refl
-none_on what (c ∷ cs) = refl
+master_goes : (link : LinkConf) (what : Move) (w : List Entry) (b : Bool) → one_of b what (master_with link w) ≡ master_with link (if b then next_of side.Master what link w ∷ w else w)
+master_goes link what w true = refl
+master_goes link what w false = refl
 
-pub master_from : (n : ℕ) (links : List LinkConf) (js : List JournalStep) (s : JournalStep) (what : Move) → IsOne s n side.Master what → masters_from 1 links (js ++ s ∷ []) ≡ event_on n what (masters_from 1 links js)
-master_from zero links js s what h = past_from 1 0 links js s what h (omega arith) ∙ sym (none_on what (masters_from 1 links js))
-master_from (suc place) links js s what h = place_from 1 (suc place) place links js s what h (omega arith)
+master_step : (cs : List Connection) (place : ℕ) (link : LinkConf) (js : List JournalStep) (s : JournalStep) (n : ℕ) (what : Move) → IsOne s n side.Master what → Has cs place link js → Has (event_on n what cs) place link (js ++ s ∷ [])
+master_step cs place link js s n what one h =
+    let w : List Entry = pair link (suc place) js in
+    by_entries (event_on n what cs) place link (js ++ s ∷ []) _ (event_there cs n place what (master_with link w) h ∙ ap (λ (d : Connection). Some d) (master_goes link what w (n == suc place))) (pair_one link (suc place) js s n side.Master what one)
 
--- offers of later connections are none of connection k, and that of an earlier one is none of the later
-none_if : (k n : ℕ) (load : List ℕ) (rest : List (ℕ × List ℕ)) (same : Bool) → k < n → own_events k (map offer_step rest) ≡ []
-    → own_events k (map offer_step (if same then rest else (n, load) ∷ rest)) ≡ []
-none_if k n load rest same h l = grind arith
+-- a tick
+tick_step : (cs : List Connection) (place : ℕ) (link : LinkConf) (js : List JournalStep) → Has cs place link js → Has (map (with_event move.Tick) cs) place link (js ++ step.Script event.Tick ∷ [])
+tick_step cs place link js h =
+    by_entries (map (with_event move.Tick) cs) place link (js ++ step.Script event.Tick ∷ []) _ (slice_get-map (with_event move.Tick) cs place ∙ ap (option_map (with_event move.Tick)) h) (pair_more link (suc place) js (step.Script event.Tick ∷ []))
+
+-- an offer of another connection, and those of later ones, are none of connection k
+other_offer : (k n : ℕ) (load : List ℕ) (rest : List (ℕ × List ℕ)) (same : Bool) → n ≢ k → own_events k (map offer_step (if same then rest else (n, load) ∷ rest)) ≡ own_events k (map offer_step rest)
+other_offer k n load rest same h = grind (arith, not_same)
 
 none_of : (k n : ℕ) (cs : List Connection) (loads : List (List ℕ)) → k < n → own_events k (map offer_step (changed_from n cs loads)) ≡ []
-none_of k n (c ∷ cs) (load ∷ loads) h = none_if k n load (changed_from (suc n) cs loads) (is_offer load c) h (none_of k (suc n) cs loads (omega arith))
+none_of k n (c ∷ cs) (load ∷ loads) h = other_offer k n load (changed_from (suc n) cs loads) (is_offer load c) (λ e. absurd (omega arith)) ∙ none_of k (suc n) cs loads (omega arith)
 none_of k n _ _ h = refl
 
-skip_from : (k n : ℕ) (load : List ℕ) (links : List LinkConf) (js rest : List JournalStep) → n < k → masters_from k links (js ++ step.Offer n load ∷ rest) ≡ masters_from k links (js ++ rest)
-skip_from k n load [] js rest h = refl
-skip_from k n load (link ∷ links) js rest h =
-    ap₂ (λ (w : List Entry) (cs : List Connection). master_with link w ∷ cs)
-    (pair_more link k js (step.Offer n load ∷ rest)
-    ∙ ap (λ (b : Bool). world_after link.master link.slave ((if b then at.Put side.Master load ∷ [] else []) ++ own_events k rest) (pair link k js)) (not_same n k (λ e. absurd (omega arith)))
-    ∙ sym (pair_more link k js rest))
-    (skip_from (suc k) n load links js rest (omega arith))
-
 -- an offer that a cycle changed is put, and no other
-put_from : (k : ℕ) (load : List ℕ) (rest : List (ℕ × List ℕ)) (link : LinkConf) (links : List LinkConf) (js : List JournalStep) (ds : List Connection) (same : Bool)
-    → own_events k (map offer_step rest) ≡ [] → masters_from (suc k) links (js ++ map offer_step rest) ≡ ds
-    → masters_from k (link ∷ links) (js ++ map offer_step (if same then rest else (k, load) ∷ rest))
-    ≡ (if same then master_with link (pair link k js) else with_event (move.Put load) (master_with link (pair link k js))) ∷ ds
-put_from k load rest link links js ds true e h =
-    ap₂ (λ (w : List Entry) (cs : List Connection). master_with link w ∷ cs)
-    (pair_more link k js (map offer_step rest) ∙ ap (λ (es : List Event). world_after link.master link.slave es (pair link k js)) e) h
-put_from k load rest link links js ds false e h =
-    ap₂ (λ (w : List Entry) (cs : List Connection). master_with link w ∷ cs)
-    (pair_more link k js (step.Offer k load ∷ map offer_step rest)
-    ∙ ap₂ (λ (b : Bool) (es : List Event). world_after link.master link.slave ((if b then at.Put side.Master load ∷ [] else []) ++ es) (pair link k js)) (eq-eqb k k refl) e)
-    (skip_from (suc k) k load links js (map offer_step rest) (omega arith) ∙ h)
+put_here : (n k : ℕ) (load : List ℕ) (rest : List (ℕ × List ℕ)) (link : LinkConf) (w : List Entry) (c : Connection) (same : Bool) → n ≡ k → c ≡ master_with link w → own_events k (map offer_step rest) ≡ []
+    → (if same then c else with_event (move.Put load) c) ≡ master_with link (world_after link.master link.slave (own_events k (map offer_step (if same then rest else (n, load) ∷ rest))) w)
+put_here n k load rest link w c true number is none = is ∙ ap (λ (es : List Event). master_with link (world_after link.master link.slave es w)) (sym none)
+put_here n k load rest link w c false number is none =
+    ap (with_event (move.Put load)) is
+    ∙ ap₂ (λ (b : Bool) (es : List Event). master_with link (world_after link.master link.slave ((if b then at.Put side.Master load ∷ [] else []) ++ es) w)) (sym (eq-eqb n k number)) (sym none)
 
-puts_from : (k : ℕ) (links : List LinkConf) (js : List JournalStep) (loads : List (List ℕ))
-    → masters_from k links (js ++ map offer_step (changed_from k (masters_from k links js) loads)) ≡ with_offers loads (masters_from k links js)
-puts_from k [] js [] = refl
-puts_from k [] js (load ∷ loads) = refl
-puts_from k (link ∷ links) js [] = ap (masters_from k (link ∷ links)) (append-nil js)
-puts_from k (link ∷ links) js (load ∷ loads) =
-    put_from k load (changed_from (suc k) (masters_from (suc k) links js) loads) link links js (with_offers loads (masters_from (suc k) links js)) (is_offer load (master_with link (pair link k js)))
-    (none_of k (suc k) (masters_from (suc k) links js) loads (omega arith)) (puts_from (suc k) links js loads)
+puts_there : (n k place : ℕ) (cs : List Connection) (loads : List (List ℕ)) (link : LinkConf) (w : List Entry) → k ≡ n + place → slice_get cs place ≡ Some (master_with link w)
+    → slice_get (with_offers loads cs) place ≡ Some (master_with link (world_after link.master link.slave (own_events k (map offer_step (changed_from n cs loads))) w))
+puts_there n k place [] loads link w e h = absurd (cc h)
+puts_there n k place (c ∷ cs) [] link w e h = h
+puts_there n k zero (c ∷ cs) (load ∷ loads) link w e h =
+    ap (λ (d : Connection). Some d) (put_here n k load (changed_from (suc n) cs loads) link w c (is_offer load c) (omega arith) (cc h) (none_of k (suc n) cs loads (omega arith)))
+puts_there n k (suc place) (c ∷ cs) (load ∷ loads) link w e h =
+    puts_there (suc n) k place cs loads link w (omega arith) h
+    ∙ ap (λ (es : List Event). Some (master_with link (world_after link.master link.slave es w))) (sym (other_offer k n load (changed_from (suc n) cs loads) (is_offer load c) (λ z. absurd (omega arith))))
 
--- the offers of a cycle, if there was one
-cycle_from : (links : List LinkConf) (js : List JournalStep) (cs : List Connection) (app : AppView) (o : Option Answer) → cs ≡ masters_from 1 links js
-    → (with_cycle o (record { connections = cs; app = app })).connections ≡ masters_from 1 links (js ++ map offer_step (changed_by o cs))
-cycle_from links js cs app o h = search (rules, puts_from)
+-- the offers of a cycle, if there was one, and so after a line of the script
+cycle_step : (o : Option Answer) (m : Meant) (place : ℕ) (link : LinkConf) (js : List JournalStep) → Has m.connections place link js → Has (with_cycle o m).connections place link (js ++ map offer_step (changed_by o m.connections))
+cycle_step None m place link js h = by_entries m.connections place link (js ++ []) (pair link (suc place) js) h (ap (pair link (suc place)) (append-nil js))
+cycle_step (Some a) m place link js h =
+    let listed : List JournalStep = map offer_step (changed_from 1 m.connections a.outputs) in
+    by_entries (with_offers a.outputs m.connections) place link (js ++ listed) _ (puts_there 1 (suc place) place m.connections a.outputs link (pair link (suc place) js) (omega arith) h) (pair_more link (suc place) js listed)
 
--- a line of the script, and then the offers of its cycle
-line_from : (links : List LinkConf) (js : List JournalStep) (s : JournalStep) (cs : List Connection) (app : AppView) (o : Option Answer) → cs ≡ masters_from 1 links (js ++ s ∷ [])
-    → (with_cycle o (record { connections = cs; app = app })).connections ≡ masters_from 1 links (js ++ (s ∷ map offer_step (changed_by o cs)))
-line_from links js s cs app o e =
-    cycle_from links (js ++ s ∷ []) cs app o e ∙ ap (masters_from 1 links) (append_assoc js (s ∷ []) (map offer_step (changed_by o cs)))
+line_more : (o : Option Answer) (m : Meant) (place : ℕ) (link : LinkConf) (js : List JournalStep) (s : JournalStep) → Has m.connections place link (js ++ s ∷ [])
+    → Has (with_cycle o m).connections place link (js ++ (s ∷ map offer_step (changed_by o m.connections)))
+line_more o m place link js s h = rw (← append_assoc js (s ∷ []) (map offer_step (changed_by o m.connections))) (cycle_step o m place link (js ++ s ∷ []) h)
 
--- what has the place of a connection
-there : (k place : ℕ) (links : List LinkConf) (js : List JournalStep) → slice_get (masters_from k links js) place ≡ option_map (λ link. master_with link (pair link (k + place) js)) (slice_get links place)
-there k place [] js = refl
-there k zero (link ∷ links) js = let number : k ≡ k + 0 = omega arith in ap (λ (j : ℕ). Some (master_with link (pair link j js))) number
-there k (suc place) (link ∷ links) js =
-    there (suc k) place links js ∙ (let number : suc k + place ≡ k + suc place = omega arith in ap (λ (j : ℕ). option_map (λ l. master_with l (pair l j js)) (slice_get links place)) number)
-
-there_at : (links : List LinkConf) (js : List JournalStep) (place : ℕ) (o : Option LinkConf) → slice_get links place ≡ o
-    → slice_get (masters_from 1 links js) place ≡ option_map (λ link. master_with link (pair link (suc place) js)) o
-there_at links js place o h = search (rules, there)
-
--- an event of a connection that there isn't
-no_event : (place : ℕ) (what : Move) (cs : List Connection) → slice_get cs place ≡ None → event_on (suc place) what cs ≡ cs
-no_event place what [] e = refl
-no_event zero what (c ∷ cs) e = absurd (cc e)
-no_event (suc place) what (c ∷ cs) e = ap (λ (ds : List Connection). c ∷ ds) (no_event place what cs e)
-
-absent : (links : List LinkConf) (js : List JournalStep) (n : ℕ) (what : Move) → link_at links n ≡ None → event_on n what (masters_from 1 links js) ≡ masters_from 1 links js
-absent links js n what h = search (rules, none_on, no_event, there_at)
+-- a step that means nothing for any end
+quiet_step : (cs : List Connection) (place : ℕ) (link : LinkConf) (js : List JournalStep) (s : JournalStep) → own_part (suc place) s ≡ [] → Has cs place link js → Has cs place link (js ++ s ∷ [])
+quiet_step cs place link js s none h = by_entries cs place link (js ++ s ∷ []) _ h (no_entry link (suc place) js s none)
 
 -- the offers that an act changed which makes this call, or none
 abbrev pub offers_by : Beginning → Option Call → List Act → List JournalStep
 offers_by b o acts = map offer_step (changed_by (option_and_then (λ call. cycle_in call (masters b acts)) o) (masters b acts).connections)
 
--- a parcel: for a connection that there isn't, for a slave, for a master
-parcel_from : (b : Beginning) (acts : List Act) (n : ℕ) (end : End) (frame : List ℕ) (o : Option LinkConf) → link_at b.links n ≡ o → (masters b acts).connections ≡ masters_from 1 b.links (journal b acts)
-    → (meant (settings b) b.app (option_to_list (delivery_call o end n frame) ++ calls b acts)).connections
-    ≡ masters_from 1 b.links (journal b acts ++ (offers_by b (delivery_call o end n frame) acts ++ step.Pulled (record { to = record { link = n; end = end }; frame = frame }) ∷ []))
-parcel_from b acts n side.Slave frame None e h = h ∙ sym (slave_from b.links (journal b acts) _ n (move.Deliver frame) (record { part = λ k. refl }))
-parcel_from b acts n side.Slave frame (Some link) e h = h ∙ sym (slave_from b.links (journal b acts) _ n (move.Deliver frame) (record { part = λ k. refl }))
-parcel_from b acts n side.Master frame None e h =
-    h ∙ sym (master_from n b.links (journal b acts) (step.Pulled (record { to = record { link = n; end = side.Master }; frame = frame })) (move.Deliver frame) (record { part = λ k. refl }) ∙ absent b.links (journal b acts) n (move.Deliver frame) e)
-parcel_from b acts n side.Master frame (Some link) e h =
+-- a parcel: for a slave, for a master of a connection that there isn't, and of one that there is
+parcel_step : (b : Beginning) (acts : List Act) (place : ℕ) (link : LinkConf) (n : ℕ) (end : End) (frame : List ℕ) (o : Option LinkConf) → slice_get b.links place ≡ Some link → link_at b.links n ≡ o → Has (masters b acts).connections place link (journal b acts)
+    → Has (meant (settings b) b.app (option_to_list (delivery_call o end n frame) ++ calls b acts)).connections place link
+    (journal b acts ++ (offers_by b (delivery_call o end n frame) acts ++ step.Pulled (record { to = record { link = n; end = end }; frame = frame }) ∷ []))
+parcel_step b acts place link n side.Slave frame None at e h = slave_step (masters b acts).connections place link (journal b acts) _ n (move.Deliver frame) (record { part = λ k. refl }) h
+parcel_step b acts place link n side.Slave frame (Some conf) at e h = slave_step (masters b acts).connections place link (journal b acts) _ n (move.Deliver frame) (record { part = λ k. refl }) h
+parcel_step b acts place link n side.Master frame None at e h =
     let s : JournalStep = step.Pulled (record { to = record { link = n; end = side.Master }; frame = frame }) in
-    let call : Option Call = delivery_call (Some link) side.Master n frame in
-    ap (event_on n (move.Deliver frame)) (cycle_from b.links (journal b acts) (masters b acts).connections (masters b acts).app (option_and_then (λ call. cycle_in call (masters b acts)) call) h)
-    ∙ sym (master_from n b.links (journal b acts ++ offers_by b call acts) s (move.Deliver frame) (record { part = λ k. refl }))
-    ∙ ap (masters_from 1 b.links) (append_assoc (journal b acts) (offers_by b call acts) (s ∷ []))
-
-fresh_from : (k : ℕ) (links : List LinkConf) → map fresh (map (λ l. l.master) links) ≡ masters_from k links []
-fresh_from k [] = refl
-fresh_from k (link ∷ links) = ap (λ (cs : List Connection). fresh link.master ∷ cs) (fresh_from (suc k) links)
-
-quiet_from : (links : List LinkConf) (js : List JournalStep) (s : JournalStep) → ((j : ℕ) → own_part j s ≡ []) → masters_from 1 links (js ++ s ∷ []) ≡ masters_from 1 links js
-quiet_from links js s h = same_from 1 links (js ++ s ∷ []) js (λ j link. ap (deeds side.Master) (no_entry link j js s (h j)))
-
--- the masters are those by the journal
-pub masters_are : (b : Beginning) (acts : List Act) → (masters b acts).connections ≡ masters_from 1 b.links (journal b acts)
-masters_are b [] = fresh_from 1 b.links
-masters_are b (Start ∷ acts) = cycle_from b.links (journal b acts) (masters b acts).connections b.app (cycle_of b Start acts) (masters_are b acts)
-masters_are b (Happen (SaysEvent event.Tick) ∷ acts) =
-    let cs : List Connection = (masters b acts).connections in
-    line_from b.links (journal b acts) (step.Script event.Tick) (map (with_event move.Tick) cs) (masters b acts).app (cycle_of b (Happen (SaysEvent event.Tick)) acts) (ap (map (with_event move.Tick)) (masters_are b acts) ∙ sym (ticks_from 1 b.links (journal b acts)))
-    ∙ ap (λ (listed : List (ℕ × List ℕ)). masters_from 1 b.links (journal b acts ++ (step.Script event.Tick ∷ map offer_step listed))) (told_ticked 1 cs _)
-masters_are b (Happen (SaysEvent (event.Put n load)) ∷ acts) = masters_are b acts ∙ sym (slave_from b.links (journal b acts) _ n (move.Put load) (record { part = λ k. refl }))
-masters_are b (Happen (SaysEvent (event.Hold n failsafe)) ∷ acts) = masters_are b acts ∙ sym (slave_from b.links (journal b acts) _ n (move.Hold failsafe) (record { part = λ k. refl }))
-masters_are b (Happen (SaysEvent (event.Local n)) ∷ acts) = masters_are b acts ∙ sym (slave_from b.links (journal b acts) _ n move.Local (record { part = λ k. refl }))
-masters_are b (Happen (SaysEvent (event.Nonce n side.Slave id)) ∷ acts) = masters_are b acts ∙ sym (slave_from b.links (journal b acts) _ n (move.Nonce id) (record { part = λ k. refl }))
-masters_are b (Happen (SaysEvent (event.Nonce n side.Master id)) ∷ acts) =
-    ap (event_on n (move.Nonce id)) (masters_are b acts) ∙ sym (master_from n b.links (journal b acts) (step.Script (event.Nonce n side.Master id)) (move.Nonce id) (record { part = λ k. refl }))
-masters_are b (Happen (SaysEvent (event.Cut n cut)) ∷ acts) = masters_are b acts ∙ sym (quiet_from b.links (journal b acts) (step.Script (event.Cut n cut)) (λ j. refl))
-masters_are b (Happen (App app) ∷ acts) =
-    line_from b.links (journal b acts) step.App (masters b acts).connections app (cycle_of b (Happen (App app)) acts) (masters_are b acts ∙ sym (quiet_from b.links (journal b acts) step.App (λ j. refl)))
-masters_are b (PullFrom None ∷ acts) = masters_are b acts ∙ ap (masters_from 1 b.links) (sym (append-nil (journal b acts)))
-masters_are b (PullFrom (Some parcel) ∷ acts) = parcel_from b acts parcel.to.link parcel.to.end parcel.frame (link_at b.links parcel.to.link) refl (masters_are b acts)
+    by_entries (masters b acts).connections place link (journal b acts ++ s ∷ []) (pair link (suc place) (journal b acts)) h
+    (pair_other link (suc place) (journal b acts) s n side.Master (move.Deliver frame) (record { part = λ k. refl }) (λ same. absurd (cc (at, e, ap (link_at b.links) same))))
+parcel_step b acts place link n side.Master frame (Some conf) at e h =
+    let m : Meant = masters b acts in
+    let call : Option Call = delivery_call (Some conf) side.Master n frame in
+    let o : Option Answer = option_and_then (λ call. cycle_in call m) call in
+    let s : JournalStep = step.Pulled (record { to = record { link = n; end = side.Master }; frame = frame }) in
+    rw (← append_assoc (journal b acts) (offers_by b call acts) (s ∷ []))
+    (master_step (with_cycle o m).connections place link (journal b acts ++ offers_by b call acts) s n (move.Deliver frame) (record { part = λ k. refl }) (cycle_step o m place link (journal b acts) h))
 
 -- the connection of the master of many that has the number of a link
 pub mastered : (b : Beginning) (acts : List Act) (place : ℕ) (link : LinkConf) → slice_get b.links place ≡ Some link → slice_get (masters b acts).connections place ≡ Some (master_with link (pair link (suc place) (journal b acts)))
-mastered b acts place link h = ap (λ (cs : List Connection). slice_get cs place) (masters_are b acts) ∙ there_at b.links (journal b acts) place (Some link) h
+mastered b [] place link h = slice_get-map fresh (settings b) place ∙ ap (option_map fresh) (slice_get-map (λ l. l.master) b.links place ∙ ap (option_map (λ l. l.master)) h)
+mastered b (Start ∷ acts) place link h = let m : Meant = masters b acts in cycle_step (cycle_of b Start acts) (record m { app = b.app }) place link (journal b acts) (mastered b acts place link h)
+mastered b (Happen (SaysEvent event.Tick) ∷ acts) place link h =
+    let m : Meant = masters b acts in
+    line_more (cycle_of b (Happen (SaysEvent event.Tick)) acts) (all_tick m) place link (journal b acts) (step.Script event.Tick) (tick_step m.connections place link (journal b acts) (mastered b acts place link h))
+    ∙ ap (λ (listed : List (ℕ × List ℕ)). Some (master_with link (pair link (suc place) (journal b acts ++ (step.Script event.Tick ∷ map offer_step listed))))) (told_ticked 1 m.connections _)
+mastered b (Happen (SaysEvent (event.Put n load)) ∷ acts) place link h = slave_step (masters b acts).connections place link (journal b acts) _ n (move.Put load) (record { part = λ k. refl }) (mastered b acts place link h)
+mastered b (Happen (SaysEvent (event.Hold n failsafe)) ∷ acts) place link h = slave_step (masters b acts).connections place link (journal b acts) _ n (move.Hold failsafe) (record { part = λ k. refl }) (mastered b acts place link h)
+mastered b (Happen (SaysEvent (event.Local n)) ∷ acts) place link h = slave_step (masters b acts).connections place link (journal b acts) _ n move.Local (record { part = λ k. refl }) (mastered b acts place link h)
+mastered b (Happen (SaysEvent (event.Nonce n side.Slave id)) ∷ acts) place link h = slave_step (masters b acts).connections place link (journal b acts) _ n (move.Nonce id) (record { part = λ k. refl }) (mastered b acts place link h)
+mastered b (Happen (SaysEvent (event.Nonce n side.Master id)) ∷ acts) place link h = master_step (masters b acts).connections place link (journal b acts) _ n (move.Nonce id) (record { part = λ k. refl }) (mastered b acts place link h)
+mastered b (Happen (SaysEvent (event.Cut n cut)) ∷ acts) place link h = quiet_step (masters b acts).connections place link (journal b acts) _ refl (mastered b acts place link h)
+mastered b (Happen (App app) ∷ acts) place link h =
+    let m : Meant = masters b acts in
+    line_more (cycle_of b (Happen (App app)) acts) (record m { app = app }) place link (journal b acts) step.App (quiet_step m.connections place link (journal b acts) step.App refl (mastered b acts place link h))
+mastered b (PullFrom None ∷ acts) place link h = cycle_step None (masters b acts) place link (journal b acts) (mastered b acts place link h)
+mastered b (PullFrom (Some parcel) ∷ acts) place link h = parcel_step b acts place link parcel.to.link parcel.to.end parcel.frame (link_at b.links parcel.to.link) h refl (mastered b acts place link h)
 
 agree_if : (b : Beginning) (acts : List Act) (k : ℕ) (o : Option LinkConf) → link_at b.links k ≡ o
     → IfSome o (λ link. IsSomeAnd (connection k (masters b acts)) (λ c. deeds side.Master (pair link k (journal b acts)) ≡ c.deeds))

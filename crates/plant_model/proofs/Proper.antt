@@ -1,9 +1,10 @@
 -- What a journal means for a connection is proper events, so that the law of the pair holds.
 use Rattle.plant_model.proofs.Common.{Fair, HasSameLengths, IfSome, IsProperEvent, IsSomeAnd, IsTrue, JournalStep, Lengths, LinkConf, None, Option, PairsAreFair, SameLengths, Some, StepFits, before_other, fair_before, link_at, option_map, own_events, own_part, pair}
-use Rattle.std.proofs.Common.{◌≡◌, ℕ, zero, suc, ◌≤◌, ◌==◌, Bool, List, [], ◌∷◌, map, All, refl, sym, ap, subst, arith, rules}
+use Rattle.std.proofs.Common.{◌≡◌, ℕ, zero, suc, ◌≤◌, ◌==◌, Bool, List, [], ◌∷◌, map, All, refl, sym, ap, arith, rules}
 use Rattle.std.specs.Prelude.{if◌then◌else◌}
-use Rattle.std.proofs.lemmas.List.Elements.{All-append, All-cons, All-head, All-tail}
+use Rattle.std.proofs.lemmas.List.Elements.{All-append, All-cons, All-head, All-nil, All-tail}
 use Rattle.std.proofs.lemmas.Option.{slice_get-map}
+use Rattle.multi_master.proofs.Places.{all_at}
 use Rattle.param_load.specs.Profile.{allows_id}
 use Rattle.param_load.specs.declared.profile.Profile.{Profile}
 use Rattle.schedule_file.specs.declared.event.Event.{Event}
@@ -12,11 +13,8 @@ use Rattle.plant_model.specs.Fits.{lengths_in, lengths_at}
 abbrev Proper : LinkConf → Event → Type 0
 Proper link one = IsProperEvent link.master link.slave one
 
-none : (link : LinkConf) → All (Proper link) []
-none link = λ k d lt. absurd (omega arith)
-
 one : (link : LinkConf) (e : Event) → Proper link e → All (Proper link) (e ∷ [])
-one link e h = All-cons (Proper link) e [] h (none link)
+one link e h = All-cons (Proper link) e [] h (All-nil (Proper link))
 
 -- an event that is proper where the numbers are the same
 same : (link : LinkConf) (n k : ℕ) (e : Event) (is : Bool) → (n == k) ≡ is → (n ≡ k → Proper link e) → All (Proper link) (if is then e ∷ [] else [])
@@ -39,22 +37,18 @@ step_proper : (links : List LinkConf) (k : ℕ) (link : LinkConf) (s : JournalSt
 step_proper links k link s h l = search (rules, of_link)
 
 events_proper : (links : List LinkConf) (k : ℕ) (link : LinkConf) (journal : List JournalStep) → link_at links k ≡ Some link → All (StepFits links) journal → All (Proper link) (own_events k journal)
-events_proper links k link [] found fits = none link
+events_proper links k link [] found fits = All-nil (Proper link)
 events_proper links k link (s ∷ journal) found fits =
     All-append (Proper link) (own_part k s) (own_events k journal)
     (step_proper links k link s found (All-head (StepFits links) s journal fits))
     (events_proper links k link journal found (All-tail (StepFits links) s journal fits))
 
-has_same : (link : LinkConf) → HasSameLengths link → SameLengths link.master link.slave
+pub has_same : (link : LinkConf) → HasSameLengths link → SameLengths link.master link.slave
 has_same link e = record { master = ap (λ (z : Lengths). z.master) (sym e); slave = ap (λ (z : Lengths). z.slave) (sym e) }
 
 lengths_at_link : (links : List LinkConf) (k : ℕ) (link : LinkConf) → All HasSameLengths links → link_at links k ≡ Some link → SameLengths link.master link.slave
 lengths_at_link links zero link same found = cc
-lengths_at_link [] (suc place) link same found = cc
-lengths_at_link (first ∷ links) (suc zero) link same found =
-    let is : first ≡ link = cc in
-    has_same link (subst HasSameLengths is (All-head HasSameLengths first links same))
-lengths_at_link (first ∷ links) (suc (suc place)) link same found = lengths_at_link links (suc place) link (All-tail HasSameLengths first links same) found
+lengths_at_link links (suc place) link same found = has_same link (all_at HasSameLengths links place link same found)
 
 fair_if : (links : List LinkConf) (k : ℕ) (journal : List JournalStep) (at_k : Option LinkConf) → link_at links k ≡ at_k → All HasSameLengths links → All (StepFits links) journal → IfSome at_k (λ link. Fair link.master.lengths (before_other (pair link k journal)))
 fair_if links k journal None found same fits = tt

@@ -1,14 +1,15 @@
 -- Why a drive is off in time. The master of the e-stop has its bit as 0 from some tick on; each cycle from that tick's
 -- on answers the drive's bit as 0, so that its master offers it so; and its slave has it as 0 some ticks later. Acts
 -- and entries are listed newest first, steps oldest first.
-use Rattle.plant_model.proofs.Common.{Act, Answer, Beginning, BoundSpec, End, Entry, HasLinks, IfSome, IsTrue, IsWorld, JournalStep, LinkConf, NoOther, Reacts, SameLengths, StaysOff, WasOffered, append-nil, bit_at, bit_of, cases_lt, cond, cycle_of, deeds, inputs_after, is_off, is_on, is_tick, journal, link_at, of_end, offers, offers_after, older_clean, older_world, out, outputs_due, pair, peer, received_len, setup_of, steps_of, sum_by-append, ticks, ticks_of}
+use Rattle.plant_model.proofs.Common.{Act, Answer, Beginning, BoundSpec, End, Entry, HasLinks, IfSome, IsTrue, IsWorld, JournalStep, LinkConf, NoOther, Reacts, SameLengths, StaysOff, WasOffered, append-nil, bit_at, bit_of, cases_lt, cond, cycle_of, deeds, inputs_after, is_off, is_on, is_tick, journal, link_at, of_end, offers, offers_after, older_clean, older_world, out, outputs_due, pair, peer, pulled_in, received_len, setup_of, steps_of, sum_by-append, ticks, ticks_of}
 use Rattle.std.proofs.Common.{◌≡◌, ◌≤◌, ◌<◌, ◌⊎◌, inl, inr, ℕ, zero, suc, ◌+◌, ◌-◌, ◌*◌, Bool, false, List, [], ◌∷◌, ◌++◌, Option, Some, None, refl, sym, ap, ap₂, subst, ◌∙◌, append_assoc, arith, rules}
 use Rattle.fsoe_base.specs.declared.command.End.TheVariants as side
 use Rattle.exchange_model.proofs.Offering.Offered.{was_offered}
 use Rattle.plant_model.proofs.FairPlant.{AreWorlds}
+use Rattle.plant_model.proofs.Growing.{pair_later}
 use Rattle.plant_model.proofs.KeptOff.{out_due, input_is, offered_zero, act_keeps}
-use Rattle.plant_model.proofs.Sends.{OffersZero, delivered_zero, ticks_since}
-use Rattle.plant_model.proofs.Since.{Grown, GoesBack, HoldsAfter, Silent, grown_on, grown_silent, grown_act, grown_acts, grown_any, grown_still, part_silent, is_tick_act, act_ticks, act_ticks_most}
+use Rattle.plant_model.proofs.Sends.{OffersZero, ticks_since}
+use Rattle.plant_model.proofs.Since.{Grown, grown_on, grown_silent, grown_act, grown_still, part_silent, is_tick_act, act_ticks, act_ticks_most}
 
 -- a pair that is a world without another entry
 pub record Clean (link : LinkConf) (k : ℕ) (steps : List JournalStep) : Type 0 where
@@ -18,20 +19,20 @@ pub record Clean (link : LinkConf) (k : ℕ) (steps : List JournalStep) : Type 0
 
 world_before : (link : LinkConf) (k : ℕ) (before more : List JournalStep) → IsWorld link.master link.slave (pair link k (before ++ more)) → IsWorld link.master link.slave (pair link k before)
 world_before link k before more h =
-    let g = grown_any side.Master link k more before in
-    older_world link.master link.slave g.new (pair link k before) (subst (IsWorld link.master link.slave) g.is h)
+    let g = pair_later link k before more in
+    older_world link.master link.slave g.0 (pair link k before) (subst (IsWorld link.master link.slave) g.1 h)
 
 pub clean_before : (link : LinkConf) (k : ℕ) (before more : List JournalStep) → Clean link k (before ++ more) → Clean link k before
 clean_before link k before more c =
-    let g = grown_any side.Master link k more before in
-    assumption (c.lengths, world_before link k before more c.world, older_clean g.new (pair link k before) (subst (λ (w : List Entry). NoOther w) g.is c.none))
+    let g = pair_later link k before more in
+    assumption (c.lengths, world_before link k before more c.world, older_clean g.0 (pair link k before) (subst (λ (w : List Entry). NoOther w) g.1 c.none))
 
 -- an end whose peer offered a bit as 0 for that long has it as 0
 off_by : (link : LinkConf) (which : End) (bit n : ℕ) (w : List Entry) (on : Bool) → (IsTrue on → WasOffered which bit (2 * link.master.watchdog - 2) w) → (WasOffered which bit (2 * link.master.watchdog - 2) w → n ≤ 2 * link.master.watchdog - 2)
     → 2 * link.master.watchdog ≤ n + 1 → on ≡ false
 off_by link which bit n w on h k l = grind arith
 
-off_since : (which : End) (bit : ℕ) (link : LinkConf) (k : ℕ) (before after : List JournalStep) → Grown (OffersZero (peer which) bit) (peer which) link k before after → Clean link k after
+off_since : (which : End) (bit : ℕ) (link : LinkConf) (k : ℕ) (before after : List JournalStep) → Grown (peer which) bit link k before after → Clean link k after
     → ticks before + 2 * link.master.watchdog ≤ ticks after + 1 → bit_of (out (setup_of link.master link.slave which) (deeds which (pair link k after))) bit ≡ false
 off_since which bit link k before after g c many =
     let w : List Entry = pair link k after in
@@ -46,20 +47,20 @@ zero_offered : (b : Beginning) (bound : BoundSpec) (estop : LinkConf) (done : Li
     → OffersZero side.Slave bound.estop.bit (pair estop bound.estop.link (journal b done))
 zero_offered b bound estop done h k = grind arith
 
-quiet_offers : (b : Beginning) (bound : BoundSpec) (estop : LinkConf) (later earlier : List Act) → link_at b.links bound.estop.link ≡ Some estop → StaysOff b bound later earlier
-    → HoldsAfter (λ done. OffersZero side.Slave bound.estop.bit (pair estop bound.estop.link (journal b done))) later earlier
-quiet_offers b bound estop [] earlier e q = tt
-quiet_offers b bound estop (act ∷ later) earlier e q = (zero_offered b bound estop (act ∷ later ++ earlier) e q.0, quiet_offers b bound estop later earlier e q.2)
+grown_off : (b : Beginning) (bound : BoundSpec) (estop : LinkConf) (later earlier : List Act) → link_at b.links bound.estop.link ≡ Some estop → StaysOff b bound later earlier
+    → Grown side.Slave bound.estop.bit estop bound.estop.link (journal b earlier) (journal b (later ++ earlier))
+grown_off b bound estop [] earlier e q = grown_still side.Slave bound.estop.bit estop bound.estop.link (journal b earlier)
+grown_off b bound estop (act ∷ later) earlier e q =
+    grown_on side.Slave bound.estop.bit estop bound.estop.link (journal b earlier) (journal b (later ++ earlier)) _ (grown_off b bound estop later earlier e q.2)
+    (grown_act side.Slave bound.estop.bit estop bound.estop.link b act (later ++ earlier) (zero_offered b bound estop (act ∷ later ++ earlier) e q.0))
 
 -- so the application reads it as 0, some ticks later
 input_off : (b : Beginning) (bound : BoundSpec) (estop : LinkConf) (later earlier : List Act) → link_at b.links bound.estop.link ≡ Some estop → StaysOff b bound later earlier
     → Clean estop bound.estop.link (journal b (later ++ earlier)) → ticks (journal b earlier) + 2 * estop.master.watchdog ≤ ticks (journal b (later ++ earlier)) + 1
     → bit_at (inputs_after b (later ++ earlier)) bound.estop ≡ false
 input_off b bound estop later earlier e q c many =
-    let P : List Entry → Type 0 = OffersZero side.Slave bound.estop.bit in
-    let g = grown_acts P side.Slave estop bound.estop.link b later earlier (λ end bytes w. delivered_zero side.Slave bound.estop.bit end bytes estop w) (quiet_offers b bound estop later earlier e q) in
     input_is b bound.estop (later ++ earlier) estop e
-    ∙ off_since side.Master bound.estop.bit estop bound.estop.link (journal b earlier) (journal b (later ++ earlier)) g c many
+    ∙ off_since side.Master bound.estop.bit estop bound.estop.link (journal b earlier) (journal b (later ++ earlier)) (grown_off b bound estop later earlier e q) c many
 
 -- a tick runs a cycle
 no_cycle_no_tick : (b : Beginning) (act : Act) (done : List Act) → cycle_of b act done ≡ None → is_tick_act act ≡ false
@@ -86,45 +87,40 @@ offer_off b bound estop (act ∷ later) earlier e q c many =
 -- what came since before the tick in which that began
 record Kept (b : Beginning) (bound : BoundSpec) (estop drive : LinkConf) (later earlier : List Act) : Type 0 where
   before : List JournalStep
-  grown : Grown (OffersZero side.Master bound.drive.bit) side.Master drive bound.drive.link before (journal b (later ++ earlier))
+  grown : Grown side.Master bound.drive.bit drive bound.drive.link before (journal b (later ++ earlier))
   count : ticks before + 2 ≡ ticks (journal b earlier) + 2 * estop.master.watchdog
-
-zero_back : (bound : BoundSpec) (drive : LinkConf) → GoesBack (OffersZero side.Master bound.drive.bit) drive
-zero_back bound drive = λ end bytes w. delivered_zero side.Master bound.drive.bit end bytes drive w
 
 kept_off : (b : Beginning) (bound : BoundSpec) (estop drive : LinkConf) (later earlier : List Act) → HasLinks b bound estop drive → StaysOff b bound later earlier
     → Clean estop bound.estop.link (journal b (later ++ earlier)) → ticks (journal b earlier) + 2 * estop.master.watchdog ≤ ticks (journal b (later ++ earlier)) + 2 → Kept b bound estop drive later earlier
 kept_off b bound estop drive [] earlier links q c many =
     let some : 0 < estop.master.watchdog = estop.master.some_watchdog in
-    record { before = journal b earlier; grown = grown_still (OffersZero side.Master bound.drive.bit) side.Master drive bound.drive.link (journal b earlier); count = omega arith }
+    record { before = journal b earlier; grown = grown_still side.Master bound.drive.bit drive bound.drive.link (journal b earlier); count = omega arith }
 kept_off b bound estop drive (act ∷ later) earlier links q c many =
     let done : List Act = later ++ earlier in
-    let P : List Entry → Type 0 = OffersZero side.Master bound.drive.bit in
     let k : ℕ = bound.drive.link in
     elim (cases_lt (ticks (journal b (act ∷ done)) + 1) (ticks (journal b earlier) + 2 * estop.master.watchdog)) [
-      | inl less ↦ record { before = journal b (act ∷ done); grown = grown_still P side.Master drive k (journal b (act ∷ done)); count = omega arith }
+      | inl less ↦ record { before = journal b (act ∷ done); grown = grown_still side.Master bound.drive.bit drive k (journal b (act ∷ done)); count = omega arith }
       | inr more ↦
           let most = act_ticks_most b act done in
           let rest = kept_off b bound estop drive later earlier links q.2 (clean_before estop bound.estop.link (journal b done) (steps_of act (offers b act done)) c) (omega arith) in
           let offered = offered_zero b bound.drive (act ∷ done) drive links.drive_is (offer_off b bound estop (act ∷ later) earlier links.estop_is q c more) in
-          let g = grown_act P side.Master drive k b act done (zero_back bound drive) offered in
-          record { before = rest.before; grown = grown_on P side.Master drive k rest.before (journal b done) (journal b (act ∷ done)) rest.grown g; count = rest.count }
+          let g = grown_act side.Master bound.drive.bit drive k b act done offered in
+          record { before = rest.before; grown = grown_on side.Master bound.drive.bit drive k rest.before (journal b done) (journal b (act ∷ done)) rest.grown g; count = rest.count }
     ]
 
 -- so its slave has it as 0 in time, also after some steps more of an act, in which nothing is pulled
-drive_off : (b : Beginning) (bound : BoundSpec) (estop drive : LinkConf) (later earlier : List Act) (part : List JournalStep) → HasLinks b bound estop drive → StaysOff b bound later earlier → Silent part
+drive_off : (b : Beginning) (bound : BoundSpec) (estop drive : LinkConf) (later earlier : List Act) (part : List JournalStep) → HasLinks b bound estop drive → StaysOff b bound later earlier → pulled_in part ≡ []
     → Clean estop bound.estop.link (journal b (later ++ earlier)) → Clean drive bound.drive.link (journal b (later ++ earlier) ++ part)
     → ticks (journal b earlier) + (2 * estop.master.watchdog + 2 * drive.master.watchdog) ≤ ticks (journal b (later ++ earlier) ++ part) + 3
     → ticks (journal b (later ++ earlier) ++ part) ≤ ticks (journal b (later ++ earlier)) + 1 → is_on bound drive (journal b (later ++ earlier) ++ part) ≡ false
 drive_off b bound estop drive later earlier part links q silent ce cd many few =
-    let P : List Entry → Type 0 = OffersZero side.Master bound.drive.bit in
     let js : List JournalStep = journal b (later ++ earlier) in
     let some : 0 < drive.master.watchdog = drive.master.some_watchdog in
     let kept = kept_off b bound estop drive later earlier links q ce (omega arith) in
     let count = kept.count in
-    let more = grown_silent P side.Master drive bound.drive.link part js silent in
+    let more = grown_silent side.Master bound.drive.bit drive bound.drive.link part js silent in
     off_since side.Slave bound.drive.bit drive bound.drive.link kept.before (js ++ part)
-    (grown_on P side.Master drive bound.drive.link kept.before js (js ++ part) kept.grown more) cd (omega arith)
+    (grown_on side.Master bound.drive.bit drive bound.drive.link kept.before js (js ++ part) kept.grown more) cd (omega arith)
 
 -- where the first steps of a journal end: within its last act, or before it
 record Within (xs ys part rest : List JournalStep) : Type 0 where
@@ -161,7 +157,7 @@ within_off b bound estop drive act later earlier us [] links q e ce cd many =
     let same : ticks (journal b (later ++ earlier) ++ us) ≡ ticks (all ++ []) = ap ticks back in
     let one : ticks (all ++ []) ≡ ticks all = ap ticks (append-nil all) in
     subst (λ (z : List JournalStep). is_on bound drive z ≡ false) (sym back)
-    (drive_off b bound estop drive (act ∷ later) earlier [] links q tt
+    (drive_off b bound estop drive (act ∷ later) earlier [] links q refl
     (subst (λ (z : List JournalStep). Clean estop bound.estop.link z) (sym here) ce)
     (subst (λ (z : List JournalStep). Clean drive bound.drive.link z) back cd) (omega arith) (omega arith))
 within_off b bound estop drive act later earlier us (r ∷ rest) links q e ce cd many =

@@ -1,52 +1,30 @@
 -- Where the moments of a plant are still for a bound, it is quiet: no act of a tick but the line of the script changes
 -- what a slave offers, nor which application runs, and each cycle keeps off what the application guards. Acts are listed
 -- newest first, steps oldest first.
-use Rattle.plant_model.proofs.Common.{Act, AllSound, App, Beginning, Bit, BoundSpec, Deliver, End, Entry, Event, Happen, JournalStep, LinkConf, Move, Offered, Parcel, PullFrom, Said, StaysOff, Unset, append-nil, changed_by, cycle_of, is_still, is_tick, journal, line_step, link_at, masters, next_of, next_offered, of_end, offer_step, offers, offers_bit, option_map_or, pair}
-use Rattle.std.proofs.Common.{◌≡◌, ℕ, ◌==◌, Bool, true, ◌&&◌, not, List, [], ◌∷◌, ◌++◌, map, Option, Some, None, if◌then◌else◌, refl, sym, ap, ap₂, ◌∙◌, append_assoc, arith, rules}
+use Rattle.plant_model.proofs.Common.{Act, AllSound, App, Beginning, Bit, BoundSpec, End, Entry, Event, Happen, JournalStep, LinkConf, Offered, Parcel, PullFrom, Said, StaysOff, Unset, changed_by, cycle_of, is_still, is_tick, journal, line_step, link_at, masters, next_of, next_offered, of_end, offers, offers_bit, option_map_or, pair}
+use Rattle.std.proofs.Common.{◌≡◌, ℕ, ◌==◌, Bool, true, ◌&&◌, not, List, [], ◌∷◌, ◌++◌, Option, Some, None, if◌then◌else◌, refl, sym, ap, ap₂, ◌∙◌, append_assoc, arith, rules}
+use Rattle.std.proofs.lemmas.Bool.{and_parts}
 use Rattle.fsoe_base.specs.declared.command.End.TheVariants as side
 use Rattle.param_load.specs.declared.entry.Move.TheVariants as move
 use Rattle.plant_model.specs.declared.event.PlantEvent.TheVariants as event
 use Rattle.plant_model.specs.declared.journal.JournalStep.TheVariants as step
-use Rattle.plant_model.proofs.Growing.{IsOne, pair_more, pair_one}
-
-both_second : (x y : Bool) → (x && y) ≡ true → y ≡ true
-both_second x y h = grind arith
+use Rattle.plant_model.proofs.Growing.{offers_kept, pair_more, pair_one}
 
 -- an act after which a bound is still goes on with what was quiet
 pub quiet_on : (b : Beginning) (bound : BoundSpec) (act : Act) (later earlier : List Act) → AllSound b (act ∷ later ++ earlier) → is_still b bound (act ∷ later ++ earlier) ≡ true
     → StaysOff b bound later earlier → StaysOff b bound (act ∷ later) earlier
-quiet_on b bound act later earlier h k l = search (rules, both_second)
-
--- what a slave does at such an event leaves what it offers; so does what a master does
-abbrev Keeps : End → Move → Type 0
-Keeps side.Master what = Unit {0}
-Keeps side.Slave move.Tick = Unit {0}
-Keeps side.Slave (move.Deliver bytes) = Unit {0}
-Keeps side.Slave _ = ⊥
-
-came_keeps : (end : End) (bytes : List ℕ) → Keeps end (move.Deliver bytes)
-came_keeps end bytes = grind arith
-
-keeps_if : (link : LinkConf) (end : End) (what : Move) (w : List Entry) (mine : Bool) → Keeps end what → next_offered (of_end side.Slave (if mine then next_of end what link w ∷ w else w)) ≡ next_offered (of_end side.Slave w)
-keeps_if link end what w mine h = grind arith
+quiet_on b bound act later earlier h k l = search (rules, and_parts)
 
 -- what the slave of connection k offers by a journal
 abbrev offered_by : LinkConf → ℕ → List JournalStep → Offered
 offered_by link k js = next_offered (of_end side.Slave (pair link k js))
 
-one_keeps : (link : LinkConf) (k : ℕ) (js : List JournalStep) (s : JournalStep) (n : ℕ) (end : End) (what : Move) → IsOne s n end what → Keeps end what → offered_by link k (js ++ s ∷ []) ≡ offered_by link k js
-one_keeps link k js s n end what one h =
-    ap (λ (w : List Entry). next_offered (of_end side.Slave w)) (pair_one link k js s n end what one) ∙ keeps_if link end what (pair link k js) (n == k) h
-
-listed_keep : (link : LinkConf) (k : ℕ) (listed : List (ℕ × List ℕ)) (js : List JournalStep) → offered_by link k (js ++ map offer_step listed) ≡ offered_by link k js
-listed_keep link k [] js = ap (offered_by link k) (append-nil js)
-listed_keep link k (x ∷ listed) js =
-    ap (offered_by link k) (sym (append_assoc js (offer_step x ∷ []) (map offer_step listed)))
-    ∙ listed_keep link k listed (js ++ offer_step x ∷ [])
-    ∙ one_keeps link k js (offer_step x) x.0 side.Master (move.Put x.1) (record { part = λ j. refl }) tt
+-- a frame that comes leaves it, and so do offers
+came_keeps : (link : LinkConf) (end : End) (bytes : List ℕ) (w : List Entry) (mine : Bool) → next_offered (of_end side.Slave (if mine then next_of end (move.Deliver bytes) link w ∷ w else w)) ≡ next_offered (of_end side.Slave w)
+came_keeps link end bytes w mine = grind arith
 
 offers_keep : (link : LinkConf) (k : ℕ) (b : Beginning) (act : Act) (done : List Act) (js : List JournalStep) → offered_by link k (js ++ offers b act done) ≡ offered_by link k js
-offers_keep link k b act done js = listed_keep link k (changed_by (cycle_of b act done) (masters b done).connections) js
+offers_keep link k b act done js = offers_kept (λ w. next_offered (of_end side.Slave w)) link k (changed_by (cycle_of b act done) (masters b done).connections) js (λ load w. refl)
 
 -- a tick, and a pull, of a tick
 pub data IsOfTick : Act → Type 0 where
@@ -68,7 +46,8 @@ act_offers link k b _ done (Pulls (Some parcel)) =
     let s : JournalStep = step.Pulled parcel in
     let os : List JournalStep = offers b act done in
     ap (offered_by link k) (sym (append_assoc js os (s ∷ [])))
-    ∙ one_keeps link k (js ++ os) s parcel.to.link parcel.to.end (move.Deliver parcel.frame) (record { part = λ j. refl }) (came_keeps parcel.to.end parcel.frame)
+    ∙ ap (λ (w : List Entry). next_offered (of_end side.Slave w)) (pair_one link k (js ++ os) s parcel.to.link parcel.to.end (move.Deliver parcel.frame) (record { part = λ j. refl }))
+    ∙ came_keeps link parcel.to.end parcel.frame (pair link k (js ++ os)) (parcel.to.link == k)
     ∙ offers_keep link k b act done js
 
 off_if : (o : Option LinkConf) (k bit : ℕ) (b : Beginning) (act : Act) (done : List Act) → IsOfTick act

@@ -3,7 +3,8 @@ use Rattle.black_channel.specs.Holds.{Holds, pulled, pushed, begun}
 use Rattle.black_channel.specs.Told.{Told}
 use Rattle.black_channel.specs.declared.channel.Parcel.{Parcel}
 use Rattle.black_channel.specs.declared.channel.Place.{Place}
-use Rattle.std.specs.Prelude.{option_to_list, ◌+◌, suc, [], Some, List, ◌^◌, IfSome, ◌++◌, Option, ◌-◌, ◌≡◌, ◌∷◌, Bool, if◌then◌else◌, ◌<◌, option_map, ℕ, ◌≤◌, None}
+use Rattle.std.specs.List.{count_by, flat_map}
+use Rattle.std.specs.Prelude.{is_none, option_to_list, ◌+◌, suc, [], Some, List, ◌^◌, IfSome, ◌++◌, Option, ◌-◌, ◌≡◌, ◌∷◌, Bool, if◌then◌else◌, ◌<◌, option_map, ℕ, ◌≤◌}
 use Rattle.plant_conf.specs.declared.conf.LinkConf.{LinkConf}
 use Rattle.fsoe_base.specs.declared.command.End.{End}
 use Rattle.end_model.specs.Deed.{is_empty}
@@ -28,22 +29,22 @@ pushes [] = []
 pushes (Push parcel ∷ uses) = parcel ∷ pushes uses
 pushes (_ ∷ uses) = pushes uses
 
+-- what a use gives, where it is a pull
+abbrev pub pull_of : Use → List (Option Parcel)
+pull_of (Pull gift) = gift ∷ []
+pull_of _ = []
+
+-- what the pulls gave, a parcel or nothing
+abbrev pub pulls : List Use → List (Option Parcel)
+pulls uses = flat_map pull_of uses
+
 -- the parcels that were given
 abbrev pub gifts : List Use → List Parcel
-gifts [] = []
-gifts (Pull gift ∷ uses) = option_to_list gift ++ gifts uses
-gifts (_ ∷ uses) = gifts uses
-
--- one more where nothing was given
-abbrev pub counted : Option Parcel → ℕ → ℕ
-counted None n = suc n
-counted (Some parcel) n = n
+gifts uses = flat_map option_to_list (pulls uses)
 
 -- the number of pulls that gave nothing
 abbrev pub empty_pulls : List Use → ℕ
-empty_pulls [] = 0
-empty_pulls (Pull gift ∷ uses) = counted gift (empty_pulls uses)
-empty_pulls (_ ∷ uses) = empty_pulls uses
+empty_pulls uses = count_by is_none (pulls uses)
 
 -- what is held after these uses, by the rules of its form
 abbrev pub held_after : List Use → Holds → Holds

@@ -7,7 +7,9 @@ use Rattle.plant_model.specs.Acts.{Beginning, cycle_of, App, Happen, masters, St
 use Rattle.plant_model.specs.Pair.{pair, link_at, is_tick_event, pulls_after}
 use Rattle.plant_model.specs.declared.journal.JournalStep.TheVariants as step
 use Rattle.plant_model.specs.declared.journal.JournalStep.{JournalStep}
-use Rattle.std.specs.Prelude.{suc, [], IsSomeAnd, true, Some, false, List, IfSome, Option, ◌-◌, ◌≡◌, Bool, ◌∷◌, is_some, ◌<◌, ℕ, None, zero}
+use Rattle.plant_model.specs.PlantReport.{is_line}
+use Rattle.std.specs.List.{flat_map}
+use Rattle.std.specs.Prelude.{filter, suc, [], IsSomeAnd, true, Some, false, List, IfSome, Option, ◌-◌, ◌≡◌, Bool, ◌∷◌, is_some, ◌<◌, ℕ, None, zero}
 use Rattle.black_channel.specs.declared.channel.Parcel.{Parcel}
 use Rattle.plant_conf.specs.declared.conf.LinkConf.{LinkConf}
 use Rattle.fsoe_base.specs.declared.command.End.{End}
@@ -52,11 +54,14 @@ PullsFit room (step.App ∷ steps) = PullsFit 0 steps
 PullsFit room (step.Offer link load ∷ steps) = PullsFit room steps
 PullsFit room (step.Pulled parcel ∷ steps) = (0 < room) × PullsFit (room - 1) steps
 
+-- the parcel of a step, where one was pulled
+abbrev pub parcel_of : JournalStep → List Parcel
+parcel_of (step.Pulled parcel) = parcel ∷ []
+parcel_of _ = []
+
 -- the parcels that were pulled
 abbrev pub pulled_in : List JournalStep → List Parcel
-pulled_in [] = []
-pulled_in (step.Pulled parcel ∷ steps) = parcel ∷ pulled_in steps
-pulled_in (_ ∷ steps) = pulled_in steps
+pulled_in journal = flat_map parcel_of journal
 
 -- one more where so many parcels, and not none, may still come
 abbrev pub one_if_left : ℕ → ℕ → ℕ
@@ -74,7 +79,4 @@ short_ticks room (step.Pulled parcel ∷ steps) = short_ticks (room - 1) steps
 
 -- the steps of a journal that are lines of the script
 abbrev pub line_steps : List JournalStep → List JournalStep
-line_steps [] = []
-line_steps (step.Script event ∷ steps) = step.Script event ∷ line_steps steps
-line_steps (step.App ∷ steps) = step.App ∷ line_steps steps
-line_steps (_ ∷ steps) = line_steps steps
+line_steps journal = filter is_line journal

@@ -1,12 +1,9 @@
 -- Acts of the worked plant: its journal, and what happened to the channel. Acts are listed newest first, steps and uses
 -- oldest first.
 use Rattle.std.specs.Prelude.{◌≡◌, ℕ, true, false, List, [], ◌∷◌, codes, map, reverse, take, Some, None}
-use Rattle.hex.specs.Hex.{decode_of}
-use Rattle.fsoe_base.specs.declared.command.End.{End}
 use Rattle.fsoe_base.specs.declared.command.End.TheVariants as side
 use Rattle.black_channel.specs.Holds.{Ring}
 use Rattle.black_channel.specs.declared.channel.Parcel.{Parcel}
-use Rattle.end_model.specs.WorkedRuns.{if_bytes}
 use Rattle.multi_master.specs.Calls.{AppView}
 use Rattle.plant_model.specs.declared.event.PlantEvent.TheVariants as event
 use Rattle.plant_model.specs.declared.journal.JournalStep.{JournalStep}
@@ -15,7 +12,7 @@ use Rattle.plant_model.specs.Acts.{Beginning, Event, Act, Start, Happen, PullFro
 use Rattle.plant_model.specs.Past.{IsPast}
 use Rattle.plant_model.specs.Uses.{Use, Begin, Push, Pull}
 use Rattle.plant_model.specs.Gifts.{GivesHeld}
-use Rattle.plant_model.specs.WorkedPlant.{both_links, tick, offer}
+use Rattle.plant_model.specs.WorkedPlant.{both_links, offer, parcel_for, tick}
 
 -- an application that answers 0100 to the second connection at each cycle, and zeros to the first
 abbrev pub driving : AppView
@@ -29,11 +26,7 @@ driving = record {
 abbrev pub driving_plant : Beginning
 driving_plant = record { links = both_links; app = driving; seed = 1 }
 
--- a parcel for an end of a connection, in hexadecimal
-abbrev pub parcel_for : End → ℕ → List ℕ → Parcel
-parcel_for end link text = record { to = record { link = link; end = end }; frame = if_bytes (decode_of text) }
-
--- for a slave, and for a master
+-- a parcel for a slave, and for a master
 abbrev pub for_slave : ℕ → List ℕ → Parcel
 for_slave = parcel_for side.Slave
 

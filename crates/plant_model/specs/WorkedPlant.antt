@@ -5,6 +5,7 @@ use Rattle.std.specs.Prelude.{◌≡◌, ℕ, List, [], ◌∷◌, ◌++◌, cod
 use Rattle.std.proofs.lemmas.Bool.{ltb-true}
 use Rattle.std.specs.Prelude.{refl}
 use Rattle.hex.specs.Hex.{decode_of}
+use Rattle.black_channel.specs.declared.channel.Parcel.{Parcel}
 use Rattle.fsoe_base.specs.declared.command.End.{End}
 use Rattle.fsoe_base.specs.declared.command.End.TheVariants as side
 use Rattle.fsoe_io.specs.declared.status.Status.TheVariants as status
@@ -52,17 +53,16 @@ cut link = step.Script (event.Cut link true)
 abbrev pub offer : ℕ → List ℕ → JournalStep
 offer link text = step.Offer link (if_bytes (decode_of text))
 
--- a frame is pulled for an end of a connection
-abbrev pub pulled_for : End → ℕ → List ℕ → JournalStep
-pulled_for end link text = step.Pulled (record { to = record { link = link; end = end }; frame = if_bytes (decode_of text) })
+-- a parcel for an end of a connection, in hexadecimal
+abbrev pub parcel_for : End → ℕ → List ℕ → Parcel
+parcel_for end link text = record { to = record { link = link; end = end }; frame = if_bytes (decode_of text) }
 
--- for its master
+-- one for its master is pulled, or one for its slave
 abbrev pub to_master : ℕ → List ℕ → JournalStep
-to_master = pulled_for side.Master
+to_master link text = step.Pulled (parcel_for side.Master link text)
 
--- for its slave
 abbrev pub to_slave : ℕ → List ℕ → JournalStep
-to_slave = pulled_for side.Slave
+to_slave link text = step.Pulled (parcel_for side.Slave link text)
 
 -- the first tick: two handshakes, and the first data of both
 abbrev pub first_tick : List JournalStep

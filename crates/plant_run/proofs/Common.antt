@@ -17,7 +17,7 @@ pub use Rattle.plant_core.proofs.Acting.{same_count, trace_append}
 pub use Rattle.plant_core.proofs.Made.{lengths_made, made_count}
 pub use Rattle.plant_core.specs.Making.{is_named, links_made}
 pub use Rattle.plant_core.specs.Standing.{Follows, IsAged, PlantStands, PlantView, Plays, ShowsOn, ShowsPair, Starts, TellsOther, TellsStill, fixed_in, lengths_kept, seen}
-pub use Rattle.plant_model.proofs.Lines.{line_said, lines_append, no_lines_by, no_lines_pulled}
+pub use Rattle.plant_model.proofs.Lines.{line_said, no_lines_by, no_lines_pulled}
 pub use Rattle.plant_model.specs.Acts.{Act, App, Beginning, Event, Happen, PullFrom, Said, Start, journal, line_step, offers, uses}
 pub use Rattle.plant_model.specs.BoundLines.{bound_line, bound_lines, heard, heard_before, heard_of, is_driven, is_ticking, limit_of, line_by}
 pub use Rattle.plant_model.specs.Fits.{Fits, lengths_at, lengths_in}
@@ -27,7 +27,7 @@ pub use Rattle.plant_model.specs.Past.{IsPast, Named, Taken, passed, said, said_
 pub use Rattle.plant_model.specs.PlantReport.{in_tick, is_line, last_lines, lines_due, lines_from, link_line, link_lines, report_end, report_text, tick_lines, ticks_text}
 pub use Rattle.plant_model.specs.declared.event.PlantLine.{PlantLine}
 pub use Rattle.plant_model.specs.declared.journal.JournalStep.{JournalStep}
-pub use Rattle.plant_run.specs.Given.{GivenCloses, GivenStands, named, rest_in, terms_of, waiting}
+pub use Rattle.plant_run.specs.Given.{named, rest_in, waiting}
 pub use Rattle.plant_run.specs.Ran.{IsReportOf, RanPlant}
 pub use Rattle.plant_run.specs.Reporting.{PlantReports, Terms, journal_after, plant_reporting, run_stop}
 pub use Rattle.plant_run.specs.Running.{FieldsFit, LineFits, RunCloses, RunStands}
@@ -45,4 +45,4 @@ pub use Rattle.std.proofs.lemmas.List.Elements.{All-cons, All-head, All-nil, All
 pub use Rattle.std.proofs.lemmas.Option.{slice_get-get_or, slice_get-map, slice_get_past, slice_get_read, slice_get_within}
 pub use Rattle.std.proofs.lemmas.Result.{IfOk-at_ok, err_from_is_err_and}
 pub use Rattle.std.specs.List.{onto_first, position_from, remove}
-pub use Rattle.std.specs.Prelude.{Err, IfOk, IfSome, IsSome, IsSomeAnd, None, Ok, Option, Some, codes, decimal, option_map, string_bytes}
+pub use Rattle.std.specs.Prelude.{IfOk, IfSome, IsSome, IsSomeAnd, None, Ok, Option, Some, codes, decimal, option_map, string_bytes}

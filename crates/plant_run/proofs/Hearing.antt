@@ -1,6 +1,7 @@
 -- A plant that runs can tell the reactions of its bounds of a line more, and tells the ages of their connections.
-use Rattle.plant_run.proofs.Common.{Act, All-cons, All-nil, AppView, AreAged, Beginning, BoundSpec, CanHear, EntryOf, GivenStands, Happen, HasRoom, HearsLine, IfSome, IsAged, IsSome, KindOf, LinkConf, PlantLine, PlantStands, PlantView, PullFrom, ReactionView, ScriptHeading, Start, Terms, Told, common_steps, eq-eqb, fixed_in, heard_before, heard_of, is_driven, is_named, is_tick, is_ticking, length-map, length_push, limit_of, line_step, links_made, option_map, reactions_after, reactions_by, said_in, slice_get-map, view_of}
+use Rattle.plant_run.proofs.Common.{Act, All-cons, All-nil, AreAged, Beginning, BoundSpec, CanHear, Happen, HasRoom, HearsLine, IfSome, IsAged, IsSome, LinkConf, Named, PlantLine, PlantStands, PlantView, PullFrom, ReactionView, RunStands, ScriptHeading, Start, Terms, Told, common_steps, eq-eqb, fixed_in, heard_before, heard_of, is_driven, is_named, is_tick, is_ticking, length-map, length_push, limit_of, line_step, links_made, option_map, reactions_after, reactions_by, said_in, slice_get-map, view_of}
 use Rattle.std.proofs.Common.{◌≡◌, ◌≤◌, ◌<◌, ◌+◌, ◌^◌, ◌==◌, ◌||◌, ℕ, zero, suc, Bool, true, false, List, [], ◌∷◌, All, length, slice_get, Option, Some, None, if◌then◌else◌, refl, sym, ap, subst, ◌∙◌, arith}
+use Rattle.std.proofs.lemmas.Bool.{or_left, or_right}
 use Rattle.reaction_bound.specs.Reaction as reaction
 use Rattle.plant_core.specs.Link.{Fixed, LinkView, fixed_of, new_link}
 
@@ -23,24 +24,18 @@ rooms b acts (bound ∷ bounds) h =
     All-cons HasRoom (view_of (limit_of b.links bound) (heard_of b bound acts)) (reactions_after b acts bounds) (omega (arith, few, h)) (rooms b acts bounds h)
 
 -- a plant that runs can tell its reactions of a line more
-pub can_hear : {H : Type 0} (view : KindOf H → AppView) (t : Terms) (v : PlantView) (reactions : List ReactionView) (left : List (EntryOf H)) (before after : Told) (count : ℕ) (h : ScriptHeading) (log : List PlantLine) (text : List ℕ) (bounds : List BoundSpec)
-    → GivenStands view t v reactions left before after count h log text → length log + 1 < 2 ^ 64 → t.bounds ≡ bounds → CanHear reactions bounds
-can_hear view t v reactions left before after count h log text bounds k l m = grind (arith, common_steps, rooms)
+pub can_hear : (t : Terms) (v : PlantView) (reactions : List ReactionView) (left : List Named) (before after : Told) (count : ℕ) (h : ScriptHeading) (log : List PlantLine) (text : List ℕ) (bounds : List BoundSpec) → RunStands t v reactions left before after count h log text
+    → length log + 1 < 2 ^ 64 → t.bounds ≡ bounds → CanHear reactions bounds
+can_hear t v reactions left before after count h log text bounds k l m = grind (arith, common_steps, rooms)
 
 -- a bound names its connections
-or_first : (a b : Bool) → a ≡ true → (a || b) ≡ true
-or_first a b h = grind arith
-
-or_later : (a b : Bool) → b ≡ true → (a || b) ≡ true
-or_later a b h = grind arith
-
 named_by : (k : ℕ) (bounds : List BoundSpec) (place : ℕ) (bound : BoundSpec) → slice_get bounds place ≡ Some bound → (bound.estop.link == k || bound.drive.link == k) ≡ true → is_named bounds k ≡ true
 named_by k [] place bound e named = absurd (cc e)
 named_by k (first ∷ bounds) zero bound e named =
     let same : first ≡ bound = cc in
-    or_first (first.estop.link == k || first.drive.link == k) (is_named bounds k) (ap (λ (z : BoundSpec). z.estop.link == k || z.drive.link == k) same ∙ named)
+    or_left (first.estop.link == k || first.drive.link == k) (is_named bounds k) (ap (λ (z : BoundSpec). z.estop.link == k || z.drive.link == k) same ∙ named)
 named_by k (first ∷ bounds) (suc place) bound e named =
-    or_later (first.estop.link == k || first.drive.link == k) (is_named bounds k) (named_by k bounds place bound e named)
+    or_right (first.estop.link == k || first.drive.link == k) (is_named bounds k) (named_by k bounds place bound e named)
 
 -- the ages of a connection are told that a bound names
 aged_new : (aged : Bool) (link : LinkConf) → aged ≡ true → (fixed_of (new_link aged link)).aged ≡ true
@@ -69,8 +64,8 @@ aged_at bounds links vs (suc place) e named =
 
 pub are_aged : (bounds : List BoundSpec) (links : List LinkConf) (vs : List LinkView) (place : ℕ) (bound : BoundSpec) → fixed_in vs ≡ fixed_in (links_made 1 bounds links) → slice_get bounds place ≡ Some bound → AreAged vs bound
 are_aged bounds links vs place bound e at = record {
-  estop = aged_at bounds links vs bound.estop.link e (named_by bound.estop.link bounds place bound at (or_first (bound.estop.link == bound.estop.link) (bound.drive.link == bound.estop.link) (eq-eqb bound.estop.link bound.estop.link refl)));
-  drive = aged_at bounds links vs bound.drive.link e (named_by bound.drive.link bounds place bound at (or_later (bound.estop.link == bound.drive.link) (bound.drive.link == bound.drive.link) (eq-eqb bound.drive.link bound.drive.link refl)));
+  estop = aged_at bounds links vs bound.estop.link e (named_by bound.estop.link bounds place bound at (or_left (bound.estop.link == bound.estop.link) (bound.drive.link == bound.estop.link) (eq-eqb bound.estop.link bound.estop.link refl)));
+  drive = aged_at bounds links vs bound.drive.link e (named_by bound.drive.link bounds place bound at (or_right (bound.estop.link == bound.drive.link) (bound.drive.link == bound.drive.link) (eq-eqb bound.drive.link bound.drive.link refl)));
 }
 
 -- what is heard of bounds is heard of the same ones

@@ -1,5 +1,5 @@
 -- The lines of the connections that wait.
-use Rattle.plant_run.proofs.Common.{Act, AppView, Beginning, EntryOf, GivenStands, IsSomeAnd, JournalStep, KindOf, LinkConf, None, Option, PlantLine, PlantStands, PlantView, ReactionView, ScriptHeading, ShowsPair, Some, Terms, Told, codes, decimal, link_at, link_line, link_lines, made_count, outputs_at, pair, same_count, slice_get_past, state_at, waiting}
+use Rattle.plant_run.proofs.Common.{Act, Beginning, IsSomeAnd, JournalStep, LinkConf, Named, None, Option, PlantLine, PlantStands, PlantView, ReactionView, RunStands, ScriptHeading, ShowsPair, Some, Terms, Told, codes, decimal, link_at, link_line, link_lines, made_count, outputs_at, pair, same_count, slice_get_past, state_at, waiting}
 use Rattle.std.proofs.Common.{◌≡◌, ◌<◌, ◌+◌, ℕ, zero, suc, List, [], ◌∷◌, ◌++◌, drop, length, slice_get, refl, sym, ap, ◌∙◌, arith, rules}
 use Rattle.hex.specs.Hex.{encode_lower}
 use Rattle.fsoe_base.specs.Command.{state_name}
@@ -53,6 +53,6 @@ part_shown b acts v (suc place) links text stands same above shows =
     rw same (next_line (slice_get b.links place) b.links place text v.journal refl (shows.shows b acts stands) ∙ ap (λ (n : ℕ). text ++ waiting n b.links v.journal) number)
 
 -- none waits after the last
-pub links_done : {H : Type 0} (view : KindOf H → AppView) (t : Terms) (v : PlantView) (reactions : List ReactionView) (left : List (EntryOf H)) (before after : Told) (count : ℕ) (h : ScriptHeading) (log : List PlantLine) (text : List ℕ) (next most : ℕ) (links : List LinkConf)
-    → GivenStands view t v reactions left before after count h log text → links ≡ t.begins.links → most ≡ length v.links → most < next → waiting next links v.journal ≡ []
-links_done view t v reactions left before after count h log text next most links k l m n = search (rules, same_count, made_count, none_dropped, slice_get_past)
+pub links_done : (t : Terms) (v : PlantView) (reactions : List ReactionView) (left : List Named) (before after : Told) (count : ℕ) (h : ScriptHeading) (log : List PlantLine) (text : List ℕ) (next most : ℕ) (links : List LinkConf) → RunStands t v reactions left before after count h log text
+    → links ≡ t.begins.links → most ≡ length v.links → most < next → waiting next links v.journal ≡ []
+links_done t v reactions left before after count h log text next most links k l m n = search (rules, same_count, made_count, none_dropped, slice_get_past)

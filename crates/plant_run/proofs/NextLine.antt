@@ -1,6 +1,6 @@
 -- A plant that runs goes on by a line of its script.
-use Rattle.plant_run.proofs.Common.{Act, App, AppView, Beginning, BoundSpec, ConfView, Ended, EndsStopped, EndsWhole, EntryOf, Event, Fits, Follows, GivenCloses, GivenStands, HearsLine, IsReportOf, IsSaid, IsTaken, JournalStep, KindOf, Lengths, LineFits, LinkConf, Named, None, Option, Parcel, PlantLine, PlantStands, PlantView, Plays, ReactionView, RunStands, Said, ScriptHeading, Some, Start, Starts, Taken, TellsOther, Terms, Told, bound_line, bound_lines, codes, common_steps, decimal, ended_with, fixed_in, happening, has_other, heard, heard_before, heard_of, is_tick, is_ticking, journal, length_push, lengths_in, lengths_kept, lengths_made, line_said, line_step, line_steps, lines_by, links_made, lowest_other, named, no_lines_by, offers, other_line, place_of, plant_reporting, reactions_after, reactions_by, rest_in, said, said_in, said_with, script_format, string_bytes, terms_of, tick_lines, ticks, trace_append, uses, waiting, with_line}
-use Rattle.std.proofs.Common.{◌≡◌, ℕ, ◌+◌, ◌≤◌, Bool, true, false, cond, suc, List, [], ◌∷◌, ◌++◌, length, map, All, if◌then◌else◌, refl, sym, ap, ap₂, subst, ◌∙◌, append_assoc, arith, rules}
+use Rattle.plant_run.proofs.Common.{Act, App, AppView, Beginning, BoundSpec, ConfView, Ended, EndsStopped, EndsWhole, EntryOf, Event, Fits, Follows, HearsLine, IsReportOf, IsSaid, IsTaken, JournalStep, KindOf, Lengths, LineFits, LinkConf, Named, None, Option, Parcel, PlantLine, PlantStands, PlantView, Plays, ReactionView, RunCloses, RunStands, Said, ScriptHeading, Some, Start, Starts, Taken, TellsOther, Terms, Told, bound_line, bound_lines, codes, common_steps, decimal, ended_with, fixed_in, happening, has_other, heard, heard_before, heard_of, is_tick, is_ticking, journal, length_push, lengths_in, lengths_kept, lengths_made, line_said, line_step, line_steps, lines_by, links_made, lowest_other, named, no_lines_by, offers, other_line, place_of, plant_reporting, reactions_after, reactions_by, rest_in, said, said_in, said_with, script_format, string_bytes, tick_lines, ticks, trace_append, uses, waiting, with_line}
+use Rattle.std.proofs.Common.{◌≡◌, ℕ, ◌+◌, ◌≤◌, Bool, true, cond, suc, List, [], ◌∷◌, ◌++◌, length, map, All, if◌then◌else◌, refl, sym, ap, ap₂, subst, ◌∙◌, append_assoc, arith, rules}
 use Rattle.std.specs.Prelude.{◌⊎◌}
 use Rattle.fb_net.specs.declared.kind_of.KindOf.TheVariants as kind
 use Rattle.plant_run.specs.declared.machine.Rest.TheVariants as rest
@@ -35,29 +35,8 @@ ticks_after : (one : Said) (old new : List JournalStep) → After one old new �
 ticks_after one old new h = grind (arith, common_steps, ticks_quiet)
 
 -- the journal of a plant that went on by a line is the one before, the line, and steps that are none
-played : (t : Terms) (old new : PlantView) (left : List Named) (h : ScriptHeading) (log : List PlantLine) (text : List ℕ) (one : Said) (before after : Told) (k : RunStands t old left h log text) → (p : Plays t.begins k.acts one new before after)
-    → After one old.journal new.journal
-played t old new left h log text one before after k p = search (rules, after_line)
-
--- it stands for the line too, whatever is left of the applications, with the lines of the tick if it is one
-line_stands : (t : Terms) (old new : PlantView) (left next : List Named) (h : ScriptHeading) (log : List PlantLine) (text piece : List ℕ) (event : PlantLine) (one : Said) (before after : Told) (k : RunStands t old left h log text)
-    → Plays t.begins k.acts one new before after → ((more : List PlantLine) → said left (event ∷ more) ≡ one ∷ said next more)
-    → piece ≡ (if is_tick (line_step one) then tick_lines t.begins.links new.journal else []) → RunStands t new next h (log ++ event ∷ []) (text ++ piece)
-line_stands t old new left next h log text piece event one before after k p says is = record {
-  acts = with_line one p.gifts k.acts;
-  stands = p.stands;
-  whole = omega (arith, k.whole, length_push log event, ap (length {A = Said}) (line_said one p.gifts k.acts), length_push (said_in k.acts) one);
-  says = λ more.
-      ap (said t.spare) (append_assoc log (event ∷ []) more)
-      ∙ k.says (event ∷ more)
-      ∙ ap (λ (z : List Said). said_in k.acts ++ z) (says more)
-      ∙ sym (append_assoc (said_in k.acts) (one ∷ []) (said next more))
-      ∙ ap (λ (z : List Said). z ++ said next more) (sym (line_said one p.gifts k.acts));
-  lengths_are = k.lengths_are;
-  text_is =
-      ap₂ (λ (x y : List ℕ). x ++ y) k.text_is is
-      ∙ sym (text_after t.begins.links one old.journal new.journal (played t old new left h log text one before after k p));
-}
+played : (b : Beginning) (acts : List Act) (old new : PlantView) (one : Said) (before after : Told) → PlantStands b old acts → Plays b acts one new before after → After one old.journal new.journal
+played b acts old new one before after k p = search (rules, after_line)
 
 -- its channel was used by that too
 used : (b : Beginning) (acts : List Act) (one : Said) (new : PlantView) (before mid after : Told) → Trace (uses b acts) before mid → (p : Plays b acts one new mid after)
@@ -79,48 +58,56 @@ written_if : (tick : Bool) (a b piece : List ℕ) → a ≡ b → piece ≡ (if 
 written_if tick a b piece same is = is ∙ ap (λ (z : List ℕ). if tick then z else []) same
 
 -- a plant that runs goes on by a line
-pub goes_on : {H : Type 0} (view : KindOf H → AppView) (t : Terms) (old new : PlantView) (old_reactions new_reactions : List ReactionView) (left next : List (EntryOf H)) (before mid after : Told) (count now : ℕ) (h : ScriptHeading) (log : List PlantLine) (text piece : List ℕ) (event : PlantLine) (one : Said)
-    → GivenStands view t old old_reactions left before mid count h log text → Follows old one new mid after → fixed_in new.links ≡ fixed_in old.links → HearsLine new t.bounds (is_tick (line_step one)) old_reactions new_reactions
-    → ((more : List PlantLine) → said (map (named view) left) (event ∷ more) ≡ one ∷ said (map (named view) next) more) → now ≡ count + one_if (is_tick (line_step one)) → piece ≡ written_at one now t.begins.links new.journal
-    → GivenStands view t new new_reactions next before after now h (log ++ event ∷ []) (text ++ piece)
-unfolding line_stands
-goes_on view t old new old_reactions new_reactions left next before mid after count now h log text piece event one k follows same hears says counts is =
-    let p = follows.plays t.begins k.runs.acts k.runs.stands in
-    let after_line = played t old new (map (named view) left) h log text one mid after k.runs p in
-    let counted : now ≡ ticks new.journal = let more = ticks_after one old.journal new.journal after_line in let before = k.counted in omega (arith, more, before, counts) in
+pub goes_on : (t : Terms) (old new : PlantView) (old_reactions new_reactions : List ReactionView) (left next : List Named) (before mid after : Told) (count now : ℕ) (h : ScriptHeading) (log : List PlantLine) (text piece : List ℕ) (event says : PlantLine) (one : Said) → event ≡ says
+    → RunStands t old old_reactions left before mid count h log text → Follows old one new mid after → fixed_in new.links ≡ fixed_in old.links → HearsLine new t.bounds (is_tick (line_step one)) old_reactions new_reactions
+    → ((more : List PlantLine) → said left (says ∷ more) ≡ one ∷ said next more) → now ≡ count + one_if (is_tick (line_step one)) → piece ≡ written_at one now t.begins.links new.journal
+    → RunStands t new new_reactions next before after now h (log ++ event ∷ []) (text ++ piece)
+goes_on t old new old_reactions new_reactions left next before mid after count now h log text piece event says one is k follows same hears goes counts written =
+    let p = follows.plays t.begins k.acts k.stands in
+    let grew = played t.begins k.acts old new one mid after k.stands p in
+    let counted : now ≡ ticks new.journal = let more = ticks_after one old.journal new.journal grew in omega (arith, more, k.counted, counts) in
     record {
-      runs = line_stands t old new (map (named view) left) (map (named view) next) h log text piece event one mid after k.runs p says
-          (written_if (is_tick (line_step one)) _ (tick_lines t.begins.links new.journal) piece (ap (λ (n : ℕ). (codes "tick " ++ decimal n ++ codes "\n") ++ waiting 1 t.begins.links new.journal) counted) is);
-      channel = used t.begins k.runs.acts one new before mid after k.channel p;
+      acts = with_line one p.gifts k.acts;
+      stands = p.stands;
+      whole = omega (arith, k.whole, length_push log event, ap (length {A = Said}) (line_said one p.gifts k.acts), length_push (said_in k.acts) one);
+      says = λ more.
+          ap (said t.spare) (append_assoc log (event ∷ []) more)
+          ∙ k.says (event ∷ more)
+          ∙ ap (λ (first : PlantLine). said_in k.acts ++ said left (first ∷ more)) is
+          ∙ ap (λ (z : List Said). said_in k.acts ++ z) (goes more)
+          ∙ sym (append_assoc (said_in k.acts) (one ∷ []) (said next more))
+          ∙ ap (λ (z : List Said). z ++ said next more) (sym (line_said one p.gifts k.acts));
+      channel = used t.begins k.acts one new before mid after k.channel p;
+      watched = hears.hears t.begins (with_line one p.gifts k.acts) (λ bound. heard_of t.begins bound k.acts) p.stands k.watched ∙ line_heard t.begins one p.gifts k.acts (with_line one p.gifts k.acts) t.bounds;
       fixed = same ∙ k.fixed;
-      watched = hears.hears t.begins (with_line one p.gifts k.runs.acts) (λ bound. heard_of t.begins bound k.runs.acts) p.stands k.watched ∙ line_heard t.begins one p.gifts k.runs.acts (with_line one p.gifts k.runs.acts) t.bounds;
       same_lengths = k.same_lengths;
       counted = counted;
-      few = let most = k.few in let one_more = one_most (is_tick (line_step one)) in omega (arith, most, counts, one_more, length_push log event);
+      few = omega (arith, k.few, counts, one_most (is_tick (line_step one)), length_push log event);
+      lengths_are = k.lengths_are;
+      text_is =
+          ap₂ (λ (x y : List ℕ). x ++ y) k.text_is (written_if (is_tick (line_step one)) _ (tick_lines t.begins.links new.journal) piece (ap (λ (n : ℕ). (codes "tick " ++ decimal n ++ codes "\n") ++ waiting 1 t.begins.links new.journal) counted) written)
+          ∙ sym (text_after t.begins.links one old.journal new.journal grew);
     }
 
 -- a plant that has begun runs
-started : (t : Terms) (v : PlantView) (h : ScriptHeading) → PlantStands t.begins v (Start ∷ []) → h.lengths ≡ map lengths_in t.begins.links → RunStands t v t.spare h [] []
-started t v h stands lengths_are =
+pub begun : (t : Terms) (v : PlantView) (reactions : List ReactionView) (before after : Told) (h : ScriptHeading) → Starts t.begins v before after → fixed_in v.links ≡ fixed_in (links_made 1 t.bounds t.begins.links)
+    → reactions ≡ reactions_after t.begins (Start ∷ []) t.bounds → All HasSameLengths t.begins.links → h.lengths ≡ map lengths_in t.begins.links → RunStands t v reactions t.spare before after 0 h [] []
+begun t v reactions before after h starts fixed watched all lengths_are =
     let changed : List JournalStep = offers t.begins Start [] in
     let none : line_steps changed ≡ [] = no_lines_by t.begins Start [] in
-    search (rules, lines_quiet, in_tick_quiet)
-
-pub begun : {H : Type 0} (view : KindOf H → AppView) (conf : ConfView) (app : KindOf H) (spare : List (EntryOf H)) (v : PlantView) (reactions : List ReactionView) (before after : Told) (h : ScriptHeading) → let t : Terms = terms_of view conf app spare in
-    Starts t.begins v before after → fixed_in v.links ≡ fixed_in (links_made 1 t.bounds t.begins.links) → reactions ≡ reactions_after t.begins (Start ∷ []) t.bounds → All HasSameLengths t.begins.links → h.lengths ≡ map lengths_in t.begins.links
-    → GivenStands view t v reactions spare before after 0 h [] []
-unfolding started
-begun view conf app spare v reactions before after h starts fixed watched all lengths_are =
-    let t : Terms = terms_of view conf app spare in
-    let none = no_lines_by t.begins Start [] in
     record {
-      runs = started t v h starts.stands lengths_are;
+      acts = Start ∷ [];
+      stands = starts.stands;
+      whole = refl;
+      says = λ more. refl;
       channel = starts.channel;
-      fixed = fixed;
       watched = watched;
+      fixed = fixed;
       same_lengths = all;
-      counted = sym (ap ticks starts.stands.has_done.journal_is ∙ ticks_quiet (offers t.begins Start []) none);
+      counted = sym (ap ticks starts.stands.has_done.journal_is ∙ ticks_quiet changed none);
       few = omega arith;
+      lengths_are = lengths_are;
+      text_is = search (rules, lines_quiet, in_tick_quiet);
     }
 
 -- so the number of ticks stays
@@ -139,30 +126,16 @@ says_step : (event : PlantLine) (e : PlantEvent) → happening event ≡ Some (l
 says_step event e h = grind arith
 
 -- it fits the connections of the plant
-pub step_fits : {H : Type 0} (view : KindOf H → AppView) (t : Terms) (v : PlantView) (reactions : List ReactionView) (left : List (EntryOf H)) (before after : Told) (count : ℕ) (h : ScriptHeading) (log : List PlantLine) (text : List ℕ) (e : PlantEvent)
-    → GivenStands view t v reactions left before after count h log text → IsSaid (script_format (map lengths_in t.begins.links)) h (line.Step e) → Fits (lengths_kept v.links) e
-step_fits view t v reactions left before after count h log text e k said =
-    let same : h.lengths ≡ lengths_kept v.links = k.runs.lengths_are ∙ sym (lengths_made t.bounds t.begins.links v.links k.fixed) in
+pub step_fits : (t : Terms) (v : PlantView) (reactions : List ReactionView) (left : List Named) (before after : Told) (count : ℕ) (h : ScriptHeading) (log : List PlantLine) (text : List ℕ) (e : PlantEvent) → RunStands t v reactions left before after count h log text
+    → IsSaid (script_format (map lengths_in t.begins.links)) h (line.Step e) → Fits (lengths_kept v.links) e
+step_fits t v reactions left before after count h log text e k said =
+    let same : h.lengths ≡ lengths_kept v.links = k.lengths_are ∙ sym (lengths_made t.bounds t.begins.links v.links k.fixed) in
     subst (λ (all : List Lengths). Fits all e) same (subst (LineFits h.lengths) (says_step said.1 e said.3) (line_fits h.lengths said.0 said.1 said.2))
 
--- a plant that runs goes on with an application that its script takes
-pub takes_app : {H : Type 0} (view : KindOf H → AppView) (t : Terms) (old new : PlantView) (old_reactions new_reactions : List ReactionView) (all left : List (EntryOf H)) (before mid : Told) (count : ℕ) (h : ScriptHeading) (log : List PlantLine) (text piece name : List ℕ) (event : PlantLine) (entry : EntryOf H)
-    → event ≡ line.App name → GivenStands view t old old_reactions all before mid count h log text → IsTaken (λ e. string_bytes e.name) name all entry left → Follows old (App (view (kind.Handed entry.app))) new mid mid → fixed_in new.links ≡ fixed_in old.links
-    → HearsLine new t.bounds false old_reactions new_reactions → piece ≡ [] → GivenStands view t new new_reactions left before mid count h (log ++ event ∷ []) (text ++ piece)
-takes_app view t old new old_reactions new_reactions all left before mid count h log text piece name event entry is k taken follows fixed hears nothing =
-    let one : Said = App (view (kind.Handed entry.app)) in
-    let says : (more : List PlantLine) → said (map (named view) all) (event ∷ more) ≡ one ∷ said (map (named view) left) more =
-    λ more.
-    ap (λ (first : PlantLine). said (map (named view) all) (first ∷ more)) is
-    ∙ ap (λ (o : Option Taken). said_with o (λ rest. said rest more)) (app_taken view name all left entry taken) in
-    goes_on view t old new old_reactions new_reactions all left before mid mid count count h log text piece event one k follows fixed hears says (omega arith) nothing
-
--- a plant that runs goes on by an event
-pub goes_step : {H : Type 0} (view : KindOf H → AppView) (t : Terms) (old new : PlantView) (old_reactions new_reactions : List ReactionView) (left : List (EntryOf H)) (before mid after : Told) (count now : ℕ) (h : ScriptHeading) (log : List PlantLine) (text piece : List ℕ) (event : PlantLine) (e : PlantEvent) → event ≡ line.Step e
-    → GivenStands view t old old_reactions left before mid count h log text → Follows old (Event e) new mid after → fixed_in new.links ≡ fixed_in old.links → HearsLine new t.bounds (is_tick (step.Script e)) old_reactions new_reactions
-    → now ≡ count + one_if (is_tick (step.Script e)) → piece ≡ written_at (Event e) now t.begins.links new.journal → GivenStands view t new new_reactions left before after now h (log ++ event ∷ []) (text ++ piece)
-goes_step view t old new old_reactions new_reactions left before mid after count now h log text piece event e is k follows fixed hears counts written =
-    goes_on view t old new old_reactions new_reactions left left before mid after count now h log text piece event (Event e) k follows fixed hears (λ more. ap (λ (first : PlantLine). said (map (named view) left) (first ∷ more)) is) counts written
+-- what is said with an application that its script takes
+pub says_app : {H : Type 0} (view : KindOf H → AppView) (name : List ℕ) (all left : List (EntryOf H)) (entry : EntryOf H) → IsTaken (λ e. string_bytes e.name) name all entry left → (more : List PlantLine)
+    → said (map (named view) all) (line.App name ∷ more) ≡ App (view (kind.Handed entry.app)) ∷ said (map (named view) left) more
+says_app view name all left entry taken more = ap (λ (o : Option Taken). said_with o (λ rest. said rest more)) (app_taken view name all left entry taken)
 
 lowest_by : (b : Bool) (k : ℕ) (rest : Option ℕ) (n : ℕ) → (rest ≡ Some n → suc k ≤ n) → (if b then Some k else rest) ≡ Some n → k ≤ n
 lowest_by b k rest n h l = grind arith
@@ -171,13 +144,13 @@ lowest_from : (k : ℕ) (links : List LinkConf) (steps : List JournalStep) (n : 
 lowest_from k [] steps n is = cc
 lowest_from k (link ∷ links) steps n is = lowest_by (has_other link k steps) k (lowest_other (suc k) links steps) n (λ e. lowest_from (suc k) links steps n e) is
 
-pub other_ends : {H : Type 0} (view : KindOf H → AppView) (t : Terms) (v : PlantView) (reactions : List ReactionView) (left : List (EntryOf H)) (before after : Told) (count : ℕ) (h : ScriptHeading) (log : List PlantLine) (text : List ℕ) (other : Option ℕ)
-    → GivenStands view t v reactions left before after count h log text → TellsOther v other → EndsWhole true (ended_with other).status (ended_with other).place
-other_ends view t v reactions left before after count h log text other k l = search (rules, lowest_from)
+pub other_ends : (t : Terms) (v : PlantView) (reactions : List ReactionView) (left : List Named) (before after : Told) (count : ℕ) (h : ScriptHeading) (log : List PlantLine) (text : List ℕ) (other : Option ℕ) → RunStands t v reactions left before after count h log text → TellsOther v other
+    → EndsWhole true (ended_with other).status (ended_with other).place
+other_ends t v reactions left before after count h log text other k l = search (rules, lowest_from)
 
 -- an application isn't taken: there is none of its name, or no memory
 pub app_stopped : {H : Type 0} (view : KindOf H → AppView) (t : Terms) (v : PlantView) (reactions : List ReactionView) (all : List (EntryOf H)) (before after : Told) (count : ℕ) (h : ScriptHeading) (log : List PlantLine) (text name : List ℕ) (event : PlantLine) (why : Stopped)
-    → event ≡ line.App name → GivenStands view t v reactions all before after count h log text → (why ≡ stopped.Memory) ⊎ ((why ≡ stopped.NoApp) × (place_of name (map (λ e. string_bytes e.name) all) ≡ None))
+    → event ≡ line.App name → RunStands t v reactions (map (named view) all) before after count h log text → (why ≡ stopped.Memory) ⊎ ((why ≡ stopped.NoApp) × (place_of name (map (λ e. string_bytes e.name) all) ≡ None))
     → EndsStopped (plant_reporting t) h log text event why
 app_stopped view t v reactions all before after count h log text name event why k l m = grind (arith, common_steps, app_missing)
 
@@ -195,24 +168,22 @@ same_lines b these those bounds reactions e f same =
     ∙ lines_are b those bounds
 
 -- a plant that has run closes with the lines of its bounds, which wait
-pub closed : {H : Type 0} (view : KindOf H → AppView) (t : Terms) (v : PlantView) (reactions : List ReactionView) (left : List (EntryOf H)) (before after : Told) (count : ℕ) (h : ScriptHeading) (log : List PlantLine) (text : List ℕ) (other : Option ℕ) (piece : List ℕ) (conf : ConfView) (ended : Ended)
-    → GivenStands view t v reactions left before after count h log text → TellsOther v other → piece ≡ (codes "ticks" ++ codes " " ++ decimal count ++ codes "\n") ++ other_line other → conf.links ≡ t.begins.links → conf.bounds ≡ t.bounds → ended ≡ ended_with other
-    → GivenCloses view t v reactions left h log (text ++ (piece ++ rest_in (rest.Bounds 0) conf v.journal reactions)) ended
-closed view t v reactions left before after count h log text other piece conf ended k told is links bounds ended_is =
-    let lowest : other ≡ lowest_other 1 t.begins.links v.journal = told.tells t.begins k.runs.acts k.runs.stands in
-    let waits : rest_in (rest.Bounds 0) conf v.journal reactions ≡ bound_lines t.begins k.runs.acts t.bounds = search (rules, lines_by, lines_are) in
+pub closed : (t : Terms) (v : PlantView) (reactions : List ReactionView) (left : List Named) (before after : Told) (count : ℕ) (h : ScriptHeading) (log : List PlantLine) (text : List ℕ) (other : Option ℕ) (piece : List ℕ) (conf : ConfView) (ended : Ended)
+    → RunStands t v reactions left before after count h log text → TellsOther v other → piece ≡ (codes "ticks" ++ codes " " ++ decimal count ++ codes "\n") ++ other_line other → conf.links ≡ t.begins.links → conf.bounds ≡ t.bounds → ended ≡ ended_with other
+    → RunCloses t v reactions left before after h log (text ++ (piece ++ rest_in (rest.Bounds 0) conf v.journal reactions)) ended
+closed t v reactions left before after count h log text other piece conf ended k told is links bounds ended_is =
+    let lowest : other ≡ lowest_other 1 t.begins.links v.journal = told.tells t.begins k.acts k.stands in
+    let waits : rest_in (rest.Bounds 0) conf v.journal reactions ≡ bound_lines t.begins k.acts t.bounds = search (rules, lines_by, lines_are) in
     let first = is ∙ ap₂ (λ (n : ℕ) (o : Option ℕ). (codes "ticks " ++ decimal n ++ codes "\n") ++ other_line o) k.counted lowest in
     record {
-      closes = record {
-        ticks = text;
-        stands = k.runs;
-        text_is = ap (λ (z : List ℕ). text ++ z) (ap₂ (λ (x y : List ℕ). x ++ y) first waits);
-        ended_is = ended_is ∙ ap ended_with lowest;
-      };
-      watched = k.watched;
+      count = count;
+      ticks = text;
+      stands = k;
+      text_is = ap (λ (z : List ℕ). text ++ z) (ap₂ (λ (x y : List ℕ). x ++ y) first waits);
+      ended_is = ended_is ∙ ap ended_with lowest;
     }
 
 -- what it has closed with is the report of its journal, and of any acts with the same reactions
-pub reported : {H : Type 0} (view : KindOf H → AppView) (t : Terms) (v : PlantView) (reactions : List ReactionView) (left : List (EntryOf H)) (h : ScriptHeading) (log : List PlantLine) (text : List ℕ) (ended : Ended) (acts : List Act)
-    → v.journal ≡ journal t.begins acts → reactions ≡ reactions_after t.begins acts t.bounds → GivenCloses view t v reactions left h log text ended → IsReportOf t acts v.journal h log text ended
-reported view t v reactions left h log text ended acts k l m = search (rules, same_lines)
+pub reported : (t : Terms) (v : PlantView) (reactions : List ReactionView) (left : List Named) (before after : Told) (h : ScriptHeading) (log : List PlantLine) (text : List ℕ) (ended : Ended) (acts : List Act) → v.journal ≡ journal t.begins acts
+    → reactions ≡ reactions_after t.begins acts t.bounds → RunCloses t v reactions left before after h log text ended → IsReportOf t acts v.journal h log text ended
+reported t v reactions left before after h log text ended acts k l m = search (rules, same_lines)

@@ -1,5 +1,5 @@
 -- What a run over a script leaves is what a plant did.
-use Rattle.plant_run.proofs.Common.{Act, AppView, Ended, EntryOf, GivenStands, IfSome, IsReportOf, KindOf, Lengths, LinkConf, PlantLine, PlantView, RanOver, RanPlant, ReactionView, Reporting, ScriptHeading, Terms, Told, append-nil, journal, link_at, plant_reporting, reactions_after, said, said_in}
+use Rattle.plant_run.proofs.Common.{Act, Ended, IfSome, IsReportOf, LinkConf, Named, PlantLine, PlantView, RanOver, RanPlant, ReactionView, Reporting, RunStands, ScriptHeading, Terms, Told, append-nil, journal, link_at, plant_reporting, reactions_after, said, said_in}
 use Rattle.std.proofs.Common.{◌≡◌, ℕ, List, [], Option, Some, None, refl, sym, ap, subst, ◌∙◌, inl, inr, arith}
 use Rattle.std.specs.List.{IsDistinct}
 use Rattle.fsoe_io.specs.declared.status.Status.{Status}
@@ -22,35 +22,26 @@ Closer one two = (h : ScriptHeading) (log : List PlantLine) (text : List ℕ) (e
 leaves_as : (t : Terms) (one two : Closing) → Closer one two → (d : Done ScriptHeading PlantLine) (s : Status) (ended : Ended) (o : Outside) → LeavesAs (plant_reporting t) one d s ended o → LeavesAs (plant_reporting t) two d s ended o
 leaves_as t one two h d s ended o k = grind arith
 
--- a plant stood for these lines
-pub record Stood {H : Type 0} (view : KindOf H → AppView) (t : Terms) (v : PlantView) (reactions : List ReactionView) (left : List (EntryOf H)) (before after : Told) (h : ScriptHeading) (log : List PlantLine) (text : List ℕ) : Type 0 where
-  pub count : ℕ
-  pub given : GivenStands view t v reactions left before after count h log text
-
 -- nothing happened to any connection in no steps
-fair_none : (lengths : Lengths) → Fair lengths []
-unfolding IsDistinct
-fair_none lengths = record { from_awaited = tt; master_once = tt; slave_once = tt; outputs = tt }
-
 fair_if_none : (o : Option LinkConf) → IfSome o (λ link. Fair link.master.lengths [])
+unfolding IsDistinct
 fair_if_none None = tt
-fair_if_none (Some link) = fair_none link.master.lengths
+fair_if_none (Some link) = record { from_awaited = tt; master_once = tt; slave_once = tt; outputs = tt }
 
 none_is_fair : (links : List LinkConf) → PairsAreFair links []
 none_is_fair links = λ k. fair_if_none (link_at links k)
 
-pub ran_plant : {H : Type 0} (view : KindOf H → AppView) (t : Terms) (v : PlantView) (ended : Ended) (o : Outside) (before after : Told) (reactions : List ReactionView) (left : List (EntryOf H)) (unbegun : Type 0) (stands : ScriptHeading → List PlantLine → List ℕ → Type 0) (closes : Closing) → RanOver (plant_reporting t) ended o
-    → Leaves unbegun (plant_reporting t) stands closes ended o → (unbegun → (after ≡ before) × (v.journal ≡ [])) → ((h : ScriptHeading) (log : List PlantLine) (text : List ℕ) → stands h log text → Stood view t v reactions left before after h log text)
+pub ran_plant : (t : Terms) (v : PlantView) (ended : Ended) (o : Outside) (before after : Told) (reactions : List ReactionView) (left : List Named) (unbegun : Type 0) (stands : ScriptHeading → List PlantLine → List ℕ → Type 0) (closes : Closing) → RanOver (plant_reporting t) ended o
+    → Leaves unbegun (plant_reporting t) stands closes ended o → (unbegun → (after ≡ before) × (v.journal ≡ [])) → ((h : ScriptHeading) (log : List PlantLine) (text : List ℕ) → stands h log text → (count : ℕ) × RunStands t v reactions left before after count h log text)
     → ((acts : List Act) → v.journal ≡ journal t.begins acts → reactions ≡ reactions_after t.begins acts t.bounds → Closer closes (IsReportOf t acts v.journal)) → RanPlant t ended o before after v.journal
-ran_plant view t v ended o before after reactions left unbegun stands closes ran leaves nothing stood closed =
+ran_plant t v ended o before after reactions left unbegun stands closes ran leaves nothing stood closed =
     elim leaves [
       | inl none ↦
           let was = nothing none.0 in
           record { run = ran; acts = []; did = inl (record { none = refl; left = none.1 }); journal_is = was.1; channel = sym was.0; fair = subst (PairsAreFair t.begins.links) (sym was.1) (none_is_fair t.begins.links) }
       | inr did ↦
           let d = did.done in
-          let k = (stood d.heading d.log d.text did.stood).given in
-          let s = k.runs in
+          let s = (stood d.heading d.log d.text did.stood).1 in
           record {
             run = ran;
             acts = s.acts;
@@ -60,15 +51,15 @@ ran_plant view t v ended o before after reactions left unbegun stands closes ran
               said_are = sym (ap (said t.spare) (sym (append-nil d.log)) ∙ s.says [] ∙ append-nil (said_in s.acts));
               whole = s.whole;
               sound = sound t.begins v s.acts s.stands;
-              reacts = reacts t.begins v s.acts s.stands k.same_lengths;
-              broken = broken_by_other t.begins v s.acts s.stands k.same_lengths;
+              reacts = reacts t.begins v s.acts s.stands s.same_lengths;
+              broken = broken_by_other t.begins v s.acts s.stands s.same_lengths;
               text_is = s.text_is;
               begun = did.begun;
-              ends = leaves_as t closes (IsReportOf t s.acts v.journal) (closed s.acts s.stands.has_done.journal_is k.watched) d ended.status ended o did.ends;
+              ends = leaves_as t closes (IsReportOf t s.acts v.journal) (closed s.acts s.stands.has_done.journal_is s.watched) d ended.status ended o did.ends;
             });
             journal_is = s.stands.has_done.journal_is;
-            channel = k.channel;
-            fair = plants_are_fair t.begins v s.acts s.stands k.same_lengths;
+            channel = s.channel;
+            fair = plants_are_fair t.begins v s.acts s.stands s.same_lengths;
           }
     ]
 

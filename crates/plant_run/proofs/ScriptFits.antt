@@ -1,55 +1,47 @@
 -- The event of a script's line fits the connections.
-use Rattle.plant_run.proofs.Common.{Err, IfOk, IfOk-at_ok, IsSome, IsSomeAnd, Lengths, LineFits, None, Ok, Option, PlantLine, Some, bytes_said, eqb-true, fields_of, lengths_at, next_field, no_field, number_16, one_field, value_or}
-use Rattle.std.proofs.Common.{◌≡◌, ℕ, ◌≤◌, Bool, true, false, List, [], ◌∷◌, length, refl, sym, subst, arith}
-use Rattle.std.specs.Prelude.{◌==◌, if◌then◌else◌}
+use Rattle.plant_run.proofs.Common.{IfOk, IfOk-at_ok, IsSome, IsSomeAnd, Lengths, LineFits, None, Ok, Option, PlantLine, Some, bytes_said, eqb-true, fields_of, lengths_at, next_field, no_field, number_16, one_field, value_or}
+use Rattle.std.proofs.Common.{◌≡◌, ℕ, ◌≤◌, List, [], ◌∷◌, length, sym, subst, arith}
+use Rattle.std.specs.Prelude.{◌==◌}
 use Rattle.fsoe_base.specs.LengthsOf.{length_of}
 use Rattle.fsoe_base.specs.declared.command.End.TheVariants as side
 use Rattle.fsoe_base.specs.declared.lengths.TheConstants.{MOST_DATA}
 use Rattle.schedule_file.specs.EventLine.{switch_of}
-use Rattle.schedule_file.specs.declared.line_cause.LineCause.{LineCause}
 use Rattle.schedule_file.specs.declared.line_cause.LineCause.TheVariants as cause
-use Rattle.schedule_file.proofs.Sound.{each, known, IfOk-every, IfOk-map}
+use Rattle.schedule_file.proofs.Sound.{each, known, ok_if, IfOk-every, IfOk-map}
 use Rattle.plant_run.specs.ScriptLine.{end_of_letter, existing, link_and_switch, local_line, nonce_line, plant_line, plant_said, plant_said_by, plant_word_of, put_line}
 use Rattle.plant_run.specs.declared.script_line.PlantWord.{PlantWord}
 use Rattle.plant_run.specs.declared.script_line.PlantWord.TheVariants as word
 
--- what comes only where a test holds
-ok_if : (b : Bool) (x : PlantLine) (why : LineCause) (P : PlantLine → Type 0) → (b ≡ true → P x) → IfOk (if b then Ok x else Err why) P
-ok_if true x why P h = h refl
-ok_if false x why P h = tt
-
 -- lengths that exist stand at their place
-exists : (o : Option Lengths) → IfOk (value_or cause.NoLink o) (λ ends. o ≡ Some ends)
-exists o = grind arith
+exists : (lengths : List Lengths) (link : ℕ) → IfOk (existing lengths link) (λ ends. lengths_at lengths link ≡ Some ends)
+exists lengths link = grind arith
 
-is_some_by : (o : Option Lengths) (ends : Lengths) → o ≡ Some ends → IsSome o
-is_some_by o ends is = rw is refl
+there : (lengths : List Lengths) (link : ℕ) → IfOk (existing lengths link) (λ ends. IsSome (lengths_at lengths link))
+there lengths link = grind arith
 
 number_within : (text : List ℕ) → IfOk (number_16 text) (λ n. n ≤ 65535)
 number_within text = grind arith
 
-put_fits : (lengths : List Lengths) (fields : List (List ℕ)) → IfOk (put_line lengths fields) (LineFits lengths)
+pub put_fits : (lengths : List Lengths) (fields : List (List ℕ)) → IfOk (put_line lengths fields) (LineFits lengths)
 put_fits lengths fields =
     each (next_field fields) _ _ (λ link. each (one_field link.1) _ _ (λ digits. each (number_16 link.0) _ _ (λ number.
-    known (existing lengths number) _ _ _ (exists (lengths_at lengths number)) (λ ends is. each (value_or cause.Hex (bytes_said MOST_DATA digits)) _ _ (λ bytes.
+    known (existing lengths number) _ _ _ (exists lengths number) (λ ends is. each (value_or cause.Hex (bytes_said MOST_DATA digits)) _ _ (λ bytes.
     ok_if (length bytes == length_of ends side.Slave) _ cause.Length _
     (λ e. subst (λ (o : Option Lengths). IsSomeAnd o (λ ends. length bytes ≡ length_of ends side.Slave)) (sym is) (eqb-true (length bytes) (length_of ends side.Slave) e)))))))
 
 switch_exists : (lengths : List Lengths) (fields : List (List ℕ)) → IfOk (link_and_switch lengths fields) (λ said. IsSome (lengths_at lengths said.0))
 switch_exists lengths fields =
     each (next_field fields) _ _ (λ link. each (one_field link.1) _ _ (λ switch. each (number_16 link.0) _ _ (λ number. each (value_or cause.Number (switch_of switch)) _ _ (λ on.
-    known (existing lengths number) _ _ _ (exists (lengths_at lengths number)) (λ ends is. is_some_by (lengths_at lengths number) ends is)))))
+    known (existing lengths number) _ _ _ (there lengths number) (λ ends some. some)))))
 
 local_fits : (lengths : List Lengths) (fields : List (List ℕ)) → IfOk (local_line lengths fields) (LineFits lengths)
 local_fits lengths fields =
-    each (one_field fields) _ _ (λ link. each (number_16 link) _ _ (λ number.
-    known (existing lengths number) _ _ _ (exists (lengths_at lengths number)) (λ ends is. is_some_by (lengths_at lengths number) ends is)))
+    each (one_field fields) _ _ (λ link. each (number_16 link) _ _ (λ number. known (existing lengths number) _ _ _ (there lengths number) (λ ends some. some)))
 
-nonce_fits : (lengths : List Lengths) (fields : List (List ℕ)) → IfOk (nonce_line lengths fields) (LineFits lengths)
+pub nonce_fits : (lengths : List Lengths) (fields : List (List ℕ)) → IfOk (nonce_line lengths fields) (LineFits lengths)
 nonce_fits lengths fields =
     each (next_field fields) _ _ (λ link. each (next_field link.1) _ _ (λ letter. each (one_field letter.1) _ _ (λ digits. each (number_16 link.0) _ _ (λ number.
-    each (value_or cause.Number (end_of_letter letter.0)) _ _ (λ end. known (number_16 digits) _ _ _ (number_within digits) (λ id few.
-    known (existing lengths number) _ _ _ (exists (lengths_at lengths number)) (λ ends is. (is_some_by (lengths_at lengths number) ends is, few))))))))
+    each (value_or cause.Number (end_of_letter letter.0)) _ _ (λ end. known (number_16 digits) _ _ _ (number_within digits) (λ id few. known (existing lengths number) _ _ _ (there lengths number) (λ ends some. (some, few))))))))
 
 said_fits : (lengths : List Lengths) (said : Option PlantWord) (fields : List (List ℕ)) → IfOk (plant_said lengths said fields) (LineFits lengths)
 said_fits lengths None fields = tt

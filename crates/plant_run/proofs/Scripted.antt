@@ -1,5 +1,5 @@
 -- What a plant reports of its script, as far as it ran.
-use Rattle.plant_run.proofs.Common.{Act, Beginning, Ended, EndsReport, IsPast, IsPrefix, JournalStep, LinkConf, Named, None, Option, Parcel, PlantLine, PlantReports, PlantView, ReportsSoFar, RunCloses, RunStands, Said, Script, ScriptHeading, Start, Terms, append-nil, bound_lines, input_stopped, is_tick, journal, journal_after, last_lines, lengths_in, line_said, line_step, plant_reporting, pulls_after, report_end, report_text, run_stop, said, said_in, script_format, tick_lines, ticks_text, with_line}
+use Rattle.plant_run.proofs.Common.{Act, Beginning, Ended, EndsReport, IsPast, IsPrefix, JournalStep, LinkConf, Named, None, Option, Parcel, PlantLine, PlantReports, PlantView, ReactionView, ReportsSoFar, RunCloses, RunStands, Said, Script, ScriptHeading, Start, Terms, Told, append-nil, bound_lines, input_stopped, is_tick, journal, journal_after, last_lines, lengths_in, line_said, line_step, plant_reporting, pulls_after, report_end, report_text, run_stop, said, said_in, script_format, tick_lines, ticks_text, with_line}
 use Rattle.schedule_file.specs.Input.{AtEnd, NoApp, Refused, Stop, input_read}
 use Rattle.std.proofs.Common.{◌≡◌, ℕ, ◌+◌, Bool, true, false, List, [], ◌∷◌, ◌++◌, length, map, if◌then◌else◌, refl, sym, ap, subst, ◌∙◌, append_assoc, eq-eqb}
 use Rattle.plant_run.proofs.TicksText.{after_line, text_after}
@@ -63,9 +63,9 @@ pub some_plant_report : (t : Terms) (bytes : List ℕ) → (report : List ℕ) �
 some_plant_report t bytes = some_report t (input_read (script_format (map lengths_in t.begins.links)) bytes)
 
 -- what stands for some lines reports them with this end
-reports_stopped : (t : Terms) (v : PlantView) (left : List Named) (h : ScriptHeading) (log : List PlantLine) (text : List ℕ) (lines : ℕ) (stop : Stop) (k : RunStands t v left h log text)
+reports_stopped : (t : Terms) (v : PlantView) (reactions : List ReactionView) (left : List Named) (before after : Told) (count : ℕ) (h : ScriptHeading) (log : List PlantLine) (text : List ℕ) (lines : ℕ) (stop : Stop) (k : RunStands t v reactions left before after count h log text)
     → PlantReports t (input_stopped h lines log stop) (report_end t.begins.links v.journal stop) (text ++ last_lines t.begins.links v.journal (bound_lines t.begins k.acts t.bounds) stop)
-reports_stopped t v left h log text lines stop k =
+reports_stopped t v reactions left before after count h log text lines stop k =
     let links : List LinkConf = t.begins.links in
     let steps : List JournalStep = journal t.begins k.acts in
     let same : v.journal ≡ steps = k.stands.has_done.journal_is in
@@ -81,8 +81,8 @@ reports_stopped t v left h log text lines stop k =
     )
 
 -- the lines so far begin the report, and with a last line they are that of a script that stops after them
-pub plant_so_far : (t : Terms) (v : PlantView) (left : List Named) (h : ScriptHeading) (log : List PlantLine) (text : List ℕ) → RunStands t v left h log text → ReportsSoFar (plant_reporting t) h log text
-plant_so_far t v left h log text k = record {
+pub plant_so_far : (t : Terms) (v : PlantView) (reactions : List ReactionView) (left : List Named) (before after : Told) (count : ℕ) (h : ScriptHeading) (log : List PlantLine) (text : List ℕ) → RunStands t v reactions left before after count h log text → ReportsSoFar (plant_reporting t) h log text
+plant_so_far t v reactions left before after count h log text k = record {
   begins = λ lines more stop.
       let script : Script = input_stopped h lines (log ++ more) stop in
       let links : List LinkConf = t.begins.links in
@@ -107,11 +107,11 @@ plant_so_far t v left h log text k = record {
               ∙ ap (λ (z : List ℕ). z ++ (begun.0 ++ last)) (sym (k.text_is ∙ ap (ticks_text links) k.stands.has_done.journal_is)),
         ),
       );
-  refused = λ lines number why. reports_stopped t v left h log text lines (Refused number why) k;
+  refused = λ lines number why. reports_stopped t v reactions left before after count h log text lines (Refused number why) k;
 }
 
 -- the whole report
-pub plant_ends : (t : Terms) (v : PlantView) (left : List Named) (h : ScriptHeading) (log : List PlantLine) (text : List ℕ) (ended : Ended) → RunCloses t v left h log text ended → EndsReport (plant_reporting t) h log text ended
-plant_ends t v left h log text ended c = λ lines.
+pub plant_ends : (t : Terms) (v : PlantView) (reactions : List ReactionView) (left : List Named) (before after : Told) (h : ScriptHeading) (log : List PlantLine) (text : List ℕ) (ended : Ended) → RunCloses t v reactions left before after h log text ended → EndsReport (plant_reporting t) h log text ended
+plant_ends t v reactions left before after h log text ended c = λ lines.
     subst (λ (x : Ended). PlantReports t (input_stopped h lines log AtEnd) x text) (sym c.ended_is)
-    (subst (λ (z : List ℕ). PlantReports t (input_stopped h lines log AtEnd) (report_end t.begins.links v.journal AtEnd) z) (sym c.text_is) (reports_stopped t v left h log c.ticks lines AtEnd c.stands))
+    (subst (λ (z : List ℕ). PlantReports t (input_stopped h lines log AtEnd) (report_end t.begins.links v.journal AtEnd) z) (sym c.text_is) (reports_stopped t v reactions left before after c.count h log c.ticks lines AtEnd c.stands))

@@ -1,6 +1,7 @@
 -- The lines of the ticks of a journal that grows by a line of the script.
-use Rattle.plant_run.proofs.Common.{Act, Beginning, Happen, JournalStep, LinkConf, Parcel, PullFrom, Said, append-nil, in_tick, is_line, is_tick, journal, line_step, line_steps, lines_append, lines_due, lines_from, no_lines_by, no_lines_pulled, offers, tick_lines, ticks_text, with_line}
+use Rattle.plant_run.proofs.Common.{Act, Beginning, Happen, JournalStep, LinkConf, Parcel, PullFrom, Said, append-nil, in_tick, is_line, is_tick, journal, line_step, line_steps, lines_due, lines_from, no_lines_by, no_lines_pulled, offers, tick_lines, ticks_text, with_line}
 use Rattle.std.proofs.Common.{◌≡◌, ℕ, Bool, true, false, List, [], ◌∷◌, ◌++◌, Option, Some, None, if◌then◌else◌, refl, sym, ap, ◌∙◌, append_assoc, arith, rules}
+use Rattle.std.proofs.lemmas.List.Elements.{filter-append}
 use Rattle.plant_model.specs.declared.journal.JournalStep.TheVariants as step
 
 -- the lines go on after a line of the script
@@ -66,7 +67,7 @@ after_more b said old (Some parcel) done a =
     record {
       rest = a.rest ++ more;
       is = ap (λ (z : List JournalStep). z ++ more) a.is ∙ append_assoc old (line_step said ∷ a.rest) more;
-      none = lines_append a.rest more ∙ ap (λ (z : List JournalStep). z ++ line_steps more) a.none ∙ no_lines_pulled b parcel done;
+      none = filter-append is_line a.rest more ∙ ap (λ (z : List JournalStep). z ++ line_steps more) a.none ∙ no_lines_pulled b parcel done;
     }
 
 -- the acts at a line

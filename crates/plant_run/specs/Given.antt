@@ -1,27 +1,16 @@
--- What a plant is run with, and what it means that it runs. Acts are listed newest first, the lines of a script oldest
--- first.
-use Rattle.std.specs.Prelude.{◌≡◌, ◌≤◌, ◌-◌, ℕ, zero, suc, All, List, [], drop, length, map, string_bytes}
-use Rattle.black_channel.specs.Told.{Told}
+-- What a plant is run with, and the lines of its report that wait.
+use Rattle.std.specs.Prelude.{ℕ, zero, suc, ◌-◌, List, [], drop, map, string_bytes}
 use Rattle.fb_net.specs.declared.kind_of.EntryOf.{EntryOf}
 use Rattle.fb_net.specs.declared.kind_of.KindOf.{KindOf}
 use Rattle.fb_net.specs.declared.kind_of.KindOf.TheVariants as kind
 use Rattle.plant_conf.specs.ConfView.{ConfView}
-use Rattle.plant_conf.specs.Kept.{HasSameLengths}
 use Rattle.plant_conf.specs.declared.conf.LinkConf.{LinkConf}
 use Rattle.multi_master.specs.Calls.{AppView}
-use Rattle.plant_model.specs.Acts.{begins_with, uses}
-use Rattle.plant_core.specs.Making.{links_made}
-use Rattle.plant_model.specs.Pair.{ticks}
+use Rattle.plant_model.specs.Acts.{begins_with}
 use Rattle.plant_model.specs.PlantReport.{link_lines}
 use Rattle.plant_run.specs.Reporting.{Terms}
-use Rattle.fsoe_io.specs.declared.status.Ended.{Ended}
-use Rattle.plant_run.specs.Running.{RunCloses, RunStands}
-use Rattle.plant_run.specs.Script.{ScriptHeading}
-use Rattle.plant_core.specs.Standing.{PlantView, fixed_in}
 use Rattle.plant_model.specs.Past.{Named}
-use Rattle.plant_model.specs.Uses.{Trace}
-use Rattle.plant_run.specs.Watching.{bounds_waiting, reactions_after}
-use Rattle.plant_model.specs.declared.event.PlantLine.{PlantLine}
+use Rattle.plant_run.specs.Watching.{bounds_waiting}
 use Rattle.plant_model.specs.declared.journal.JournalStep.{JournalStep}
 use Rattle.plant_run.specs.declared.machine.Rest.{Rest}
 use Rattle.plant_run.specs.declared.machine.Rest.TheVariants as rest
@@ -59,19 +48,3 @@ abbrev pub rest_left : Rest → ℕ
 rest_left rest.Nothing = 0
 rest_left (rest.Links next) = lines_left next
 rest_left (rest.Bounds next) = 16 - next
-
--- a plant that is run with these terms runs: it stands for these lines, of the applications that its script may take
--- these are left, its channel was used as that says, it had so many ticks, and these are the reactions of its bounds
-pub record GivenStands {H : Type 0} (view : KindOf H → AppView) (t : Terms) (v : PlantView) (reactions : List ReactionView) (left : List (EntryOf H)) (before after : Told) (count : ℕ) (h : ScriptHeading) (log : List PlantLine) (text : List ℕ) : Type 0 where
-  pub runs : RunStands t v (map (named view) left) h log text
-  pub channel : Trace (uses t.begins runs.acts) before after
-  pub fixed : fixed_in v.links ≡ fixed_in (links_made 1 t.bounds t.begins.links)
-  pub watched : reactions ≡ reactions_after t.begins runs.acts t.bounds
-  pub same_lengths : All HasSameLengths t.begins.links
-  pub counted : count ≡ ticks v.journal
-  pub few : count ≤ length log
-
--- it did all lines of a script, of whose report this is the text, and the run ends so
-pub record GivenCloses {H : Type 0} (view : KindOf H → AppView) (t : Terms) (v : PlantView) (reactions : List ReactionView) (left : List (EntryOf H)) (h : ScriptHeading) (log : List PlantLine) (text : List ℕ) (ended : Ended) : Type 0 where
-  pub closes : RunCloses t v (map (named view) left) h log text ended
-  pub watched : reactions ≡ reactions_after t.begins closes.stands.acts t.bounds

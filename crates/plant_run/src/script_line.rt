@@ -1,16 +1,15 @@
 //! What a line of a plant's script means.
-ghost use Rattle.std.specs.Prelude.{◌≡◌, ◌≤◌, List, length, Some, IfOk, IsSome};
-ghost use Rattle.fsoe_base.specs.declared.lengths.Lengths.{Lengths};
+ghost use Rattle.std.specs.Prelude.{◌≡◌, ◌≤◌, length, IfOk};
 ghost use Rattle.schedule_file.specs.declared.line_buf.TheConstants.{MAX_LINE};
 ghost use Rattle.schedule_file.specs.FieldsRead.{fields_after};
 ghost use Rattle.plant_run.specs.ScriptLine.{plant_word_of, end_of_letter, existing, bare_line, app_line, put_line, link_and_switch, hold_line, cut_line, local_line, nonce_line, plant_line};
-ghost use Rattle.plant_run.specs.Running.{IsExisting, FieldsFit, LineFits};
-ghost use Rattle.plant_model.specs.Fits.{lengths_at};
+ghost use Rattle.plant_run.specs.Running.{FieldsFit, LineFits};
 
 use fsoe_base::{End, Image, Lengths, MOST_DATA};
 use plant_model::{PlantEvent, PlantLine};
 use schedule_file::{
-    HexBytes, LineBuf, LineCause, cut, next_field, no_field, number_16, one_field, read_switch,
+    HexBytes, LineBuf, LineCause, cut, find_word, next_field, no_field, number_16, one_field,
+    read_switch,
 };
 
 /// The first field of a line.
@@ -26,29 +25,23 @@ enum PlantWord {
     End,
 }
 
+/// The words of lines.
+const WORDS: [(&[u8], PlantWord); 8] = [
+    (b"t", PlantWord::Tick),
+    (b"p", PlantWord::Put),
+    (b"h", PlantWord::Hold),
+    (b"z", PlantWord::Local),
+    (b"n", PlantWord::Nonce),
+    (b"cut", PlantWord::Cut),
+    (b"app", PlantWord::App),
+    (b"end", PlantWord::End),
+];
+
 /// The word that begins a line.
 fn read_plant_word(text: &[u8]) -> Option<PlantWord>
     ensures { result ≡ plant_word_of text.now }
 {
-    if text == b"t".as_slice() {
-        Some(PlantWord::Tick)
-    } else if text == b"p".as_slice() {
-        Some(PlantWord::Put)
-    } else if text == b"h".as_slice() {
-        Some(PlantWord::Hold)
-    } else if text == b"z".as_slice() {
-        Some(PlantWord::Local)
-    } else if text == b"n".as_slice() {
-        Some(PlantWord::Nonce)
-    } else if text == b"cut".as_slice() {
-        Some(PlantWord::Cut)
-    } else if text == b"app".as_slice() {
-        Some(PlantWord::App)
-    } else if text == b"end".as_slice() {
-        Some(PlantWord::End)
-    } else {
-        None
-    }
+    find_word(&WORDS, text)
 }
 
 /// The end that a letter names.
@@ -65,20 +58,21 @@ fn read_end_letter(text: &[u8]) -> Option<End>
 }
 
 /// The lengths of the connection with this number, from 1. `NoLink` where there is none.
-fn existing(lengths: &[Lengths], link: u16) -> Result<&Lengths, LineCause>
-    ensures value { IsExisting result (existing lengths.now link) }
-    ensures exists { IfOk result (λ ends. lengths_at lengths.now link ≡ Some ends.now) }
+fn existing(lengths: &[Lengths], link: u16) -> Result<Lengths, LineCause>
+    ensures { result ≡ existing lengths.now link }
 {
     if link == 0 {
         return Err(LineCause::NoLink);
     }
-    lengths.get(usize::from(link) - 1).ok_or(LineCause::NoLink)
+    lengths
+        .get(usize::from(link) - 1)
+        .copied()
+        .ok_or(LineCause::NoLink)
 }
 
 /// `<connection> <hex>`: safe data bytes, as many as the slave sends.
 fn read_put(fields: Option<&[u8]>, lengths: &[Lengths]) -> Result<PlantLine, LineCause>
-    ensures value { result ≡ put_line lengths.now (fields_after fields.entry) }
-    ensures fits { IfOk result (LineFits lengths.now) }
+    ensures { result ≡ put_line lengths.now (fields_after fields.entry) }
 {
     let (link, rest) = next_field(fields)?;
     let digits = one_field(rest)?;
@@ -98,8 +92,7 @@ fn read_link_and_switch(
     fields: Option<&[u8]>,
     lengths: &[Lengths],
 ) -> Result<(u16, bool), LineCause>
-    ensures value { result ≡ link_and_switch lengths.now (fields_after fields.entry) }
-    ensures exists { IfOk result (λ said. IsSome (lengths_at lengths.now said.0)) }
+    ensures { result ≡ link_and_switch lengths.now (fields_after fields.entry) }
 {
     let (link, rest) = next_field(fields)?;
     let switch = one_field(rest)?;
@@ -111,8 +104,7 @@ fn read_link_and_switch(
 
 /// The same: fail-safe data of a slave, off or on.
 fn read_hold(fields: Option<&[u8]>, lengths: &[Lengths]) -> Result<PlantLine, LineCause>
-    ensures value { result ≡ hold_line lengths.now (fields_after fields.entry) }
-    ensures fits { IfOk result (LineFits lengths.now) }
+    ensures { result ≡ hold_line lengths.now (fields_after fields.entry) }
 {
     let (link, failsafe) = read_link_and_switch(fields, lengths)?;
     Ok(PlantLine::Step(PlantEvent::Hold { link, failsafe }))
@@ -120,8 +112,7 @@ fn read_hold(fields: Option<&[u8]>, lengths: &[Lengths]) -> Result<PlantLine, Li
 
 /// The same: whether a connection is cut.
 fn read_cut(fields: Option<&[u8]>, lengths: &[Lengths]) -> Result<PlantLine, LineCause>
-    ensures value { result ≡ cut_line lengths.now (fields_after fields.entry) }
-    ensures fits { IfOk result (LineFits lengths.now) }
+    ensures { result ≡ cut_line lengths.now (fields_after fields.entry) }
 {
     let (link, cut) = read_link_and_switch(fields, lengths)?;
     Ok(PlantLine::Step(PlantEvent::Cut { link, cut }))
@@ -129,8 +120,7 @@ fn read_cut(fields: Option<&[u8]>, lengths: &[Lengths]) -> Result<PlantLine, Lin
 
 /// `<connection>`: a local reset of its slave.
 fn read_local(fields: Option<&[u8]>, lengths: &[Lengths]) -> Result<PlantLine, LineCause>
-    ensures value { result ≡ local_line lengths.now (fields_after fields.entry) }
-    ensures fits { IfOk result (LineFits lengths.now) }
+    ensures { result ≡ local_line lengths.now (fields_after fields.entry) }
 {
     let link = one_field(fields)?;
     let link = number_16(link)?;
@@ -140,8 +130,7 @@ fn read_local(fields: Option<&[u8]>, lengths: &[Lengths]) -> Result<PlantLine, L
 
 /// `<connection> m <id>` or `<connection> s <id>`: a session id of the master or of the slave.
 fn read_nonce(fields: Option<&[u8]>, lengths: &[Lengths]) -> Result<PlantLine, LineCause>
-    ensures value { result ≡ nonce_line lengths.now (fields_after fields.entry) }
-    ensures fits { IfOk result (LineFits lengths.now) }
+    ensures { result ≡ nonce_line lengths.now (fields_after fields.entry) }
 {
     let (link, rest) = next_field(fields)?;
     let (letter, rest) = next_field(rest)?;
@@ -155,8 +144,7 @@ fn read_nonce(fields: Option<&[u8]>, lengths: &[Lengths]) -> Result<PlantLine, L
 
 /// No field: a word means this by itself.
 fn read_bare(fields: Option<&[u8]>, says: PlantLine) -> Result<PlantLine, LineCause>
-    ensures value { result ≡ bare_line says (fields_after fields.entry) }
-    ensures says { IfOk result (λ said. said ≡ says) }
+    ensures { result ≡ bare_line says (fields_after fields.entry) }
 {
     no_field(fields)?;
     Ok(says)
@@ -166,8 +154,7 @@ fn read_bare(fields: Option<&[u8]>, says: PlantLine) -> Result<PlantLine, LineCa
 #[tactic(auto, using(crate::proofs::Names::one_fits))]
 fn read_app(fields: Option<&[u8]>) -> Result<PlantLine, LineCause>
     requires { FieldsFit (fields_after fields) }
-    ensures value { result ≡ app_line (fields_after fields.entry) }
-    ensures fits { (lengths : List Lengths) → IfOk result (LineFits lengths) }
+    ensures { result ≡ app_line (fields_after fields.entry) }
 {
     let field = one_field(fields)?;
     let mut name = LineBuf::new();
@@ -181,7 +168,7 @@ fn read_app(fields: Option<&[u8]>) -> Result<PlantLine, LineCause>
 /// - `p <k> <hex>`: data of slave `k`, exactly as many bytes as it sends; `h <k> 0`, `h <k> 1`: its fail-safe data off,
 ///   on;
 /// - `n <k> m <id>`, `n <k> s <id>`: a session id of 16 bits of the master or the slave of connection `k`.
-#[tactic(auto, using(crate::proofs::Names::fields_fit))]
+#[tactic(auto, using(crate::proofs::Names::fields_fit, crate::proofs::ScriptFits::put_fits, crate::proofs::ScriptFits::nonce_fits))]
 pub fn read_plant_event(line: &[u8], lengths: &[Lengths]) -> Result<PlantLine, LineCause>
     requires most { length line.now ≤ MAX_LINE }
     ensures value { result ≡ plant_line lengths.now line.now }

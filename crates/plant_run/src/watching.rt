@@ -47,9 +47,8 @@ pub(crate) fn reactions_made(
 ) -> Result<Vec<Reaction>, Memory>
     ensures { IfOk result (λ made. made.items ≡ reactions_by links.now (λ bound. []) bounds.now) }
 {
-    let mut made = match Vec::with_capacity(alloc, bounds.len()) {
-        Ok(made) => made,
-        Err(_) => return Err(Memory),
+    let Ok(mut made) = Vec::with_capacity(alloc, bounds.len()) else {
+        return Err(Memory);
     };
     for i in 0..bounds.len() {
         if made
@@ -83,22 +82,6 @@ fn hear_one<A: Application>(
     }
 }
 
-/// Updates each reaction of these bounds after a line of the script.
-fn hear_each<A: Application>(
-    plant: &Plant<A>,
-    bounds: &[BoundSpec],
-    tick: bool,
-    reactions: &mut [Reaction],
-)
-    requires { CanHear reactions.old bounds.now }
-    ensures hears { HearsLine (seen A.rule A.holds A.guards plant.now) bounds.now tick reactions.old reactions.new }
-    ensures count { length reactions.new ≡ length reactions.old }
-{
-    for i in 0..bounds.len() {
-        hear_one(plant, &bounds[i], tick, &mut reactions[i]);
-    }
-}
-
 /// Updates the reactions of these bounds after a line of the script, which may be a tick. The plant did it.
 pub(crate) fn hear<A: Application>(
     plant: &Plant<A>,
@@ -109,7 +92,10 @@ pub(crate) fn hear<A: Application>(
     requires { CanHear reactions.old.items bounds.now }
     ensures { HearsLine (seen A.rule A.holds A.guards plant.now) bounds.now tick reactions.old.items reactions.new.items }
 {
-    hear_each(plant, bounds, tick, reactions.as_mut_slice());
+    let told = reactions.as_mut_slice();
+    for i in 0..bounds.len() {
+        hear_one(plant, &bounds[i], tick, &mut told[i]);
+    }
 }
 
 /// Appends the connection of a bit, and its number there.

@@ -10,7 +10,7 @@ pub returns-clause-stands : goal.returns-clause-stands
 returns-clause-stands g c = (
   (refl, refl),
   refl,
-  begun _ c.args.given.now.conf.now c.args.given.now.plant.now.master.app c.args.given.now.spare.now.items _ _ _ _ c.args.arg1.now c.in_ok-begin.ensures.starts c.in_ok-begin.ensures.fixed
+  begun _ _ _ _ _ c.args.arg1.now c.in_ok-begin.ensures.starts c.in_ok-begin.ensures.fixed
       (first_heard _ _ _ _ _ c.in_ok-begin.ensures.starts.stands (rw c.bounds-bounds.ensures.value at c.hear.ensures) (rw (c.links.ensures.value, c.bounds-bounds.ensures.value) at c.in_ok-reactions.ensures))
       c.in_ok-begin.ensures.same_lengths c.requires.kind,
 )

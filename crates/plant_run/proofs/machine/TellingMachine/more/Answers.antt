@@ -19,14 +19,14 @@ pub returns-in-Links-clause-part : goal.returns-in-Links-clause-part
 returns-in-Links-clause-part g c =
     let stands = c.requires.1.3 in
     ap (λ r. rest_in r c.args.given.now.conf.now c.args.given.now.plant.now.journal c.args.given.now.reactions.now.items) c.in-Links.is
-    ∙ part_shown _ _ _ c.in-Links.link _ c.write_link.new.text stands.2.runs.stands (ap (λ conf. conf.now.links) stands.1) c.if-link-gt0.true c.write_link.ensures
+    ∙ part_shown _ _ _ c.in-Links.link _ c.write_link.new.text stands.2.stands (ap (λ conf. conf.now.links) stands.1) c.if-link-gt0.true c.write_link.ensures
 
 pub returns-else-link-links-clause-some : goal.returns-else-link-links-clause-some
 returns-else-link-links-clause-some g c = λ empty.
     let stands = c.requires.1.3 in
     let past : c.links.result < c.in-Links.link = omega (arith, c.if-link-links.false) in
     ap (λ r. rest_in r c.args.given.now.conf.now c.args.given.now.plant.now.journal c.args.given.now.reactions.now.items) c.in-Links.is
-    ∙ links_done _ _ _ _ _ _ _ _ _ _ _ c.in-Links.link c.links.result _ stands.2 (ap (λ conf. conf.now.links) stands.1) c.links.ensures.count past
+    ∙ links_done _ _ _ _ _ _ _ _ _ _ c.in-Links.link c.links.result _ stands.2 (ap (λ conf. conf.now.links) stands.1) c.links.ensures.count past
 
 pub returns-in-Bounds-clause-part : goal.returns-in-Bounds-clause-part
 returns-in-Bounds-clause-part g c =
@@ -45,5 +45,5 @@ returns-in-Bounds-clause-part g c =
     let there = slice_get_read reactions.items _ place c.index.result.now refl (omega arith) c.index.ensures in
     let number : place + 1 ≡ suc place = omega arith in
     ap (λ r. rest_in r conf c.args.given.now.plant.now.journal reactions.items) c.in-Bounds.is
-    ∙ bound_part _ _ _ conf reactions.items place (place + 1) bound c.index.result.now c.limit_of-limit.result c.broken-broken.result c.write_bound.new.text stands.2.runs.stands (ap (λ conf. conf.now.links) stands.1) watched at there
+    ∙ bound_part _ _ _ conf reactions.items place (place + 1) bound c.index.result.now c.limit_of-limit.result c.broken-broken.result c.write_bound.new.text stands.2.stands (ap (λ conf. conf.now.links) stands.1) watched at there
     c.write_bound.ensures (c.limit_of-limit.ensures ∙ ap (λ (ls : List LinkConf). limit_of ls bound) c.links-in-Bounds.ensures.value) c.broken-broken.ensures number

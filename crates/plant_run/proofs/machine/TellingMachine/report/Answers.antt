@@ -1,27 +1,29 @@
 use Rattle.plant_run.proofs.Common.{err_from_is_err_and, waiting}
 use Rattle.std.proofs.Common.{◌++◌, ap, ap₂, arith, refl, sym, ◌∙◌}
+use Rattle.fb_net.specs.contracts.kind_of.KindOfApplication.TheImpl.{ghosts, no_dict}
+use Rattle.multi_master.specs.Standing.{app_view}
 use Rattle.plant_model.specs.declared.event.PlantLine.TheVariants as line
 use Rattle.plant_model.specs.declared.event.PlantEvent.TheVariants as event
 use Rattle.plant_run.proofs.Hearing.{can_hear, heard_same}
-use Rattle.plant_run.proofs.NextLine.{app_stopped, goes_step, nothing_at, nothing_written, same_count, step_fits, takes_app}
+use Rattle.plant_run.proofs.NextLine.{app_stopped, goes_on, nothing_at, nothing_written, same_count, says_app, step_fits}
 use Rattle.plant_run.proofs.machine.TellingMachine.report.Goals as goal
 
 pub step-requires : goal.step-requires
-step-requires g c = record { fits = step_fits _ _ _ _ _ _ _ _ _ _ _ c.in-Step.event c.requires.1.stands.2 (rw c.in-Step.is at c.requires.1.said) }
+step-requires g c = record { fits = step_fits _ _ _ _ _ _ _ _ _ _ c.in-Step.event c.requires.1.stands.2 (rw c.in-Step.is at c.requires.1.said) }
 
 pub hear-requires : goal.hear-requires
-hear-requires g c = can_hear _ _ _ _ _ _ _ _ _ _ _ _ c.requires.1.stands.2 (omega (arith, c.requires.1.number_is, c.requires.1.few)) (sym (c.bounds-bounds.ensures.value ∙ ap (λ conf. conf.now.bounds) c.requires.1.stands.1))
+hear-requires g c = can_hear _ _ _ _ _ _ _ _ _ _ _ c.requires.1.stands.2 (omega (arith, c.requires.1.number_is, c.requires.1.few)) (sym (c.bounds-bounds.ensures.value ∙ ap (λ conf. conf.now.bounds) c.requires.1.stands.1))
 
 pub hear-requires-in-App : goal.hear-requires-in-App
-hear-requires-in-App g c = can_hear _ _ _ _ _ _ _ _ _ _ _ _ c.requires.1.stands.2 (omega (arith, c.requires.1.number_is, c.requires.1.few)) (sym (c.bounds-bounds.ensures.value ∙ ap (λ conf. conf.now.bounds) c.requires.1.stands.1))
+hear-requires-in-App g c = can_hear _ _ _ _ _ _ _ _ _ _ _ c.requires.1.stands.2 (omega (arith, c.requires.1.number_is, c.requires.1.few)) (sym (c.bounds-bounds.ensures.value ∙ ap (λ conf. conf.now.bounds) c.requires.1.stands.1))
 
 pub returns-in-Tick-clause-takes_event : goal.returns-in-Tick-clause-takes_event
 returns-in-Tick-clause-takes_event g c = λ first. record {
   takes = λ h log text number stands. (
     stands.0,
     stands.1,
-    goes_step _ _ _ _ _ _ _ _ _ _ _ _ h log text _ c.args.event.now event.Tick (c.in-Step.is ∙ ap line.Step c.in-Tick.is) stands.2 (rw c.in-Tick.is at c.in-Ok.ensures.follows) c.step.ensures.fixed
-        (heard_same _ _ _ _ _ _ (c.bounds-bounds.ensures.value ∙ ap (λ conf. conf.now.bounds) stands.1) (rw (c.is_tick.ensures, c.in-Tick.is) at c.hear.ensures)) refl
+    goes_on _ _ _ _ _ _ _ _ _ _ _ _ h log text _ c.args.event.now (line.Step event.Tick) _ (c.in-Step.is ∙ ap line.Step c.in-Tick.is) stands.2 (rw c.in-Tick.is at c.in-Ok.ensures.follows) c.step.ensures.fixed
+        (heard_same _ _ _ _ _ _ (c.bounds-bounds.ensures.value ∙ ap (λ conf. conf.now.bounds) stands.1) (rw (c.is_tick.ensures, c.in-Tick.is) at c.hear.ensures)) (λ more. refl) refl
         (ap₂ (λ text links. text ++ waiting 1 links c.step.new.self.journal) c.write_count.ensures.text (ap (λ conf. conf.now.links) stands.1)),
   );
 }
@@ -31,8 +33,8 @@ returns-in_default-clause-takes_event g c = λ first. record {
   takes = λ h log text number stands. (
     stands.0,
     stands.1,
-    goes_step _ _ _ _ _ _ _ _ _ _ _ _ h log text _ c.args.event.now c.in-Step.event c.in-Step.is stands.2 c.in-Ok.ensures.follows c.step.ensures.fixed
-        (heard_same _ _ _ _ _ _ (c.bounds-bounds.ensures.value ∙ ap (λ conf. conf.now.bounds) stands.1) (rw c.is_tick.ensures at c.hear.ensures)) (same_count c.in-Step.event c.args.self.now.ticks c.in_default.not-Tick)
+    goes_on _ _ _ _ _ _ _ _ _ _ _ _ h log text _ c.args.event.now (line.Step c.in-Step.event) _ c.in-Step.is stands.2 c.in-Ok.ensures.follows c.step.ensures.fixed
+        (heard_same _ _ _ _ _ _ (c.bounds-bounds.ensures.value ∙ ap (λ conf. conf.now.bounds) stands.1) (rw c.is_tick.ensures at c.hear.ensures)) (λ more. refl) (same_count c.in-Step.event c.args.self.now.ticks c.in_default.not-Tick)
         (nothing_at c.in-Step.event c.args.self.now.ticks _ c.step.new.self.journal c.clear.new.self c.in_default.not-Tick c.clear.ensures),
   );
 }
@@ -40,18 +42,20 @@ returns-in_default-clause-takes_event g c = λ first. record {
 pub returns-in_ok-take_spare-in-App-clause-takes_event : goal.returns-in_ok-take_spare-in-App-clause-takes_event
 returns-in_ok-take_spare-in-App-clause-takes_event g c =
     let taken = c.in_ok-take_spare-in-App.ensures.follows in
+    let K = ghosts g.row.H g.H.Application no_dict no_dict in
     λ first. record {
       takes = λ h log text number stands. (
         stands.0,
         stands.1,
-        takes_app _ _ _ _ _ _ _ _ _ _ _ h log text _ c.bytes.result.now c.args.event.now taken.0 (c.in-App.is ∙ ap line.App (sym c.bytes.ensures.value)) stands.2 taken.1 (taken.2 _) c.take_spare.ensures.fixed
-            (heard_same _ _ _ _ _ _ (c.bounds-bounds.ensures.value ∙ ap (λ conf. conf.now.bounds) stands.1) c.hear-in-App.ensures) (nothing_written c.clear.new.self c.clear.ensures),
+        goes_on _ _ _ _ _ _ _ _ _ _ _ _ h log text _ c.args.event.now (line.App c.bytes.result.now) _ (c.in-App.is ∙ ap line.App (sym c.bytes.ensures.value)) stands.2 (taken.2 _) c.take_spare.ensures.fixed
+            (heard_same _ _ _ _ _ _ (c.bounds-bounds.ensures.value ∙ ap (λ conf. conf.now.bounds) stands.1) c.hear-in-App.ensures) (says_app (app_view K.rule K.holds K.guards) c.bytes.result.now _ _ taken.0 taken.1) (omega arith) (nothing_written c.clear.new.self c.clear.ensures),
       );
     }
 
 pub returns-in_err-take_spare-in-App-clause-stopped : goal.returns-in_err-take_spare-in-App-clause-stopped
 returns-in_err-take_spare-in-App-clause-stopped g c =
     let p = err_from_is_err_and c.from_residual.result c.from_residual.ensures.1 in
+    let K = ghosts g.row.H g.H.Application no_dict no_dict in
     rw (p.1, p.2)
     (λ first h log text stands.
-    app_stopped _ _ _ _ _ _ _ _ h log text c.bytes.result.now c.args.event.now _ (c.in-App.is ∙ ap line.App (sym c.bytes.ensures.value)) stands.2 c.in_err-take_spare-in-App.ensures.none)
+    app_stopped (app_view K.rule K.holds K.guards) _ _ _ _ _ _ _ h log text c.bytes.result.now c.args.event.now _ (c.in-App.is ∙ ap line.App (sym c.bytes.ensures.value)) stands.2 c.in_err-take_spare-in-App.ensures.none)
