@@ -1,37 +1,14 @@
--- What the slave or the master of a connection does and what is pushed, and what those of all connections do in a tick.
-use Rattle.plant_core.proofs.Common.{ActedTo, All-head, All-push, All-tail, All-weaker, AllActed, AreNoted, Did, End, Entry, HasAgeParts, HaveParts, IsSomeAnd, Lengths, LinkConf, LinkIs, LinkStands, LinkView, LinksAre, MasterActs, MasterNoted, Move, NotesOne, Placed, SlaveActs, SlaveGoesOn, Told, Trace, Use, append-nil, drop-set-lt, drop_more, each_uses, fixed_in, fixed_of, frames_pushed, get_or_from_slice_get, le-ltb, lengths_at, lengths_kept, lt-ltb, map_set, one_each, one_each_to, place_of, same_length, sent_uses, slice_get-map, slice_get_within, take_all, take_more_set}
-use Rattle.std.proofs.Common.{◌≡◌, ◌≢◌, ◌≤◌, ℕ, zero, suc, ◌+◌, nat_lt, Bool, true, List, [], ◌∷◌, ◌++◌, take, drop, length, slice_get, slice_set, Option, Some, None, option_map, if◌then◌else◌, refl, sym, ap, ap₂, subst, ◌∙◌, append_assoc, arith, rules}
+-- What the slaves and the masters of all connections do in a tick, and what is pushed then.
+use Rattle.plant_core.proofs.Common.{Acted, ActedTo, All-head, All-nil, All-push, All-tail, All-weaker, AllActed, AreNext, AreNoted, Did, EachActs, End, Entry, HasAgeParts, IsSomeAnd, Lengths, LinkConf, LinkIs, LinkStands, LinkView, LinksAre, MasterNoted, MasterTicked, NotesOne, Placed, SlaveActs, SlaveTicks, Told, Trace, Use, append-nil, drop-set-lt, drop_more, each_uses, fixed_in, fixed_of, frames_pushed, get_or_from_slice_get, le-ltb, lengths_at, lengths_kept, lt-ltb, map_set, one_each, one_each_to, place_of, same_length, sent_uses, slice_get-map, slice_get_within, take_all, take_more_set}
+use Rattle.std.proofs.Common.{◌≡◌, ◌≢◌, ◌≤◌, ℕ, zero, suc, ◌+◌, ◌-◌, ◌<◌, ◌^◌, nat_lt, Bool, true, List, [], ◌∷◌, ◌++◌, take, drop, length, slice_get, slice_set, Option, Some, None, option_map, if◌then◌else◌, refl, sym, ap, ap₂, subst, ◌∙◌, append_assoc, arith, rules}
 use Rattle.fsoe_base.specs.declared.command.End.TheVariants as side
+use Rattle.param_load.specs.declared.entry.Move.TheVariants as move
 use Rattle.plant_core.proofs.Linking.{each_at, each_from, each_set, each_count}
 
 -- one trace after another
 pub trace_append : (xs ys : List Use) (a b c : Told) → Trace xs a b → Trace ys b c → Trace (xs ++ ys) a c
 trace_append [] ys a b c t u = subst (λ (z : Told). Trace ys z c) (sym t) u
 trace_append (x ∷ xs) ys a b c t u = (t.0, t.1, trace_append xs ys t.0 b c t.2 u)
-
-pub slave_acts : (k : ℕ) (what : Move) (old new : LinkView) (did : Did) (sent : List ℕ) (before after : Told) → SlaveGoesOn old what did sent new → NotesOne old new
-    → Trace (sent_uses (place_of k side.Master) sent new.cut) before after → SlaveActs k what old new before after
-slave_acts k what old new did sent before after goes notes t = record {
-  acts = λ link w h.
-      let went = goes.goes link w h in
-      record {
-        stands = went.stands;
-        channel = subst (λ (f : List ℕ). Trace (sent_uses (place_of k side.Master) f old.cut) before after) went.sent_is
-            (subst (λ (c : Bool). Trace (sent_uses (place_of k side.Master) sent c) before after) notes.cut t);
-      };
-}
-
-pub master_acts : (k : ℕ) (tick : Bool) (came : List ℕ) (did : Did) (sent : List ℕ) (watchdog : Option ℕ) (old new : LinkView) (before after : Told) → MasterNoted old tick came did sent watchdog new → NotesOne old new
-    → Trace (sent_uses (place_of k side.Slave) sent new.cut) before after → MasterActs k tick came did sent watchdog old new before after
-master_acts k tick came did sent watchdog old new before after noted notes t = record {
-  stands = λ link w x h parts. noted.stands link w x h parts;
-  channel = subst (λ (c : Bool). Trace (sent_uses (place_of k side.Slave) sent c) before after) notes.cut t;
-}
-
--- one connection more did its part
-pub record OneActed (n : ℕ) (to : End) (link : LinkConf) (done : ℕ → LinkConf → List Entry) (next : ℕ → LinkConf → Entry) (old new : LinkView) (before after : Told) : Type 0 where
-  pub stands : LinkStands link new (next n link ∷ done n link)
-  pub channel : Trace (sent_uses (place_of n to) (next n link).sent old.cut) before after
 
 each_take : (uses : ℕ → LinkConf → List Use) (k n i : ℕ) (links : List LinkConf) (link : LinkConf) → slice_get links i ≡ Some link → n ≡ k + i
     → each_uses uses k (take (suc i) links) ≡ each_uses uses k (take i links) ++ uses n link
@@ -65,7 +42,7 @@ acted_here i n done next link v e h = subst (λ (b : Bool). LinkStands link v (i
 
 pub acted_more : (i n : ℕ) (to : End) (links : List LinkConf) (cut : ℕ → Bool) (done : ℕ → LinkConf → List Entry) (next : ℕ → LinkConf → Entry) (vs : List LinkView) (old new : LinkView) (first before after : Told)
     → ActedTo i to links cut done next vs first before → slice_get vs i ≡ Some old → n ≡ suc i
-    → ((link : LinkConf) → slice_get links i ≡ Some link → LinkStands link old (done n link) → OneActed n to link done next old new before after) → new.cut ≡ old.cut
+    → ((link : LinkConf) → slice_get links i ≡ Some link → LinkStands link old (done n link) → Acted n to link (next n link) (done n link) old new before after) → new.cut ≡ old.cut
     → ActedTo n to links cut done next (slice_set vs i new) first after
 acted_more i n to links cut done next vs old new first before after h at e acts cut_is =
     let beside = each_at (LinkIs cut (one_each_to i next done)) 1 links vs i n old h.kept at (omega arith) in
@@ -135,10 +112,60 @@ kept_fits vs n place v len p h =
 pub same_count : (xs ys : List LinkView) → fixed_in xs ≡ fixed_in ys → length xs ≡ length ys
 same_count xs ys h = same_length fixed_of fixed_of xs ys h
 
--- the entry of a master that was told with its parts
-pub master_one : (i n : ℕ) (links : List LinkConf) (done : ℕ → LinkConf → List Entry) (next : ℕ → LinkConf → Entry) (dids : List Did) (frames : List (List ℕ)) (link : LinkConf) (did : Did) (sent : List ℕ) (old new : LinkView) (before after : Told)
-    → n ≡ suc i → HaveParts links next dids frames → slice_get links i ≡ Some link → slice_get dids i ≡ Some did → slice_get frames i ≡ Some sent → MasterActs n true [] did sent None old new before after
-    → LinkStands link old (done n link) → OneActed n side.Slave link done next old new before after
-master_one i n links done next dids frames link did sent old new before after e parts is did_at out_at acts h =
-    let own : HasAgeParts (next n link) side.Master true [] did sent None = subst (λ (k : ℕ). HasAgeParts (next k link) side.Master true [] did sent None) (sym e) (parts.each i link did sent is did_at out_at) in
-    assumption (acts.stands link (done n link) (next n link) h own, subst (λ (f : List ℕ). Trace (sent_uses (place_of n side.Slave) f old.cut) before after) (sym own.parts.sent_is) acts.channel)
+-- so each connection up to a place acted
+pub record EachTo (i : ℕ) (to : End) (Is : ℕ → LinkConf → List Entry → Entry → Type 0) (old new : List LinkView) (before after : Told) : Type 0 where
+  pub acted : (links : List LinkConf) (cut : ℕ → Bool) (done : ℕ → LinkConf → List Entry) (next : ℕ → LinkConf → Entry) → AreNext Is links done next → LinksAre links cut done old
+      → ActedTo i to links cut done next new before after
+  pub noted : (most : ℕ) → AreNoted most old → NotedTo i most new
+  pub fixed : fixed_in new ≡ fixed_in old
+
+pub each_begun : (to : End) (Is : ℕ → LinkConf → List Entry → Entry → Type 0) (vs : List LinkView) (t : Told) → EachTo 0 to Is vs vs t t
+each_begun to Is vs t = record {
+  acted = λ links cut done next are h. acted_none to links cut done next vs t h;
+  noted = λ most h. record { done = All-nil (λ (z : LinkView). z.monitor.noted ≤ most + 1); rest = h };
+  fixed = refl;
+}
+
+pub each_more : (i : ℕ) (to : End) (Is : ℕ → LinkConf → List Entry → Entry → Type 0) (first vs : List LinkView) (old new : LinkView) (start before after : Told) → EachTo i to Is first vs start before → slice_get vs i ≡ Some old
+    → ((link : LinkConf) (w : List Entry) (x : Entry) → LinkStands link old w → Is i link w x → Acted (i + 1) to link x w old new before after) → NotesOne old new → EachTo (i + 1) to Is first (slice_set vs i new) start after
+each_more i to Is first vs old new start before after g at acts one =
+    let number : i + 1 ≡ suc i = omega arith in
+    record {
+      acted = λ links cut done next are h.
+          acted_more i (i + 1) to links cut done next vs old new start before after (g.acted links cut done next are h) at number
+          (λ link is stands. acts link (done (i + 1) link) (next (i + 1) link) stands (subst (λ (n : ℕ). Is i link (done n link) (next n link)) (sym number) (are.each i link is))) one.cut;
+      noted = λ most h. noted_more i most vs old new (g.noted most h) at one.noted;
+      fixed = fixed_set vs i old new at one.fixed ∙ g.fixed;
+    }
+
+pub each_acted : (i : ℕ) (to : End) (Is : ℕ → LinkConf → List Entry → Entry → Type 0) (old new : List LinkView) (before after : Told) → length new ≤ i → EachTo i to Is old new before after → EachActs to Is old new before after
+each_acted i to Is old new before after past g = record {
+  acts = λ links cut done next are h. acted_all i to links cut done next new before after past (g.acted links cut done next are h);
+  noted = λ most h. noted_all i most new past (g.noted most h);
+  fixed = g.fixed;
+}
+
+-- the place that comes next has room for an entry more
+pub next_few : (i : ℕ) (to : End) (Is : ℕ → LinkConf → List Entry → Entry → Type 0) (old new : List LinkView) (before after : Told) (v : LinkView) → EachTo i to Is old new before after → AreNoted (2 ^ 64 - 2) old → slice_get new i ≡ Some v
+    → v.monitor.noted + 1 < 2 ^ 64
+next_few i to Is old new before after v g few at =
+    let le = noted_next i (2 ^ 64 - 2) new v (g.noted (2 ^ 64 - 2) few) at in
+    omega arith
+
+-- a slave that ticks
+pub slave_one : (i n : ℕ) (old new : LinkView) (before after : Told) → SlaveActs n move.Tick old new before after → (link : LinkConf) (w : List Entry) (x : Entry) → LinkStands link old w → SlaveTicks i link w x
+    → Acted n side.Master link x w old new before after
+slave_one i n old new before after acts link w x h is = subst (λ (y : Entry). Acted n side.Master link y w old new before after) (sym is) (acts.acts link w h)
+
+-- the master of connection n has an entry with these parts more, and its frame is pushed
+pub master_acts : (n : ℕ) (tick : Bool) (came : List ℕ) (did : Did) (sent : List ℕ) (watchdog : Option ℕ) (old new : LinkView) (before after : Told) (link : LinkConf) (w : List Entry) (x : Entry) → MasterNoted old tick came did sent watchdog new
+    → Trace (sent_uses (place_of n side.Slave) sent old.cut) before after → LinkStands link old w → HasAgeParts x side.Master tick came did sent watchdog → Acted n side.Slave link x w old new before after
+master_acts n tick came did sent watchdog old new before after link w x noted pushed h parts = record {
+  stands = noted.stands link w x h parts;
+  channel = subst (λ (f : List ℕ). Trace (sent_uses (place_of n side.Slave) f old.cut) before after) (sym parts.parts.sent_is) pushed;
+}
+
+pub master_one : (i n : ℕ) (dids : List Did) (frames : List (List ℕ)) (did : Did) (sent : List ℕ) (old new : LinkView) (before after : Told) → slice_get dids i ≡ Some did → slice_get frames i ≡ Some sent
+    → MasterNoted old true [] did sent None new → Trace (sent_uses (place_of n side.Slave) sent old.cut) before after → (link : LinkConf) (w : List Entry) (x : Entry) → LinkStands link old w → MasterTicked dids frames i link w x
+    → Acted n side.Slave link x w old new before after
+master_one i n dids frames did sent old new before after did_at out_at noted pushed link w x h is = master_acts n true [] did sent None old new before after link w x noted pushed h (is did sent did_at out_at)

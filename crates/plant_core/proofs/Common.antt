@@ -25,13 +25,13 @@ pub use Rattle.param_load.specs.declared.entry.Entry.{Entry}
 pub use Rattle.param_load.specs.declared.entry.Move.{Move}
 pub use Rattle.plant_conf.specs.declared.conf.BoundSpec.{BoundSpec}
 pub use Rattle.plant_conf.specs.declared.conf.LinkConf.{LinkConf}
-pub use Rattle.plant_core.specs.Doing.{ActedTo, AllActed, Delivers, DoesLine, GoesOn, HaveParts, MasterActs, MastersNoted, OffersNoted, Pulls, SlaveActs, SlavesTick, frames_pushed, next_uses, one_each, one_each_to, sees, slave_move}
-pub use Rattle.plant_core.specs.Link.{AgesNote, Fixed, LinkStands, LinkView, MasterNoted, NotesOne, NotesSlave, SlaveGoesOn, fixed_of, new_ages, new_link}
+pub use Rattle.plant_core.specs.Doing.{Acted, ActedTo, AllActed, AreNext, Delivers, Done, DoesLine, EachActs, GoesOn, IsReady, MasterTicked, OffersNoted, Pulls, SlaveActs, SlaveTicks, frames_pushed, one_each, one_each_to, sees, slave_move}
+pub use Rattle.plant_core.specs.Link.{AgesNote, Fixed, LinkStands, LinkView, MasterNoted, NotesOne, NotesSlave, fixed_of, new_ages, new_link}
 pub use Rattle.plant_core.specs.Making.{is_named, links_made, master_in}
 pub use Rattle.plant_core.specs.Standing.{AllNoted, AreNoted, EachLink, Follows, HasDone, HasLink, IsPlant, LinkIs, LinksAre, PlantStands, PlantValue, PlantView, ShowsOn, ShowsPair, ShowsWorst, Starts, TellsOther, TellsStill, fixed_in, kept_at, lengths_kept}
 pub use Rattle.plant_model.proofs.Growing.{IsOne, each_none, each_one, no_entry, not_same, pair_more, pair_one, pair_other, pair_own, pushes_each, sent_in, with_frame}
 pub use Rattle.plant_model.proofs.Masters.{master_with, mastered, offers_by}
-pub use Rattle.plant_model.specs.Acts.{Act, App, Beginning, Event, Happen, PullFrom, Said, Start, all_pushes, call_of, calls, cut_after, delivery_call, event_call, is_cut, journal, line_step, masters, newer, offer_step, offers, push_to, pushes_of, settings, steps_of, uses, uses_after, uses_of}
+pub use Rattle.plant_model.specs.Acts.{Act, App, Beginning, Event, Happen, PullFrom, Said, Start, all_pushes, call_of, calls, delivery_call, is_cut, journal, line_step, masters, newer, offer_step, offers, push_to, pushes_of, settings, steps_of, uses_after, uses_of}
 pub use Rattle.plant_model.specs.Bound.{Reacts, is_guarded, is_off, slave_offers}
 pub use Rattle.plant_model.specs.Fits.{Fits, lengths_at, lengths_in}
 pub use Rattle.plant_model.specs.Gifts.{each_uses, place_of, sent_uses}

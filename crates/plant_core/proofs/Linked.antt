@@ -1,5 +1,5 @@
 -- The slave of a connection and what notes its pair, after a deed of either end.
-use Rattle.plant_core.proofs.Common.{AgesNote, AgesView, Deed, Did, End, Entry, Fixed, HasAgeParts, IfSome, Lengths, LinkConf, LinkStands, LinkView, MasterNoted, Move, NotesOne, NotesParts, NotesSlave, OfSlave, SlaveGoesOn, SlaveIsAfter, SlaveView, deed_in, deeds, delivered, is_some, new_ages, new_link, next_entry, same_end, watchdog_in}
+use Rattle.plant_core.proofs.Common.{AgesNote, AgesView, Deed, Did, End, Entry, Fixed, HasAgeParts, IfSome, Lengths, LinkConf, LinkStands, LinkView, MasterNoted, Move, NotesOne, NotesParts, NotesSlave, OfSlave, SlaveActs, SlaveIsAfter, SlaveView, Told, Trace, deed_in, deeds, delivered, is_some, new_ages, new_link, next_of, place_of, same_end, sent_uses, watchdog_in}
 use Rattle.fsoe_base.specs.declared.did.Took.{Took}
 use Rattle.end_model.specs.Step.{step}
 use Rattle.std.proofs.Common.{◌≡◌, ℕ, ◌+◌, List, [], ◌∷◌, Bool, false, ap, ap₂, refl, sym, subst, Option, if◌then◌else◌, arith}
@@ -7,9 +7,9 @@ use Rattle.fsoe_base.specs.declared.command.Command.TheVariants as command
 use Rattle.fsoe_base.specs.declared.command.End.TheVariants as side
 use Rattle.param_load.specs.declared.slave_settings.SlaveSettings.{SlaveSettings}
 use Rattle.exchange_model.specs.Honest.{is_tick}
+use Rattle.exchange_model.specs.Monitor.{HasParts}
 use Rattle.exchange_model.specs.Monitor as monitor
 use Rattle.reaction_bound.specs.Ages as ages
-use Rattle.slave_core.specs.ViewOf.{view_of}
 use Rattle.slave_core.specs.Standing as slave_core
 
 pub is_new : (link : LinkConf) (aged : Bool) (new : LinkView) → SlaveIsAfter link.slave new.slave [] → new.monitor ≡ monitor.view_of [] → new.ages ≡ new_ages aged → new.cut ≡ false → new ≡ new_link aged link
@@ -28,25 +28,25 @@ ages_noted old new at tick came did sent watchdog x w h k l = grind arith
 pub whatever : (took : Option Took) (watchdog told : Option ℕ) → watchdog ≡ told → IfSome took (λ t. t.command ≡ command.ProcessData → watchdog ≡ told)
 whatever took watchdog told h = grind arith
 
-pub slave_goes : (old new : LinkView) (what : Move) (did : Did) (sent : List ℕ) → slave_core.Follows old.slave what new.slave → slave_core.Answers old.slave what did sent
-    → NotesParts old.monitor side.Slave (delivered what) did sent new.monitor → NotesSlave new.slave old.ages (is_tick what) (delivered what) did sent new.ages → SlaveGoesOn old what did sent new
-slave_goes old new what did sent follows answers noted aged = record {
-  goes = λ link w h.
+pub slave_acts : (k : ℕ) (what : Move) (old new : LinkView) (did : Did) (sent : List ℕ) (before after : Told) → slave_core.Follows old.slave what new.slave → slave_core.Answers old.slave what did sent
+    → NotesParts old.monitor side.Slave (delivered what) did sent new.monitor → NotesSlave new.slave old.ages (is_tick what) (delivered what) did sent new.ages
+    → Trace (sent_uses (place_of k side.Master) sent old.cut) before after → SlaveActs k what old new before after
+slave_acts k what old new did sent before after follows answers noted aged pushed = record {
+  acts = λ link w h.
       let e : List Deed = deeds side.Slave w in
-      let x : Entry = next_entry (OfSlave link.slave) e what in
-      let d : did ≡ (step (OfSlave link.slave) e what).did = answers.did link.slave e h.slave in
-      let s : sent ≡ (step (OfSlave link.slave) e what).sent = answers.sent link.slave e h.slave in
-      let after = follows.is_after link.slave e h.slave in
-      let told : aged.watchdog ≡ watchdog_in x.terms = (aged.shown.shows link.slave (step (OfSlave link.slave) e what ∷ e) after) in
+      let x : Entry = next_of side.Slave what link w in
+      let after_it = follows.is_after link.slave e h.slave in
+      let s = answers.sent link.slave e h.slave in
+      let told : aged.watchdog ≡ watchdog_in x.terms = (aged.shown.shows link.slave (step (OfSlave link.slave) e what ∷ e) after_it) in
+      let parts : HasParts x side.Slave (delivered what) did sent = record { end_is = refl; came_is = refl; did_is = sym (answers.did link.slave e h.slave); sent_is = sym s } in
       record {
         stands = record {
-          slave = after;
-          monitor = (noted.notes x (record { end_is = refl; came_is = refl; did_is = sym d; sent_is = sym s })).notes w h.monitor;
+          slave = after_it;
+          monitor = (noted.notes x parts).notes w h.monitor;
           ages = ages_noted old.ages new.ages side.Slave (is_tick what) (delivered what) did sent aged.watchdog x w aged.noted
-              (record { parts = record { end_is = refl; came_is = refl; did_is = sym d; sent_is = sym s }; tick_is = refl; watchdog_is = whatever x.did.took aged.watchdog (watchdog_in x.terms) told }) h.ages;
+              (record { parts = parts; tick_is = refl; watchdog_is = whatever x.did.took aged.watchdog (watchdog_in x.terms) told }) h.ages;
         };
-        did_is = d;
-        sent_is = s;
+        channel = subst (λ (f : List ℕ). Trace (sent_uses (place_of k side.Master) f old.cut) before after) s pushed;
       };
 }
 

@@ -1,5 +1,5 @@
 -- The offers that a cycle changed, in the journal and at their connections.
-use Rattle.plant_core.proofs.Common.{AllSound, AppView, Call, Connection, End, IfSome, IsOne, IsSound, JournalStep, LinkConf, LinkView, LinksAre, MasterNoted, Meant, MultiView, OffersNoted, ShowsAt, ShowsChanged, StandsFor, append-nil, changed, changed_by, changed_from, connection, frames_of, is_offer, map-append, meant, next_of, nothing, numbers_of, offer_at, offer_step, option_map_or, pair, pairs_by, slice_get-map, take_all, with_frame}
+use Rattle.plant_core.proofs.Common.{AllSound, AppView, Call, Connection, End, IfSome, IsOne, IsSound, JournalStep, LinkConf, LinkView, LinksAre, MasterNoted, Meant, MultiView, OffersNoted, ShowsAt, ShowsChanged, StandsFor, append-nil, changed, changed_by, changed_from, connection, fixed_in, frames_of, is_offer, map-append, meant, next_of, nothing, numbers_of, offer_at, offer_step, option_map_or, pair, pairs_by, slice_get-map, take_all, with_frame}
 use Rattle.std.proofs.Common.{◌≡◌, ◌≤◌, ℕ, zero, suc, ◌+◌, ◌==◌, Bool, true, false, List, [], ◌∷◌, ◌++◌, map, take, length, slice_get, slice_set, Option, Some, None, option_map, if◌then◌else◌, refl, sym, ap, ap₂, subst, ◌∙◌, append_assoc, arith, rules}
 use Rattle.fsoe_base.specs.declared.command.End.TheVariants as side
 use Rattle.failsafe_io.specs.Application.{Answer}
@@ -78,10 +78,11 @@ cycle_shown m o cs h = search (rules, all_shown, shown_at)
 changed_shown : (settings : List MasterSettings) (app : AppView) (calls : List Call) → AllSound settings app calls → map (shown_step (meant settings app calls)) (numbers_of (changed settings app calls)) ≡ map offer_step (changed settings app calls)
 changed_shown settings app calls h = search (rules, cycle_shown)
 
-pub offers_all : (master : MultiView) (listed : List ℕ) (i : ℕ) (old new : List LinkView) (before after : List JournalStep) → length listed ≤ i → ShowsChanged master listed → OffersOf master (take i listed) old new before after
+pub offers_all : (master : MultiView) (listed : List ℕ) (i : ℕ) (old new : List LinkView) (before after : List JournalStep) → length listed ≤ i → ShowsChanged master listed → fixed_in new ≡ fixed_in old → OffersOf master (take i listed) old new before after
     → OffersNoted master old new before after
-offers_all master listed i old new before after past shows h = record {
+offers_all master listed i old new before after past shows fixed h = record {
   offers = h.offers;
+  fixed = fixed;
   steps = h.steps;
   offers_are = λ settings app calls s.
       h.offers_are settings app calls s ∙ ap (map (shown_step (meant settings app calls))) (take_all i listed past ∙ shows.shows settings app calls s) ∙ changed_shown settings app calls s.sound;
@@ -104,3 +105,9 @@ offers_send (x ∷ listed) at link k steps =
     ap (λ (z : List JournalStep). frames_of at (pair link k z)) (sym (append_assoc steps (offer_step x ∷ []) (map offer_step listed)))
     ∙ offers_send listed at link k (steps ++ offer_step x ∷ [])
     ∙ offer_sends at link k steps x.0 x.1
+
+-- so noted offers send nothing
+pub offers_quiet : (master : MultiView) (old new : List LinkView) (before now : List JournalStep) (settings : List MasterSettings) (app : AppView) (calls : List Call) → OffersNoted master old new before now → StandsFor settings app master calls
+    → (at : End) (k : ℕ) (link : LinkConf) → frames_of at (pair link k now) ≡ frames_of at (pair link k before)
+offers_quiet master old new before now settings app calls c s at k link =
+    ap (λ (z : List JournalStep). frames_of at (pair link k z)) (c.steps ∙ ap (λ (os : List JournalStep). before ++ os) (c.offers_are settings app calls s)) ∙ offers_send (changed settings app calls) at link k before

@@ -1,7 +1,6 @@
 -- The pulls of a tick, a plant's start, and how it goes on by a line of its script.
-use Rattle.plant_core.proofs.Common.{Act, All-append, All-cons, All-nil, App, AppView, Beginning, Begins, BoundSpec, Call, ChangeApp, Delivers, DoesLine, EachLink, End, Entry, Event, Fits, Follows, GoesOn, Happen, HasDone, IsOne, JournalStep, Lengths, LinkConf, LinkIs, LinkStands, LinkView, LinksAre, Move, MultiView, OffersNoted, Parcel, PlantEvent, PlantView, PullFrom, Pulls, PullsParcel, Said, SlaveView, StandsFor, Start, Starts, Told, Trace, Use, all_pushes, append-nil, call_of, calls, changed, delivery_call, each_uses, frames_of, is_cut, is_tick, journal, lengths_in, lengths_kept, line_step, link_at, links_made, master_in, next_of, offers, pair, pair_other, pairs_by, peer, place_of, pulls_after, pushes_each, pushes_of, sent_in, sent_uses, settings, slice_get_past, uses, uses_after, uses_of}
-use Rattle.std.proofs.Common.{◌≡◌, ◌≢◌, ◌≤◌, ◌<◌, ◌⊎◌, inl, inr, ℕ, suc, ◌+◌, ◌-◌, ◌*◌, Bool, false, List, [], ◌∷◌, ◌++◌, map, All, length, Option, Some, None, refl, sym, ap, ap₂, subst, ◌∙◌, append_assoc, arith, rules}
-use Rattle.fsoe_base.specs.declared.command.End.TheVariants as side
+use Rattle.plant_core.proofs.Common.{Act, All-append, All-cons, All-nil, App, AppView, Beginning, Begins, BoundSpec, Call, ChangeApp, Delivers, DoesLine, EachLink, Entry, Event, Fits, Follows, GoesOn, Happen, HasDone, JournalStep, Lengths, LinkConf, LinkIs, LinkView, LinksAre, MultiView, OffersNoted, Parcel, PlantEvent, PlantView, PullFrom, Pulls, PullsParcel, Said, SlaveView, StandsFor, Start, Starts, Told, Trace, Use, all_pushes, append-nil, call_of, calls, changed, delivery_call, fixed_in, is_cut, is_tick, journal, lengths_in, lengths_kept, line_step, link_at, links_made, master_in, offers, pair_other, pairs_by, pulls_after, settings, slice_get_past, uses_after, uses_of}
+use Rattle.std.proofs.Common.{◌≡◌, ◌≢◌, ◌≤◌, ◌<◌, ◌⊎◌, ℕ, suc, ◌+◌, ◌-◌, ◌*◌, Bool, false, List, [], ◌∷◌, ◌++◌, map, All, length, Option, Some, None, refl, sym, ap, ap₂, subst, ◌∙◌, append_assoc, arith, rules}
 use Rattle.param_load.specs.declared.entry.Move.TheVariants as move
 use Rattle.multi_master.specs.Standing as multi
 use Rattle.plant_model.specs.declared.event.PlantEvent.TheVariants as event
@@ -10,9 +9,9 @@ use Rattle.plant_model.specs.Past.{SaidFits, said_in}
 use Rattle.plant_core.proofs.Acting.{trace_append}
 use Rattle.plant_core.proofs.Made.{made_stand}
 use Rattle.plant_model.proofs.Lines.{line_said}
-use Rattle.plant_core.proofs.Linking.{each_count, each_from}
+use Rattle.plant_core.proofs.Linking.{each_count}
 use Rattle.plant_core.proofs.Offering.{offers_send}
-use Rattle.plant_core.proofs.OneDeed.{act_done, frame_in, one_frames, apart, quiet_calls, quiet_journal, quiet_pushes}
+use Rattle.plant_core.proofs.OneDeed.{act_done, none_acted, quiet_calls, quiet_journal, quiet_pushes}
 
 -- acts after others
 more_acts : (more some done : List Act) → (more ++ some) ++ done ≡ more ++ (some ++ done)
@@ -27,6 +26,7 @@ more_uses b (act ∷ more) some done =
 
 pub goes_on : (old mid new : PlantView) (some more : List Act) (first between last : Told) → GoesOn old some mid first between → GoesOn mid more new between last → GoesOn old (more ++ some) new first last
 goes_on old mid new some more first between last g h = record {
+  fixed = h.fixed ∙ g.fixed;
   goes = λ b done s.
       let one = g.goes b done s in
       let two = h.goes b (some ++ done) one.has_done in
@@ -40,34 +40,15 @@ goes_on old mid new some more first between last g h = record {
 -- a pull that gives nothing
 pub none_pulled : (v : PlantView) (before after : Told) → PullsParcel None before after → GoesOn v (PullFrom None ∷ []) v before after
 none_pulled v before after p = record {
+  fixed = refl;
   goes = λ b done h.
-      let act : Act = PullFrom None in
-      let journal_is : journal b (act ∷ done) ≡ journal b done = append-nil (journal b done) in
-      let uses : all_pushes b.links (λ k. is_cut k done) (journal b done) (journal b (act ∷ done)) ≡ [] =
-      quiet_pushes b.links (λ k. is_cut k done) (journal b done) (journal b (act ∷ done)) (λ at k link. ap (λ (js : List JournalStep). frames_of at (pair link k js)) journal_is) in
-      record {
-        has_done = record { master = h.master; links = h.links; journal_is = h.journal_is ∙ sym journal_is };
-        channel = (after, p, subst (λ (us : List Use). Trace us after after) (sym uses) refl);
-      };
+      act_done b (PullFrom None) done v v before after after h (h.journal_is ∙ sym (append-nil (journal b done))) h.master
+      (none_acted b.links (λ k. is_cut k done) v.journal v.journal v.links after h.links (λ k link from below. refl)) (λ us t. (after, p, t));
 }
 
 -- a connection that doesn't exist
 pub nowhere : (links : List LinkConf) (n : ℕ) → (n ≡ 0) ⊎ (length links < n) → link_at links n ≡ None
 nowhere links n h = search (rules, slice_get_past)
-
-each_absent : (uses : ℕ → LinkConf → List Use) (k n : ℕ) (links : List LinkConf) → ((j : ℕ) (link : LinkConf) → j ≢ n → uses j link ≡ []) → (n < k) ⊎ (k + length links ≤ n) → each_uses uses k links ≡ []
-each_absent uses k n [] h e = refl
-each_absent uses k n (link ∷ links) h (inl lt) = ap₂ (λ (xs ys : List Use). xs ++ ys) (h k link (λ z. absurd (omega arith))) (each_absent uses (suc k) n links h (inl (omega arith)))
-each_absent uses k n (link ∷ links) h (inr le) = ap₂ (λ (xs ys : List Use). xs ++ ys) (h k link (λ z. absurd (omega arith))) (each_absent uses (suc k) n links h (inr (omega arith)))
-
-absent_of : (links : List LinkConf) (cut : ℕ → Bool) (steps : List JournalStep) (s : JournalStep) (n : ℕ) (at end : End) (what : Move) → IsOne s n end what → (n < 1) ⊎ (1 + length links ≤ n) → pushes_of at 1 links cut steps (steps ++ s ∷ []) ≡ []
-absent_of links cut steps s n at end what one h =
-    pushes_each at 1 links cut steps (steps ++ s ∷ []) (frame_in at n end what steps) (λ k l. one_frames at l k steps s n end what one)
-    ∙ each_absent (λ k l. sent_uses (place_of k (peer at)) (frame_in at n end what steps k l) (cut k)) 1 n links
-    (λ k l other. apart n k at (sent_in at end (next_of end what l (pair l k steps))) (cut k) other) h
-
-ends_of : (links : List LinkConf) (n : ℕ) → (n ≡ 0) ⊎ (length links < n) → (n < 1) ⊎ (1 + length links ≤ n)
-ends_of links n h = grind arith
 
 not_within : (links : List LinkConf) (n k : ℕ) → (n ≡ 0) ⊎ (length links < n) → 1 ≤ k → k < 1 + length links → k ≢ n
 not_within links n k h l m = grind arith
@@ -77,34 +58,24 @@ pub nowhere_delivered : (old new : PlantView) (parcel : Parcel) (t : Told) → (
     → new.journal ≡ old.journal ++ step.Pulled parcel ∷ [] → Delivers old parcel new t t
 nowhere_delivered old new parcel t far same_master same_links written = record {
   delivers = λ first pulled. record {
+    fixed = ap fixed_in same_links;
     goes = λ b done h.
         let act : Act = PullFrom (Some parcel) in
         let s : JournalStep = step.Pulled parcel in
         let n : ℕ = parcel.to.link in
-        let cut : ℕ → Bool = λ k. is_cut k done in
         let steps : List JournalStep = old.journal in
-        let count = each_count (LinkIs cut (pairs_by steps)) 1 b.links old.links h.links in
+        let count = each_count (LinkIs (λ k. is_cut k done) (pairs_by steps)) 1 b.links old.links h.links in
         let away : (n ≡ 0) ⊎ (length b.links < n) = subst (λ (m : ℕ). (n ≡ 0) ⊎ (m < n)) count far in
         let none : call_of b act ≡ None = ap (λ (o : Option LinkConf). delivery_call o parcel.to.end n parcel.frame) (nowhere b.links n away) in
-        let one : IsOne s n parcel.to.end (move.Deliver parcel.frame) = record { part = λ k. refl } in
-        let journal_is : new.journal ≡ journal b (act ∷ done) = written ∙ ap (λ (js : List JournalStep). js ++ s ∷ []) h.journal_is ∙ sym (quiet_journal b act done none) in
-        let acted = act_done b act done old new old.links (steps ++ s ∷ []) [] t t h same_links written journal_is
-        (quiet_calls b act done new.master none (subst (λ (m : MultiView). StandsFor (settings b) b.app m (calls b done)) (sym same_master) h.master))
-        (each_from (LinkIs cut (pairs_by steps)) (LinkIs cut (pairs_by (steps ++ s ∷ []))) 1 b.links old.links h.links
-        (λ k link v from below p.
-        record {
-          stands = subst (λ (w : List Entry). LinkStands link v w) (sym (pair_other link k steps s n parcel.to.end (move.Deliver parcel.frame) one (not_within b.links n k away from below))) p.stands;
-          cut = p.cut;
-        }))
-        (ap₂ (λ (xs ys : List Use). xs ++ ys)
-        (absent_of b.links cut steps s n side.Slave parcel.to.end (move.Deliver parcel.frame) one (ends_of b.links n away))
-        (absent_of b.links cut steps s n side.Master parcel.to.end (move.Deliver parcel.frame) one (ends_of b.links n away))) refl in
-        record { has_done = acted.has_done; channel = (t, pulled, acted.pushed) };
+        let grown = none_acted b.links (λ k. is_cut k done) steps (steps ++ s ∷ []) old.links t h.links
+        (λ k link from below. pair_other link k steps s n parcel.to.end (move.Deliver parcel.frame) (record { part = λ j. refl }) (not_within b.links n k away from below)) in
+        act_done b act done old new first t t h (written ∙ ap (λ (js : List JournalStep). js ++ s ∷ []) h.journal_is ∙ sym (quiet_journal b act done none))
+        (quiet_calls b act done new.master none (subst (λ (m : MultiView). StandsFor (settings b) b.app m (calls b done)) (sym same_master) h.master)) (rw (same_links, written) grown) (λ us u. (t, pulled, u));
   };
 }
 
 pub none_gone : (v : PlantView) (t : Told) → Pulls 64 v v t t
-none_gone v t = record { gifts = []; past = λ done h. h; goes = record { goes = λ b done h. record { has_done = h; channel = refl } } }
+none_gone v t = record { gifts = []; past = λ done h. h; goes = record { fixed = refl; goes = λ b done h. record { has_done = h; channel = refl } } }
 
 pub one_pulled : (old mid new : PlantView) (left : ℕ) (parcel : Parcel) (first before between after : Told) → Pulls (suc left) old mid first before → PullsParcel (Some parcel) before between
     → Delivers mid parcel new between after → Pulls left old new first after
@@ -185,7 +156,7 @@ starts b new before after c =
     let calls : List Call = ChangeApp b.app ∷ [] in
     let stands = c.follows.stands (settings b) b.app [] c.stands in
     let none : all_pushes b.links (λ k. false) [] (offers b Start []) ≡ [] =
-    quiet_pushes b.links (λ k. false) [] (offers b Start []) (λ at k link. offers_send (changed (settings b) b.app calls) at link k []) in
+    quiet_pushes b.links (λ k. false) [] (offers b Start []) (λ at k link from below. offers_send (changed (settings b) b.app calls) at link k []) in
     record {
       stands = record {
         may = record { past = refl; fit = All-nil (SaidFits b.links) };

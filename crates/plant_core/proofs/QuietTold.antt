@@ -1,5 +1,5 @@
 -- A plant tells whether a bound is still.
-use Rattle.plant_core.proofs.Common.{Act, Beginning, BoundSpec, LinkIs, LinkView, OfSlave, Placed, PlantStands, PlantView, ShowsApp, TellsStill, bit_of, calls, deeds, held, is_cut, is_guarded, is_off, journal, link_at, next_offered, of_end, offer, offers_bit, pair, pairs_by, settings, slave_offers}
+use Rattle.plant_core.proofs.Common.{Act, Beginning, BoundSpec, LinkIs, LinkView, OfSlave, Placed, PlantStands, PlantView, ShowsApp, TellsStill, bit_of, calls, deeds, held, is_cut, is_guarded, is_off, link_at, next_offered, of_end, offer, offers_bit, pair, pairs_by, settings, slave_offers}
 use Rattle.std.proofs.Common.{◌≡◌, ℕ, Bool, false, ◌&&◌, not, List, Some, sym, ap, ap₂, subst, ◌∙◌, rules}
 use Rattle.fsoe_base.specs.declared.command.End.TheVariants as side
 use Rattle.slave_core.specs.Standing as slave_core

@@ -1,6 +1,6 @@
 -- What each part of a plant does of an act; `plant_model/Past` and `Acts` have their order. Contracts of private
 -- functions alone rest on these words. Entries and acts are listed newest first, steps oldest first.
-use Rattle.std.specs.Prelude.{◌≡◌, ◌+◌, ◌*◌, nat_lt, ℕ, suc, Bool, true, List, [], ◌∷◌, ◌++◌, map, take, slice_get, Option, Some, None, if◌then◌else◌}
+use Rattle.std.specs.Prelude.{◌≡◌, ◌+◌, ◌*◌, nat_lt, ℕ, suc, Bool, true, List, [], ◌∷◌, ◌++◌, map, take, slice_get, Option, Some, None, Vec, vec_len, if◌then◌else◌}
 use Rattle.fsoe_base.specs.declared.command.End.{End}
 use Rattle.fsoe_base.specs.declared.command.End.TheVariants as side
 use Rattle.fsoe_base.specs.declared.did.Did.{Did}
@@ -10,9 +10,8 @@ use Rattle.param_load.specs.declared.entry.Entry.{Entry}
 use Rattle.param_load.specs.declared.entry.Move.{Move}
 use Rattle.param_load.specs.declared.entry.Move.TheVariants as move
 use Rattle.plant_conf.specs.declared.conf.LinkConf.{LinkConf}
-use Rattle.exchange_model.specs.Ends.{peer}
 use Rattle.multi_master.specs.Calls.{AppView, Rule, Call}
-use Rattle.multi_master.specs.Standing.{MultiValue, MultiView, StandsFor, changed}
+use Rattle.multi_master.specs.Standing.{MultiView, StandsFor, changed}
 use Rattle.multi_master.specs.Standing as multi
 use Rattle.param_load.specs.declared.master_settings.MasterSettings.{MasterSettings}
 use Rattle.plant_model.specs.declared.event.PlantEvent.{PlantEvent}
@@ -21,25 +20,22 @@ use Rattle.plant_model.specs.declared.journal.JournalStep.{JournalStep}
 use Rattle.plant_model.specs.Acts.{Beginning, Said, Act, PullFrom, offer_step, uses_after}
 use Rattle.reaction_bound.specs.Ages.{HasAgeParts}
 use Rattle.plant_core.specs.Link.{LinkView, LinkStands}
-use Rattle.plant_core.specs.Standing.{PlantView, HasDone, LinksAre}
+use Rattle.plant_core.specs.Standing.{AreNoted, IsPlant, PlantView, HasDone, LinksAre, fixed_in}
+use Rattle.plant_core.specs.declared.ends.Ends.{Ends}
 use Rattle.plant_model.specs.Pair.{pairs_by, next_of}
 use Rattle.plant_model.specs.Past.{IsPast, with_line}
 use Rattle.plant_model.specs.Uses.{Use, Trace}
 use Rattle.plant_model.specs.Gifts.{place_of, sent_uses, each_uses}
 use Rattle.black_channel.specs.declared.channel.Parcel.{Parcel}
 
--- the frame of the next entry of an end, for its peer, is pushed
-abbrev pub next_uses : ℕ → End → Move → LinkConf → List Entry → Bool → List Use
-next_uses k end what link w cut = sent_uses (place_of k (peer end)) (next_of end what link w).sent cut
+-- connection k, kept so before, has this entry more after these, and its frame was pushed to this end
+pub record Acted (k : ℕ) (to : End) (link : LinkConf) (x : Entry) (w : List Entry) (old new : LinkView) (before after : Told) : Type 0 where
+  pub stands : LinkStands link new (x ∷ w)
+  pub channel : Trace (sent_uses (place_of k to) x.sent old.cut) before after
 
--- a slave did its next deed at this event, and its frame was pushed
-pub record SlaveActed (k : ℕ) (what : Move) (link : LinkConf) (w : List Entry) (cut : Bool) (new : LinkView) (before after : Told) : Type 0 where
-  pub stands : LinkStands link new (next_of side.Slave what link w ∷ w)
-  pub channel : Trace (next_uses k side.Slave what link w cut) before after
-
--- so the slave of connection k does
+-- the slave of connection k did its next deed at this event
 pub record SlaveActs (k : ℕ) (what : Move) (old new : LinkView) (before after : Told) : Type 0 where
-  pub acts : (link : LinkConf) (w : List Entry) → LinkStands link old w → SlaveActed k what link w old.cut new before after
+  pub acts : (link : LinkConf) (w : List Entry) → LinkStands link old w → Acted k side.Master link (next_of side.Slave what link w) w old new before after
 
 -- one entry more with each connection: the next one after those that were done
 abbrev pub one_each : (ℕ → LinkConf → Entry) → (ℕ → LinkConf → List Entry) → ℕ → LinkConf → List Entry
@@ -63,36 +59,41 @@ pub record ActedTo (n : ℕ) (to : End) (links : List LinkConf) (cut : ℕ → B
   pub kept : LinksAre links cut (one_each_to n next done) new
   pub channel : Trace (frames_pushed to next cut (take n links)) before after
 
--- the slaves of all connections tick
-pub record SlavesTick (old new : List LinkView) (before after : Told) : Type 0 where
-  pub tick : (links : List LinkConf) (cut : ℕ → Bool) (done : ℕ → LinkConf → List Entry) → LinksAre links cut done old
-      → AllActed side.Master links cut done (λ k link. next_of side.Slave move.Tick link (done k link)) new before after
+-- the entry of a slave that ticks, at any place, for its connection and the entries before
+abbrev pub SlaveTicks : ℕ → LinkConf → List Entry → Entry → Type 0
+SlaveTicks place link w x = x ≡ next_of side.Slave move.Tick link w
 
--- these entries of masters are of a tick and have these parts, connection by connection
-pub record HaveParts (links : List LinkConf) (next : ℕ → LinkConf → Entry) (dids : List Did) (frames : List (List ℕ)) : Type 0 where
-  pub each : (place : ℕ) (link : LinkConf) (did : Did) (sent : List ℕ) → slice_get links place ≡ Some link → slice_get dids place ≡ Some did → slice_get frames place ≡ Some sent
-      → HasAgeParts (next (suc place) link) side.Master true [] did sent None
+-- an entry of the master at a place in a tick: it has the parts that are told there of what the masters did and sent
+abbrev pub MasterTicked : List Did → List (List ℕ) → ℕ → LinkConf → List Entry → Entry → Type 0
+MasterTicked dids frames place link w x =
+    (did : Did) (sent : List ℕ) → slice_get dids place ≡ Some did → slice_get frames place ≡ Some sent → HasAgeParts x side.Master true [] did sent None
 
--- what the masters of all connections did in a tick is noted, and their frames are pushed
-pub record MastersNoted (dids : List Did) (frames : List (List ℕ)) (old new : List LinkView) (before after : Told) : Type 0 where
-  pub noted : (links : List LinkConf) (cut : ℕ → Bool) (done : ℕ → LinkConf → List Entry) (next : ℕ → LinkConf → Entry) → HaveParts links next dids frames → LinksAre links cut done old
-      → AllActed side.Slave links cut done next new before after
+-- the next entry of each connection is such an entry, by its place
+pub record AreNext (Is : ℕ → LinkConf → List Entry → Entry → Type 0) (links : List LinkConf) (done : ℕ → LinkConf → List Entry) (next : ℕ → LinkConf → Entry) : Type 0 where
+  pub each : (place : ℕ) (link : LinkConf) → slice_get links place ≡ Some link → Is place link (done (suc place) link) (next (suc place) link)
 
--- an entry of a master with these parts is noted, and its frame is pushed
-pub record MasterActs (k : ℕ) (tick : Bool) (came : List ℕ) (did : Did) (sent : List ℕ) (watchdog : Option ℕ) (old new : LinkView) (before after : Told) : Type 0 where
-  pub stands : (link : LinkConf) (w : List Entry) (x : Entry) → LinkStands link old w → HasAgeParts x side.Master tick came did sent watchdog → LinkStands link new (x ∷ w)
-  pub channel : Trace (sent_uses (place_of k side.Slave) sent old.cut) before after
+-- one such entry more was noted with each connection, and its frame pushed to this end
+pub record EachActs (to : End) (Is : ℕ → LinkConf → List Entry → Entry → Type 0) (old new : List LinkView) (before after : Told) : Type 0 where
+  pub acts : (links : List LinkConf) (cut : ℕ → Bool) (done : ℕ → LinkConf → List Entry) (next : ℕ → LinkConf → Entry) → AreNext Is links done next → LinksAre links cut done old
+      → AllActed to links cut done next new before after
+  pub noted : (most : ℕ) → AreNoted most old → AreNoted (most + 1) new
+  pub fixed : fixed_in new ≡ fixed_in old
 
 -- the offers that the last call of the master changed are noted in the journal, and with each connection
 pub record OffersNoted (master : MultiView) (old new : List LinkView) (before after : List JournalStep) : Type 0 where
   pub offers : List JournalStep
+  pub fixed : fixed_in new ≡ fixed_in old
   pub steps : after ≡ before ++ offers
   pub offers_are : (settings : List MasterSettings) (app : AppView) (calls : List Call) → StandsFor settings app master calls → offers ≡ map offer_step (changed settings app calls)
   pub links : (links : List LinkConf) (cut : ℕ → Bool) (steps : List JournalStep) → LinksAre links cut (pairs_by steps) old → LinksAre links cut (pairs_by (steps ++ offers)) new
 
--- what contracts see of these parts of a plant
-abbrev pub sees : {A : Type 0} → (A → Rule) → (A → List ℕ) → (A → Bit → Bit → Bool) → MultiValue A → List LinkView → List JournalStep → PlantView
-sees rule holds guards master links journal = record { master = multi.seen rule holds guards master; links = links; journal = journal }
+-- these ends are those of a plant, with this journal
+abbrev pub IsReady : {A B : Type 0} → Ends A → Vec JournalStep B → Type 0
+IsReady ends steps = IsPlant ends.master ends.links.items ends.dids.items ends.outs.items (vec_len steps)
+
+-- what contracts see of such a plant
+abbrev pub sees : {A B : Type 0} → (A → Rule) → (A → List ℕ) → (A → Bit → Bit → Bool) → Ends A → Vec JournalStep B → PlantView
+sees rule holds guards ends steps = record { master = multi.seen rule holds guards ends.master; links = ends.links.items; journal = steps.items }
 
 -- what an event of the script has happen to the slave of a connection, with the number of this, if it does
 abbrev pub slave_move : PlantEvent → Option (ℕ × Move)
@@ -115,6 +116,7 @@ pub record Done (b : Beginning) (done more : List Act) (new : PlantView) (before
 
 -- so a plant goes on by these acts
 pub record GoesOn (old : PlantView) (more : List Act) (new : PlantView) (before after : Told) : Type 0 where
+  pub fixed : fixed_in new.links ≡ fixed_in old.links
   pub goes : (b : Beginning) (done : List Act) → HasDone b old done → Done b done more new before after
 
 -- so it does with a parcel that was pulled just before

@@ -6,14 +6,11 @@ use Rattle.fsoe_base.specs.declared.command.End.TheVariants as side
 use Rattle.fsoe_base.specs.declared.did.Did.{Did}
 use Rattle.fsoe_base.specs.declared.lengths.Lengths.{Lengths}
 use Rattle.param_load.specs.declared.entry.Entry.{Entry}
-use Rattle.param_load.specs.declared.entry.Move.{Move}
 use Rattle.plant_conf.specs.declared.conf.LinkConf.{LinkConf}
 use Rattle.end_model.specs.Readiness.{told_terms}
-use Rattle.end_model.specs.Setup.{OfSlave}
-use Rattle.end_model.specs.Step.{step}
 use Rattle.exchange_model.specs.Monitor.{MonitorView}
 use Rattle.exchange_model.specs.Monitor as monitor
-use Rattle.exchange_model.specs.World.{deeds, next_entry}
+use Rattle.exchange_model.specs.World.{deeds}
 use Rattle.reaction_bound.specs.Ages.{AgesView, watchdog_in}
 use Rattle.reaction_bound.specs.Ages as ages
 use Rattle.slave_core.specs.SlaveView.{SlaveView}
@@ -72,16 +69,6 @@ pub record LinkStands (link : LinkConf) (v : LinkView) (w : List Entry) : Type 0
   pub slave : SlaveIsAfter link.slave v.slave (deeds side.Slave w)
   pub monitor : v.monitor ≡ monitor.view_of w
   pub ages : IfSome v.ages (λ a. a ≡ ages.view_of w)
-
--- after these entries the slave did its next deed at this event, which is this, and it stands for the entry of that too
-pub record SlaveWent (link : LinkConf) (w : List Entry) (what : Move) (did : Did) (sent : List ℕ) (new : LinkView) : Type 0 where
-  pub stands : LinkStands link new (next_entry (OfSlave link.slave) (deeds side.Slave w) what ∷ w)
-  pub did_is : did ≡ (step (OfSlave link.slave) (deeds side.Slave w) what).did
-  pub sent_is : sent ≡ (step (OfSlave link.slave) (deeds side.Slave w) what).sent
-
--- its slave goes on at this event: it did this and sent this frame, which was noted
-pub record SlaveGoesOn (old : LinkView) (what : Move) (did : Did) (sent : List ℕ) (new : LinkView) : Type 0 where
-  pub goes : (link : LinkConf) (w : List Entry) → LinkStands link old w → SlaveWent link w what did sent new
 
 -- an entry of its master with these parts was noted
 pub record MasterNoted (old : LinkView) (tick : Bool) (came : List ℕ) (did : Did) (sent : List ℕ) (watchdog : Option ℕ) (new : LinkView) : Type 0 where

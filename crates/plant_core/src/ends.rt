@@ -6,9 +6,7 @@ ghost use Rattle.plant_core.specs.Doing.{room_for, slave_move};
 use crate::journal::note;
 use crate::link::{Link, watchdog_in};
 use crate::offers::note_offers;
-use crate::pushing::{
-    deliver_to_slave, happen_at_slave, master_acted, masters_ticked, tick_slaves,
-};
+use crate::ticking::{masters_ticked, tick_slaves};
 use black_channel::{Channel, Parcel, Place};
 use failsafe_io::Application;
 use fsoe_base::{Did, End, FrameBuf};
@@ -86,19 +84,18 @@ impl<A: Application> Ends<A> {
     ghost use Rattle.multi_master.specs.Standing as multi;
     ghost use Rattle.multi_master.specs.Standing.{app_view};
     ghost use Rattle.plant_model.specs.Acts.{Event, App, Happen};
-    ghost use Rattle.plant_core.specs.Doing.{GoesOn, Delivers, OffersNoted, Pulls, DoesLine, sees};
-    ghost use Rattle.plant_core.specs.Standing.{IsPlant, fixed_in, lengths_kept};
+    ghost use Rattle.plant_core.specs.Doing.{GoesOn, Delivers, IsReady, OffersNoted, Pulls, DoesLine, sees};
+    ghost use Rattle.plant_core.specs.Standing.{fixed_in, lengths_kept};
     ghost use Rattle.black_channel.specs.Told.{Told};
     ghost use Rattle.plant_model.specs.Fits.{Fits};
     ghost use Rattle.plant_model.specs.declared.event.PlantEvent.TheVariants as event;
 
     /// Counts a tick at all ends, and notes the offers that the cycle changed.
     fn tick<C: Channel>(&mut self, steps: &mut Vec<JournalStep>, channel: &mut C)
-        requires ready { IsPlant self.old.master self.old.links.items self.old.dids.items self.old.outs.items (vec_len steps.old) }
+        requires ready { IsReady self.old steps.old }
         requires room { vec_len steps.old + 1 + vec_len self.old.links ≤ vec_capacity steps.old }
-        ensures goes { let seen = sees A.rule A.holds A.guards in GoesOn (seen self.old.master self.old.links.items steps.old.items) (Happen (Event event.Tick) ∷ []) (seen self.new.master self.new.links.items steps.new.items) (C.told channel.old) (C.told channel.new) }
-        ensures ready { IsPlant self.new.master self.new.links.items self.new.dids.items self.new.outs.items (vec_len steps.new) }
-        ensures fixed { fixed_in self.new.links.items ≡ fixed_in self.old.links.items }
+        ensures goes { let seen = sees A.rule A.holds A.guards in GoesOn (seen self.old steps.old) (Happen (Event event.Tick) ∷ []) (seen self.new steps.new) (C.told channel.old) (C.told channel.new) }
+        ensures ready { IsReady self.new steps.new }
         ensures few { vec_len steps.new ≤ vec_len steps.old + 1 + vec_len self.old.links }
         ensures capacity { vec_capacity steps.old ≤ vec_capacity steps.new }
     {
@@ -125,11 +122,10 @@ impl<A: Application> Ends<A> {
         channel: &mut C,
     )
         requires link { multi.IsNumber (vec_len self.old.links) link }
-        requires ready { IsPlant self.old.master self.old.links.items self.old.dids.items self.old.outs.items (vec_len steps.old) }
+        requires ready { IsReady self.old steps.old }
         requires room { vec_len steps.old + 1 + vec_len self.old.links ≤ vec_capacity steps.old }
-        ensures delivers { let seen = sees A.rule A.holds A.guards in Delivers (seen self.old.master self.old.links.items steps.old.items) (record { to = record { link = link; end = side.Master }; frame = frame.now }) (seen self.new.master self.new.links.items steps.new.items) (C.told channel.old) (C.told channel.new) }
-        ensures ready { IsPlant self.new.master self.new.links.items self.new.dids.items self.new.outs.items (vec_len steps.new) }
-        ensures fixed { fixed_in self.new.links.items ≡ fixed_in self.old.links.items }
+        ensures delivers { let seen = sees A.rule A.holds A.guards in Delivers (seen self.old steps.old) (record { to = record { link = link; end = side.Master }; frame = frame.now }) (seen self.new steps.new) (C.told channel.old) (C.told channel.new) }
+        ensures ready { IsReady self.new steps.new }
         ensures few { vec_len steps.new ≤ vec_len steps.old + 1 + vec_len self.old.links }
         ensures capacity { vec_capacity steps.old ≤ vec_capacity steps.new }
     {
@@ -142,10 +138,8 @@ impl<A: Application> Ends<A> {
         };
         note_pulled(to, frame, steps);
         let watchdog = watchdog_in(self.master.terms(link));
-        let kept = &mut self.links[usize::from(link) - 1];
-        master_acted(
+        self.links[usize::from(link) - 1].master_acted(
             link,
-            kept,
             false,
             frame.bytes(),
             &self.heard,
@@ -164,11 +158,10 @@ impl<A: Application> Ends<A> {
         channel: &mut C,
     )
         requires link { multi.IsNumber (vec_len self.old.links) link }
-        requires ready { IsPlant self.old.master self.old.links.items self.old.dids.items self.old.outs.items (vec_len steps.old) }
+        requires ready { IsReady self.old steps.old }
         requires room { vec_len steps.old + 1 + vec_len self.old.links ≤ vec_capacity steps.old }
-        ensures delivers { let seen = sees A.rule A.holds A.guards in Delivers (seen self.old.master self.old.links.items steps.old.items) (record { to = record { link = link; end = side.Slave }; frame = frame.now }) (seen self.new.master self.new.links.items steps.new.items) (C.told channel.old) (C.told channel.new) }
-        ensures ready { IsPlant self.new.master self.new.links.items self.new.dids.items self.new.outs.items (vec_len steps.new) }
-        ensures fixed { fixed_in self.new.links.items ≡ fixed_in self.old.links.items }
+        ensures delivers { let seen = sees A.rule A.holds A.guards in Delivers (seen self.old steps.old) (record { to = record { link = link; end = side.Slave }; frame = frame.now }) (seen self.new steps.new) (C.told channel.old) (C.told channel.new) }
+        ensures ready { IsReady self.new steps.new }
         ensures few { vec_len steps.new ≤ vec_len steps.old + 1 + vec_len self.old.links }
         ensures capacity { vec_capacity steps.old ≤ vec_capacity steps.new }
     {
@@ -177,10 +170,8 @@ impl<A: Application> Ends<A> {
             end: End::Slave,
         };
         note_pulled(to, frame, steps);
-        let kept = &mut self.links[usize::from(link) - 1];
-        deliver_to_slave(
+        self.links[usize::from(link) - 1].deliver(
             link,
-            kept,
             frame.bytes(),
             channel,
             &mut self.heard,
@@ -196,11 +187,10 @@ impl<A: Application> Ends<A> {
         steps: &mut Vec<JournalStep>,
         channel: &mut C,
     )
-        requires ready { IsPlant self.old.master self.old.links.items self.old.dids.items self.old.outs.items (vec_len steps.old) }
+        requires ready { IsReady self.old steps.old }
         requires room { vec_len steps.old + 1 + vec_len self.old.links ≤ vec_capacity steps.old }
-        ensures delivers { let seen = sees A.rule A.holds A.guards in Delivers (seen self.old.master self.old.links.items steps.old.items) (record { to = to; frame = frame.now }) (seen self.new.master self.new.links.items steps.new.items) (C.told channel.old) (C.told channel.new) }
-        ensures ready { IsPlant self.new.master self.new.links.items self.new.dids.items self.new.outs.items (vec_len steps.new) }
-        ensures fixed { fixed_in self.new.links.items ≡ fixed_in self.old.links.items }
+        ensures delivers { let seen = sees A.rule A.holds A.guards in Delivers (seen self.old steps.old) (record { to = to; frame = frame.now }) (seen self.new steps.new) (C.told channel.old) (C.told channel.new) }
+        ensures ready { IsReady self.new steps.new }
         ensures few { vec_len steps.new ≤ vec_len steps.old + 1 + vec_len self.old.links }
         ensures capacity { vec_capacity steps.old ≤ vec_capacity steps.new }
     {
@@ -216,11 +206,10 @@ impl<A: Application> Ends<A> {
 
     /// Pulls at most 64 parcels, until none comes, and delivers each.
     fn pull_all<C: Channel>(&mut self, steps: &mut Vec<JournalStep>, channel: &mut C)
-        requires ready { IsPlant self.old.master self.old.links.items self.old.dids.items self.old.outs.items (vec_len steps.old) }
+        requires ready { IsReady self.old steps.old }
         requires room { vec_len steps.old + 64 * (vec_len self.old.links + 1) ≤ vec_capacity steps.old }
-        ensures pulls { let seen = sees A.rule A.holds A.guards in Pulls 0 (seen self.old.master self.old.links.items steps.old.items) (seen self.new.master self.new.links.items steps.new.items) (C.told channel.old) (C.told channel.new) }
-        ensures ready { IsPlant self.new.master self.new.links.items self.new.dids.items self.new.outs.items (vec_len steps.new) }
-        ensures fixed { fixed_in self.new.links.items ≡ fixed_in self.old.links.items }
+        ensures pulls { let seen = sees A.rule A.holds A.guards in Pulls 0 (seen self.old steps.old) (seen self.new steps.new) (C.told channel.old) (C.told channel.new) }
+        ensures ready { IsReady self.new steps.new }
     {
         let mut frame = FrameBuf::new();
         for _ in 0..MOST_PULLS {
@@ -229,18 +218,6 @@ impl<A: Application> Ends<A> {
             };
             self.deliver(to, &frame, steps, channel);
         }
-    }
-
-    /// A tick, and then the pulls.
-    fn tick_and_pull<C: Channel>(&mut self, steps: &mut Vec<JournalStep>, channel: &mut C)
-        requires ready { IsPlant self.old.master self.old.links.items self.old.dids.items self.old.outs.items (vec_len steps.old) }
-        requires room { vec_len steps.old + 65 * (vec_len self.old.links + 1) ≤ vec_capacity steps.old }
-        ensures line { let seen = sees A.rule A.holds A.guards in DoesLine (seen self.old.master self.old.links.items steps.old.items) (Event event.Tick) (seen self.new.master self.new.links.items steps.new.items) (C.told channel.old) (C.told channel.new) }
-        ensures ready { IsPlant self.new.master self.new.links.items self.new.dids.items self.new.outs.items (vec_len steps.new) }
-        ensures fixed { fixed_in self.new.links.items ≡ fixed_in self.old.links.items }
-    {
-        self.tick(steps, channel);
-        self.pull_all(steps, channel);
     }
 
     /// An event of the script happens at the slave of this connection, and its frame is pushed.
@@ -255,25 +232,28 @@ impl<A: Application> Ends<A> {
         requires is { slave_move event.now ≡ Some (link, what.now) }
         requires link { multi.IsNumber (vec_len self.old.links) link }
         requires fits { Fits (lengths_kept self.old.links.items) event.now }
-        requires ready { IsPlant self.old.master self.old.links.items self.old.dids.items self.old.outs.items (vec_len steps.old) }
+        requires ready { IsReady self.old steps.old }
         requires room { vec_len steps.old + 1 ≤ vec_capacity steps.old }
-        ensures goes { let seen = sees A.rule A.holds A.guards in GoesOn (seen self.old.master self.old.links.items steps.old.items) (Happen (Event event.now) ∷ []) (seen self.new.master self.new.links.items steps.new.items) (C.told channel.old) (C.told channel.new) }
-        ensures ready { IsPlant self.new.master self.new.links.items self.new.dids.items self.new.outs.items (vec_len steps.new) }
-        ensures fixed { fixed_in self.new.links.items ≡ fixed_in self.old.links.items }
+        ensures goes { let seen = sees A.rule A.holds A.guards in GoesOn (seen self.old steps.old) (Happen (Event event.now) ∷ []) (seen self.new steps.new) (C.told channel.old) (C.told channel.new) }
+        ensures ready { IsReady self.new steps.new }
     {
         note_event(event, steps);
-        let kept = &mut self.links[usize::from(link) - 1];
-        happen_at_slave(link, kept, what, channel, &mut self.heard, &mut self.sent);
+        self.links[usize::from(link) - 1].happen(
+            link,
+            what,
+            channel,
+            &mut self.heard,
+            &mut self.sent,
+        );
     }
 
     /// Sets the session id with which the master of this connection begins its next session.
     fn master_nonce(&mut self, link: u16, id: u16, steps: &mut Vec<JournalStep>)
         requires link { multi.IsNumber (vec_len self.old.links) link }
-        requires ready { IsPlant self.old.master self.old.links.items self.old.dids.items self.old.outs.items (vec_len steps.old) }
+        requires ready { IsReady self.old steps.old }
         requires room { vec_len steps.old + 1 ≤ vec_capacity steps.old }
-        ensures goes { let seen = sees A.rule A.holds A.guards in (told : Told) → GoesOn (seen self.old.master self.old.links.items steps.old.items) (Happen (Event (event.Nonce link side.Master id)) ∷ []) (seen self.new.master self.new.links.items steps.new.items) told told }
-        ensures ready { IsPlant self.new.master self.new.links.items self.new.dids.items self.new.outs.items (vec_len steps.new) }
-        ensures fixed { fixed_in self.new.links.items ≡ fixed_in self.old.links.items }
+        ensures goes { let seen = sees A.rule A.holds A.guards in (told : Told) → GoesOn (seen self.old steps.old) (Happen (Event (event.Nonce link side.Master id)) ∷ []) (seen self.new steps.new) told told }
+        ensures ready { IsReady self.new steps.new }
     {
         let event = PlantEvent::Nonce {
             link,
@@ -282,23 +262,16 @@ impl<A: Application> Ends<A> {
         };
         note(steps, JournalStep::Script(event));
         self.master.nonce(link, id);
-        self.links[usize::from(link) - 1].note_master(
-            false,
-            &[],
-            &Did::nothing(),
-            &FrameBuf::new(),
-            None,
-        );
+        self.links[usize::from(link) - 1].note_setting();
     }
 
     /// Cuts the connection, or joins it again.
     fn cut(&mut self, link: u16, cut: bool, steps: &mut Vec<JournalStep>)
         requires link { multi.IsNumber (vec_len self.old.links) link }
-        requires ready { IsPlant self.old.master self.old.links.items self.old.dids.items self.old.outs.items (vec_len steps.old) }
+        requires ready { IsReady self.old steps.old }
         requires room { vec_len steps.old + 1 ≤ vec_capacity steps.old }
-        ensures goes { let seen = sees A.rule A.holds A.guards in (told : Told) → GoesOn (seen self.old.master self.old.links.items steps.old.items) (Happen (Event (event.Cut link cut)) ∷ []) (seen self.new.master self.new.links.items steps.new.items) told told }
-        ensures ready { IsPlant self.new.master self.new.links.items self.new.dids.items self.new.outs.items (vec_len steps.new) }
-        ensures fixed { fixed_in self.new.links.items ≡ fixed_in self.old.links.items }
+        ensures goes { let seen = sees A.rule A.holds A.guards in (told : Told) → GoesOn (seen self.old steps.old) (Happen (Event (event.Cut link cut)) ∷ []) (seen self.new steps.new) told told }
+        ensures ready { IsReady self.new steps.new }
     {
         note(steps, JournalStep::Script(PlantEvent::Cut { link, cut }));
         self.links[usize::from(link) - 1].set_cut(cut);
@@ -313,14 +286,16 @@ impl<A: Application> Ends<A> {
         channel: &mut C,
     )
         requires fits { Fits (lengths_kept self.old.links.items) event.now }
-        requires ready { IsPlant self.old.master self.old.links.items self.old.dids.items self.old.outs.items (vec_len steps.old) }
+        requires ready { IsReady self.old steps.old }
         requires room { vec_len steps.old + room_for event.now (vec_len self.old.links) ≤ vec_capacity steps.old }
-        ensures line { let seen = sees A.rule A.holds A.guards in DoesLine (seen self.old.master self.old.links.items steps.old.items) (Event event.now) (seen self.new.master self.new.links.items steps.new.items) (C.told channel.old) (C.told channel.new) }
-        ensures ready { IsPlant self.new.master self.new.links.items self.new.dids.items self.new.outs.items (vec_len steps.new) }
-        ensures fixed { fixed_in self.new.links.items ≡ fixed_in self.old.links.items }
+        ensures line { let seen = sees A.rule A.holds A.guards in DoesLine (seen self.old steps.old) (Event event.now) (seen self.new steps.new) (C.told channel.old) (C.told channel.new) }
+        ensures ready { IsReady self.new steps.new }
     {
         match event {
-            PlantEvent::Tick => self.tick_and_pull(steps, channel),
+            PlantEvent::Tick => {
+                self.tick(steps, channel);
+                self.pull_all(steps, channel);
+            }
             PlantEvent::Put { link, load } => {
                 let what = Move::Put(load.copy());
                 self.happen_at_slave(event, *link, &what, steps, channel);
@@ -350,12 +325,11 @@ impl<A: Application> Ends<A> {
 
     /// Runs the first cycle of the application, and notes the offers that it changed.
     pub(crate) fn start(&mut self, steps: &mut Vec<JournalStep>)
-        requires ready { IsPlant self.old.master self.old.links.items self.old.dids.items self.old.outs.items (vec_len steps.old) }
+        requires ready { IsReady self.old steps.old }
         requires room { vec_len steps.old + vec_len self.old.links ≤ vec_capacity steps.old }
         ensures follows { let seen = multi.seen A.rule A.holds A.guards in multi.Follows (seen self.old.master) (ChangeApp (seen self.old.master).app) (seen self.new.master) }
         ensures offers { OffersNoted (multi.seen A.rule A.holds A.guards self.new.master) self.old.links.items self.new.links.items steps.old.items steps.new.items }
-        ensures ready { IsPlant self.new.master self.new.links.items self.new.dids.items self.new.outs.items (vec_len steps.new) }
-        ensures fixed { fixed_in self.new.links.items ≡ fixed_in self.old.links.items }
+        ensures ready { IsReady self.new steps.new }
     {
         self.master.first_cycle();
         note_offers(&self.master, self.links.as_mut_slice(), steps);
@@ -363,11 +337,11 @@ impl<A: Application> Ends<A> {
 
     /// Changes to another application, and notes the offers that its first cycle changed.
     pub(crate) fn change_app(&mut self, app: A, steps: &mut Vec<JournalStep>)
-        requires ready { IsPlant self.old.master self.old.links.items self.old.dids.items self.old.outs.items (vec_len steps.old) }
+        requires ready { IsReady self.old steps.old }
         requires room { vec_len steps.old + 1 + vec_len self.old.links ≤ vec_capacity steps.old }
-        ensures goes { let seen = sees A.rule A.holds A.guards in (told : Told) → GoesOn (seen self.old.master self.old.links.items steps.old.items) (Happen (App (app_view A.rule A.holds A.guards app)) ∷ []) (seen self.new.master self.new.links.items steps.new.items) told told }
-        ensures ready { IsPlant self.new.master self.new.links.items self.new.dids.items self.new.outs.items (vec_len steps.new) }
+        ensures goes { let seen = sees A.rule A.holds A.guards in (told : Told) → GoesOn (seen self.old steps.old) (Happen (App (app_view A.rule A.holds A.guards app)) ∷ []) (seen self.new steps.new) told told }
         ensures fixed { fixed_in self.new.links.items ≡ fixed_in self.old.links.items }
+        ensures ready { IsReady self.new steps.new }
     {
         note(steps, JournalStep::App);
         self.master.change_app(app);

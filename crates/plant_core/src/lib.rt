@@ -21,7 +21,7 @@ mod link;
 mod making;
 mod offers;
 mod plant;
-mod pushing;
+mod ticking;
 mod watch;
 
 pub use journal::Journal;

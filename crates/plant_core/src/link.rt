@@ -1,5 +1,6 @@
 //! What a plant keeps of one connection beside its master.
-ghost use Rattle.std.specs.Prelude.{◌≡◌, ◌+◌, ◌<◌, ◌≤◌, ◌^◌, ◌&&◌, not, List, [], IfSome, IsSome, false, is_some, length, option_copied};
+ghost use Rattle.std.specs.Prelude.{◌≡◌, ◌+◌, ◌<◌, ◌≤◌, ◌^◌, ◌&&◌, not, List, [], None, IfSome, IsSome, false, is_some, length, option_copied};
+ghost use Rattle.fsoe_base.specs.Did.{nothing};
 ghost use Rattle.fsoe_base.specs.Image.{bit_of};
 ghost use Rattle.param_load.specs.declared.entry.Move.TheVariants as event;
 ghost use Rattle.end_model.specs.Readiness as model;
@@ -13,12 +14,15 @@ ghost use Rattle.exchange_model.specs.Other.{first_other};
 ghost use Rattle.fsoe_base.specs.declared.command.End.TheVariants as side;
 ghost use Rattle.fsoe_base.specs.declared.lengths.TheConstants.{MOST_DATA};
 ghost use Rattle.plant_core.specs.Link.{NotesSlave, ages_in, monitor_in};
+ghost use Rattle.plant_model.specs.Gifts.{place_of, sent_uses};
+ghost use Rattle.plant_model.specs.Uses.{Trace};
 ghost use Rattle.reaction_bound.specs.Age.{told_age, worst_of};
 ghost use Rattle.reaction_bound.specs.Ages as ages;
 ghost use Rattle.reaction_bound.specs.Ages.{watchdog_in};
 ghost use Rattle.slave_core.specs.Standing.{Answers, Follows, Shows};
 
 use crate::watch::Watch;
+use black_channel::{Channel, Place};
 use exchange_model::delivered;
 use fsoe_base::{Did, End, FrameBuf, State};
 use param_load::{Move, Terms};
@@ -95,8 +99,22 @@ fn act(slave: &mut Slave, what: &Move, did: &mut Did, out: &mut FrameBuf)
     }
 }
 
+/// Pushes a frame for this end of a connection, if there is one and the connection isn't cut.
+fn push_sent<C: Channel>(channel: &mut C, link: u16, end: End, frame: &FrameBuf, cut: bool)
+    ensures { Trace (sent_uses (place_of link end) frame.now cut) (C.told channel.old) (C.told channel.new) }
+{
+    if cut {
+        return;
+    }
+    if frame.is_empty() {
+        return;
+    }
+    channel.push(Place { link, end }, frame.bytes());
+}
+
 impl Link {
-    ghost use Rattle.plant_core.specs.Link.{new_link, SlaveGoesOn, MasterNoted, NotesOne};
+    ghost use Rattle.plant_core.specs.Doing.{SlaveActs};
+    ghost use Rattle.plant_core.specs.Link.{new_link, MasterNoted, NotesOne};
 
     /// Creates the slave of this connection, which isn't cut. With `aged` the ages of the outputs are counted.
     #[tactic(auto, using(crate::proofs::Linked::is_new))]
@@ -110,49 +128,82 @@ impl Link {
         }
     }
 
-    /// Lets this event happen at the slave, and writes what it did and the frame that it sent.
-    #[tactic(auto, using(crate::proofs::Linked::slave_goes, crate::proofs::Linked::notes_one))]
-    pub(crate) fn happen(&mut self, what: &Move, did: &mut Did, out: &mut FrameBuf)
+    /// Lets this event happen at the slave of connection `number`, and notes it. Writes what it did and the frame that
+    /// it sent, which is pushed.
+    #[tactic(auto, using(crate::proofs::Linked::slave_acts, crate::proofs::Linked::notes_one))]
+    pub(crate) fn happen<C: Channel>(
+        &mut self,
+        number: u16,
+        what: &Move,
+        channel: &mut C,
+        did: &mut Did,
+        out: &mut FrameBuf,
+    )
         requires few { self.old.monitor.noted + 1 < 2 ^ 64 }
         requires proper { IsProper (OfSlave self.old.slave.kit.settings) what.now }
-        ensures goes { SlaveGoesOn self.old what.now did.new out.new self.new }
+        ensures acts { SlaveActs number what.now self.old self.new (C.told channel.old) (C.told channel.new) }
         ensures notes { NotesOne self.old self.new }
     {
         act(&mut self.slave, what, did, out);
         let tick = is_tick(what);
         let came = delivered(what);
         note_slave(&self.slave, &mut self.watch, tick, came, did, out);
+        push_sent(channel, number, End::Master, out, self.cut);
     }
 
     /// Does the same with this frame that comes, and copies nothing.
-    #[tactic(auto, using(crate::proofs::Linked::slave_goes, crate::proofs::Linked::notes_one))]
-    pub(crate) fn deliver(&mut self, frame: &[u8], did: &mut Did, out: &mut FrameBuf)
+    #[tactic(auto, using(crate::proofs::Linked::slave_acts, crate::proofs::Linked::notes_one))]
+    pub(crate) fn deliver<C: Channel>(
+        &mut self,
+        number: u16,
+        frame: &[u8],
+        channel: &mut C,
+        did: &mut Did,
+        out: &mut FrameBuf,
+    )
         requires few { self.old.monitor.noted + 1 < 2 ^ 64 }
-        ensures goes { SlaveGoesOn self.old (event.Deliver frame.now) did.new out.new self.new }
+        ensures acts { SlaveActs number (event.Deliver frame.now) self.old self.new (C.told channel.old) (C.told channel.new) }
         ensures notes { NotesOne self.old self.new }
     {
         self.slave.deliver_into(frame, did, out);
         note_slave(&self.slave, &mut self.watch, false, frame, did, out);
+        push_sent(channel, number, End::Master, out, self.cut);
     }
 
-    /// Notes an entry of the master, by whether it is a tick, the bytes that came, what it did, the frame that it sent,
-    /// and the watchdog in the terms after it, which is used only if it took ProcessData.
+    /// Notes what the master of connection `number` did, by whether it was in a tick, the bytes that came, and the
+    /// watchdog in its terms, which is used only if it took ProcessData. Pushes its frame.
     #[tactic(auto, using(crate::proofs::Linked::master_noted, crate::proofs::Linked::notes_one))]
-    #[inline(always)]
-    pub(crate) fn note_master(
+    pub(crate) fn master_acted<C: Channel>(
         &mut self,
+        number: u16,
         tick: bool,
         came: &[u8],
         did: &Did,
         sent: &FrameBuf,
         watchdog: Option<u16>,
+        channel: &mut C,
     )
         requires few { self.old.monitor.noted + 1 < 2 ^ 64 }
-        ensures stands { MasterNoted self.old tick came.now did.now sent.now watchdog self.new }
+        ensures noted { MasterNoted self.old tick came.now did.now sent.now watchdog self.new }
+        ensures pushed { Trace (sent_uses (place_of number side.Slave) sent.now self.old.cut) (C.told channel.old) (C.told channel.new) }
         ensures notes { NotesOne self.old self.new }
     {
         self.watch
             .note_parts(End::Master, tick, came, did, sent, watchdog);
+        push_sent(channel, number, End::Slave, sent, self.cut);
+    }
+
+    /// Notes that the master was set, at which nothing came and nothing was sent.
+    #[tactic(auto, using(crate::proofs::Linked::master_noted, crate::proofs::Linked::notes_one))]
+    #[inline(always)]
+    pub(crate) fn note_setting(&mut self)
+        requires few { self.old.monitor.noted + 1 < 2 ^ 64 }
+        ensures noted { MasterNoted self.old false [] nothing [] None self.new }
+        ensures notes { NotesOne self.old self.new }
+    {
+        let (did, sent) = (Did::nothing(), FrameBuf::new());
+        self.watch
+            .note_parts(End::Master, false, &[], &did, &sent, None);
     }
 
     /// Cuts the connection, or joins it again.
@@ -160,13 +211,6 @@ impl Link {
         ensures { self.new ≡ record self.old { cut = cut } }
     {
         self.cut = cut;
-    }
-
-    /// Whether the connection is cut.
-    pub(crate) fn is_cut(&self) -> bool
-        ensures { result ≡ self.now.cut }
-    {
-        self.cut
     }
 
     /// The state of the slave.

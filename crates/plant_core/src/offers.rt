@@ -4,13 +4,13 @@ ghost use Rattle.fsoe_base.specs.Did.{nothing};
 ghost use Rattle.multi_master.specs.Standing as multi;
 ghost use Rattle.plant_model.specs.declared.journal.JournalStep.TheVariants as step;
 ghost use Rattle.plant_core.specs.Doing.{OffersNoted};
-ghost use Rattle.plant_core.specs.Standing.{AreNoted, fixed_in};
+ghost use Rattle.plant_core.specs.Standing.{AreNoted};
 ghost use Rattle.plant_core.specs.Link.{MasterNoted, NotesOne};
 
 use crate::journal::note;
 use crate::link::Link;
 use failsafe_io::Application;
-use fsoe_base::{Did, FrameBuf, Image, MOST_DATA};
+use fsoe_base::{Image, MOST_DATA};
 use multi_master::MultiMaster;
 use plant_model::JournalStep;
 
@@ -34,7 +34,7 @@ fn note_offer(number: u16, load: &[u8], link: &mut Link, steps: &mut Vec<Journal
             load: offer,
         },
     );
-    link.note_master(false, &[], &Did::nothing(), &FrameBuf::new(), None);
+    link.note_setting();
 }
 
 /// Notes the offers that the last call of the master changed, in the order of the connections.
@@ -48,7 +48,6 @@ pub(crate) fn note_offers<A: Application>(
     requires noted { AreNoted (2 * vec_len steps.old) links.old }
     ensures offers { OffersNoted (multi.seen A.rule A.holds A.guards master.now) links.old links.new steps.old.items steps.new.items }
     ensures noted { AreNoted (2 * vec_len steps.new) links.new }
-    ensures fixed { fixed_in links.new ≡ fixed_in links.old }
     ensures room { vec_len steps.new ≤ vec_len steps.old + length links.old }
     ensures capacity { vec_capacity steps.old ≤ vec_capacity steps.new }
 {

@@ -47,12 +47,12 @@ returns-clause-goes g c =
     let later : length late ≡ length mid = same_count late mid (c.masters_ticked.ensures.fixed ∙ ap fixed_in second) in
     let back = written_back late mid links.len (links.ok.0 ∙ sym count) later in
     let third : c.as_mut_slice-5.result.now ≡ late = (rw first at c.as_mut_slice-5.ensures.value) ∙ back in
-    let latest : length last ≡ length late = same_count last late (c.note_offers.ensures.fixed ∙ ap fixed_in third) in
+    let latest : length last ≡ length late = same_count last late (c.note_offers.ensures.offers.fixed ∙ ap fixed_in third) in
     let written = written_back last late links.len (links.ok.0 ∙ sym count ∙ sym later) latest in
     let dids_are : c.as_slice.result.now ≡ c.tick.new.dids = c.as_slice.ensures.value ∙ written_back c.tick.new.dids dids.items dids.len dids.ok.0 (cc) in
     let outs_are : c.as_slice-2.result.now ≡ c.tick.new.outs = c.as_slice-2.ensures.value ∙ written_back c.tick.new.outs outs.items outs.len outs.ok.0 (cc) in
-    let slaves = rw c.as_mut_slice.ensures.value at c.tick_slaves.ensures.tick in
-    let masters = rw (dids_are, outs_are, second) at c.masters_ticked.ensures.noted_are in
+    let slaves = rw c.as_mut_slice.ensures.value at c.tick_slaves.ensures in
+    let masters = rw (dids_are, outs_are, second) at c.masters_ticked.ensures in
     let offers = rw (third, c.note.ensures.noted) at c.note_offers.ensures.offers in
     rw (first, back, written) (tick_goes _ _ _ _ (search rules))
 
