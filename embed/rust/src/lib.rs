@@ -1,7 +1,7 @@
 //! Both ends of a Gatepast connection, Safety over EtherCAT in a profile of its own.
 //!
 //! An end has no clock and no communication interface: your program passes in frames and ticks, and sends its frames.
-//! It lies in memory that you lend it, allocates none, and needs no operating system. The machine code behind it is
+//! It lies in memory that you lend it, allocates none, and needs no operating system. The source of the archive is
 //! proved to do what the profile says; this package is a thin layer over it, and isn't proved. The archive refuses no
 //! call that the types allow. Lengths are part of the type of an end, a session id has the bits that its profile
 //! allows, and a master that owes a frame sends it first. Your other duties are in `docs/duties.md`: send each step's
