@@ -15,7 +15,7 @@ pub use Rattle.master_core.specs.Waiting.{Accepts, Replies, ShowsDue, Waits}
 pub use Rattle.multi_master.specs.Calls.{AppView, Call, ChangeApp, Deliver, IsSound, Meant, Nonce, Tick, after, all_tick, answer, changed_by, changed_from, connection, cycle_in, event_at, event_on, meant, with_cycle}
 pub use Rattle.multi_master.specs.Connection.{Connection, fresh, is_offer, next_deed, offer_at, offer_len, outputs_at, setup, with_event, with_offer, with_offers}
 pub use Rattle.multi_master.specs.New.{first_fault}
-pub use Rattle.multi_master.specs.Puts.{Cycles, HaveTicked, MayBePut, MayBeRead, PutsAnswer, PutsEach, RunsCycle, Stands, StandsIf, TicksEach, TicksOne, delivery_at, first_input}
+pub use Rattle.multi_master.specs.Puts.{AreNew, HavePut, HaveTicked, MayBePut, MayBeRead, PutsAnswer, PutsEach, RunsCycle, Stands, StandsIf, TicksEach, TicksOne, delivery_at}
 pub use Rattle.multi_master.specs.Standing.{AnswersFrame, AnswersTick, AreNumbers, Follows, IsMulti, IsNumber, IsWhere, MultiView, ShowsAt, StandsFor, due_in, newest_at, numbers_of, own_len, settings_in}
 pub use Rattle.param_load.specs.declared.entry.Move.{Move}
 pub use Rattle.param_load.specs.declared.master_settings.MasterSettings.{MasterSettings}

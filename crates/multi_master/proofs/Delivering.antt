@@ -14,9 +14,11 @@ cycle-is : (m : Meant) (place : ℕ) (c : Connection) (bytes : List ℕ) (b : Bo
     → cycle_in (Deliver (suc place) bytes) m ≡ (if b then Some (answer false (event_at (suc place) (move.Deliver bytes) m)) else None)
 cycle-is m place c bytes b h k = grind arith
 
--- the newest deed of a connection that is there
-newest-is : (m : Meant) (place : ℕ) (c : Connection) (x : Deed) (e : List Deed) → slice_get m.connections place ≡ Some c → c.deeds ≡ x ∷ e → newest_at (suc place) m ≡ Some x
-newest-is m place c x e h k = grind arith
+-- the newest deed of a connection at which an event came
+newest-is : (m : Meant) (place : ℕ) (c : Connection) (what : Move) → slice_get m.connections place ≡ Some c → newest_at (suc place) (with_one m place what c) ≡ Some (next_deed what c)
+newest-is m place c what h =
+    let there = set_there m.connections place c (with_event what c) h in
+    grind arith
 
 -- what a delivery means: its cycle, if it ran one, the connection then, and the deed there that answers the frame
 pub record Delivered (m : Meant) (place : ℕ) (bytes : List ℕ) (did : Did) (new : MultiView) (frame : List ℕ) : Type 0 where
@@ -27,52 +29,47 @@ pub record Delivered (m : Meant) (place : ℕ) (bytes : List ℕ) (did : Did) (n
   pub stands : StandsIn m.connections cycle (with_one (with_cycle cycle m) place (move.Deliver bytes) there) new
   pub deed_is : next_deed (move.Deliver bytes) there ≡ deed (move.Deliver bytes) did frame
 
-pub record Delivers (old : MultiView) (place : ℕ) (bytes : List ℕ) (did : Did) (new : MultiView) (frame : List ℕ) : Type 0 where
-  pub each : (settings : List MasterSettings) (app : AppView) (calls : List Call) → StandsFor settings app old calls → Delivered (meant settings app calls) place bytes did new frame
+abbrev pub Delivers : MultiView → ℕ → List ℕ → Did → MultiView → List ℕ → Type 0
+Delivers old place bytes did new frame = (settings : List MasterSettings) (app : AppView) (calls : List Call) → StandsFor settings app old calls → Delivered (meant settings app calls) place bytes did new frame
 
 after-is : (m : Meant) (place : ℕ) (bytes : List ℕ) (did : Did) (new : MultiView) (frame : List ℕ) (x : Delivered m place bytes did new frame)
     → after (Deliver (suc place) bytes) m ≡ with_one (with_cycle x.cycle m) place (move.Deliver bytes) x.there
 after-is m place bytes did new frame x =
     ap (λ (o : Option Answer). event_at (suc place) (move.Deliver bytes) (with_cycle o m)) x.cycle_is ∙ event_is (with_cycle x.cycle m) place x.there (move.Deliver bytes) x.is
 
-pub delivery_follows : (old new : MultiView) (place : ℕ) (bytes : List ℕ) (did : Did) (frame : List ℕ) → Delivers old place bytes did new frame → Follows old (Deliver (suc place) bytes) new
-delivery_follows old new place bytes did frame d = record {
-  stands = λ settings app calls h.
-      let x = d.each settings app calls h in
-      stands_so settings app old new calls (Deliver (suc place) bytes) x.cycle _ h x.cycle_is (after-is _ place bytes did new frame x) x.stands;
-}
-
-pub delivery_answers : (old new : MultiView) (place : ℕ) (bytes : List ℕ) (did : Did) (frame : List ℕ) → Delivers old place bytes did new frame → AnswersFrame old (suc place) bytes did frame
-delivery_answers old new place bytes did frame d = record {
-  answers = λ settings app calls h.
-      let x = d.each settings app calls h in
-      let put : Meant = with_cycle x.cycle (meant settings app calls) in
-      let what : Move = move.Deliver bytes in
-      ap (λ (y : Meant). newest_at (suc place) y) (after-is _ place bytes did new frame x)
-      ∙ newest-is (with_one put place what x.there) place (with_event what x.there) (next_deed what x.there) x.there.deeds (set_there put.connections place x.there _ x.is) refl
-      ∙ ap (λ (y : Deed). Some y) x.deed_is;
-}
+pub delivered : (old new : MultiView) (place : ℕ) (bytes : List ℕ) (did : Did) (frame : List ℕ) → Delivers old place bytes did new frame → Follows old (Deliver (suc place) bytes) new × AnswersFrame old (suc place) bytes did frame
+delivered old new place bytes did frame d = (
+  record {
+    stands = λ settings app calls h.
+        let x = d settings app calls h in
+        stands_so settings app old new calls (Deliver (suc place) bytes) x.cycle _ h x.cycle_is (after-is _ place bytes did new frame x) x.stands;
+  },
+  record {
+    answers = λ settings app calls h.
+        let x = d settings app calls h in
+        ap (λ (y : Meant). newest_at (suc place) y) (after-is _ place bytes did new frame x)
+        ∙ newest-is (with_cycle x.cycle (meant settings app calls)) place x.there (move.Deliver bytes) x.is ∙ ap (λ (y : Deed). Some y) x.deed_is;
+  },
+)
 
 -- nothing is taken of the frame and no session ends
 pub dropped : (old new : MultiView) (place : ℕ) (bytes : List ℕ) (did : Did) (before last : MasterView) (frame : List ℕ) → slice_get old.masters place ≡ Some before → Accepts before bytes did last
     → due_in last ≡ false → tells_due did ≡ false → frame ≡ [] → new.masters ≡ slice_set old.masters place last → new.app ≡ old.app → new.inputs ≡ old.inputs → new.changed ≡ []
     → Delivers old place bytes did new frame
-dropped old new place bytes did before last frame at accepts rest untold f nm na ni nc = record {
-  each = λ settings app calls h.
-      let m : Meant = meant settings app calls in
-      let p = at_place IsWhere m.connections old.masters place before h.masters at in
-      let c : Connection = p.there in
-      let u = accepts.under_way c.settings c.deeds p.holds in
-      let none : tells_due (next_deed (move.Deliver bytes) c).did ≡ false = sym (ap (λ (x : Did). tells_due x) u.did) ∙ untold in
-      record {
-        cycle = None;
-        cycle_is = cycle-is m place c bytes false p.is none;
-        there = c;
-        is = p.is;
-        stands = quiet_stands settings app old new calls place (move.Deliver bytes) c last h p.is (quiet_frame (setup c) c.deeds bytes none) (u.is_after rest) nm na ni nc;
-        deed_is = quiet_deed (setup c) c.deeds bytes p.holds.reached none ∙ ap₂ (λ (x : Did) (sent : List ℕ). deed (move.Deliver bytes) x sent) (sym u.did) (sym f);
-      };
-}
+dropped old new place bytes did before last frame at accepts rest untold f nm na ni nc = λ settings app calls h.
+    let m : Meant = meant settings app calls in
+    let p = at_place IsWhere m.connections old.masters place before h.masters at in
+    let c : Connection = p.there in
+    let u = accepts.under_way c.settings c.deeds p.holds in
+    let none : tells_due (next_deed (move.Deliver bytes) c).did ≡ false = sym (ap (λ (x : Did). tells_due x) u.did) ∙ untold in
+    record {
+      cycle = None;
+      cycle_is = cycle-is m place c bytes false p.is none;
+      there = c;
+      is = p.is;
+      stands = quiet_stands settings app old new calls place (move.Deliver bytes) c last h p.is (quiet_frame (setup c) c.deeds bytes none) (u.is_after rest) nm na ni nc;
+      deed_is = quiet_deed (setup c) c.deeds bytes p.holds.reached none ∙ ap₂ (λ (x : Did) (sent : List ℕ). deed (move.Deliver bytes) x sent) (sym u.did) (sym f);
+    }
 
 -- masters with no frame due stand alike, whether or not a frame came
 stand-alike : (frame : List ℕ × Did) (cs : List Connection) (ms : List MasterView) → AllZip IsWhere cs ms → AllZip (Stands (Some frame)) cs ms
@@ -86,84 +83,64 @@ stand-again frame (c ∷ cs) (m ∷ ms) r h =
     (subst (λ (due : Bool). StandsIf (Some frame) due c m) (All-head (λ m. due_in m ≡ false) m ms r) h.0, stand-again frame cs ms (All-tail (λ m. due_in m ≡ false) m ms r) h.1)
 stand-again frame _ _ r h = absurd h
 
--- the frame is taken, or its session ends
-pub record Hears (old : MultiView) (place : ℕ) (bytes : List ℕ) (did : Did) (new : MultiView) (frame : List ℕ) : Type 0 where
-  pub before : MasterView
-  pub accepted : MasterView
-  pub input : List ℕ
-  pub put : List MasterView
-  pub ready : MasterView
-  pub last : MasterView
-  pub at : slice_get old.masters place ≡ Some before
-  pub accepts : Accepts before bytes did accepted
-  pub settings : settings_in accepted ≡ settings_in before
-  pub some : tells_due did ≡ true
-  pub waits : due_in accepted ≡ true
-  pub reads : ShowsDue accepted input out
-  pub inputs_are : new.inputs ≡ slice_set old.inputs place input
-  pub cycle : RunsCycle old.app false new.inputs (slice_set old.masters place accepted) new.app put new.changed
-  pub ready_at : slice_get put place ≡ Some ready
-  pub due : due_in ready ≡ true
-  pub replies : Replies ready last frame
-  pub masters_are : new.masters ≡ slice_set put place last
-  pub rest : All (λ m. due_in m ≡ false) (slice_set put place last)
-
-pub answered : (old new : MultiView) (place : ℕ) (bytes : List ℕ) (did : Did) (frame : List ℕ) → Hears old place bytes did new frame → Delivers old place bytes (record did { sent = true }) new frame
-answered old new place bytes did frame t = record {
-  each = λ settings app calls h.
-      let m : Meant = meant settings app calls in
-      let cs : List Connection = m.connections in
-      let what : Move = move.Deliver bytes in
-      let p = at_place IsWhere cs old.masters place t.before h.masters t.at in
-      let c : Connection = p.there in
-      let d : Connection = with_event what c in
-      let u = t.accepts.under_way c.settings c.deeds p.holds in
-      let taken : tells_due (next_deed what c).did ≡ true = sym (ap (λ (x : Did). tells_due x) u.did) ∙ t.some in
-      let with_frame : Meant = with_one m place what c in
-      let inputs : new.inputs ≡ map outputs_at with_frame.connections =
-      t.inputs_are ∙ ap₂ (λ (xs : List (List ℕ)) (x : List ℕ). slice_set xs place x) h.inputs_are (t.reads.shows _ u.waits) ∙ sym (map-set outputs_at cs place d)
-      in
-      let lens : map own_len (slice_set old.masters place t.accepted) ≡ map offer_len with_frame.connections =
-      map_set own_len old.masters place t.before t.accepted t.at (ap (λ s. s.lengths.master) t.settings) ∙ own_lens cs old.masters h.masters ∙ sym (map_set offer_len cs place c d p.is refl)
-      in
-      let came : List ℕ × Did = (bytes, did) in
-      let waiting : Stands (Some came) c t.accepted = subst (λ (due : Bool). StandsIf (Some came) due c t.accepted) (sym t.waits) u.waits in
-      let same : slice_set cs place c ≡ cs = ap (slice_set cs place) (sym (get_or_from_slice_get cs place c c p.is)) ∙ set-get_or cs place c in
-      let stand : AllZip (Stands (Some came)) cs (slice_set old.masters place t.accepted) =
-      subst (λ (xs : List Connection). AllZip (Stands (Some came)) xs (slice_set old.masters place t.accepted)) same
-      (zip_set (Stands (Some came)) cs old.masters place c t.accepted (stand-alike came cs old.masters h.masters) waiting)
-      in
-      let a : Answer = answer false with_frame in
-      let y = cycle_put with_frame false (Some came) cs old.app new.app new.inputs (slice_set old.masters place t.accepted) t.put new.changed h.app_is inputs lens stand t.cycle in
-      let put : List Connection = with_offers a.outputs cs in
-      let q = at_place (Stands (Some came)) put t.put place t.ready y.stand t.ready_at in
-      let e : Connection = with_event what q.there in
-      let waits : Waits t.ready (delivery_at q.there came) = subst (λ (due : Bool). StandsIf (Some came) due q.there t.ready) t.due q.holds in
-      let same_did : (next_deed what q.there).did ≡ record did { sent = true } = t.replies.did (delivery_at q.there came) waits ∙ ap (λ (b : Bool). record did { sent = b }) t.due in
-      let shows : outputs_at e ≡ outputs_at d =
-      same_outputs c q.there bytes (same_at (λ (x : Connection). x.settings) (λ (x : Connection). x.settings) put cs place q.there c (all_settings_put cs a.outputs) q.is p.is)
-      (same_at outputs_at outputs_at put cs place q.there c (all_outputs_put cs a.outputs) q.is p.is)
-      (ap (λ (x : Did). x.took) same_did ∙ ap (λ (x : Did). x.took) u.did) (ap (λ (x : Did). x.reset) same_did ∙ ap (λ (x : Did). x.reset) u.did)
-      in
-      let kept : map outputs_at with_frame.connections ≡ map outputs_at (slice_set put place e) =
-      map-set outputs_at cs place d ∙ ap₂ (λ (xs : List (List ℕ)) (x : List ℕ). slice_set xs place x) (sym (all_outputs_put cs a.outputs)) (sym shows) ∙ sym (map-set outputs_at put place e)
-      in
-      let replied : Stands (Some came) e t.last = subst (λ (due : Bool). StandsIf (Some came) due e t.last) (sym (ap due_in (t.replies.is_after _ waits).is)) (t.replies.is_after _ waits) in
-      record {
-        cycle = Some a;
-        cycle_is = cycle-is m place c bytes true p.is taken ∙ ap (λ (x : Meant). Some (answer false x)) (event_is m place c what p.is);
-        there = q.there;
-        is = q.is;
-        stands = record {
-          masters = rw t.masters_are (stand-again came (slice_set put place e) (slice_set t.put place t.last) t.rest (zip_set (Stands (Some came)) put t.put place e t.last y.stand replied));
-          app_is = y.app_is;
-          inputs_are = inputs ∙ kept;
-          changed_are = y.told_are;
-          sound = record {
-            answered = map_set offer_at put place q.there e q.is refl ∙ y.answered;
-            guarded = subst (λ (xs : List (List ℕ)). GuardsBy m.app.guards xs a.outputs) kept y.guarded;
-          };
+-- the frame is taken, or its session ends: the cycle is run while the master waits, and then it replies
+pub answered : (old new : MultiView) (place : ℕ) (bytes : List ℕ) (did : Did) (frame : List ℕ) (before accepted ready last : MasterView) (input : List ℕ) (put : List MasterView) → slice_get old.masters place ≡ Some before
+    → Accepts before bytes did accepted → settings_in accepted ≡ settings_in before → due_in accepted ≡ tells_due did → due_in accepted ≡ true → ShowsDue accepted input out → new.inputs ≡ slice_set old.inputs place input
+    → RunsCycle old.app false new.inputs (slice_set old.masters place accepted) new.app put new.changed → slice_get put place ≡ Some ready → due_in ready ≡ true → Replies ready last frame
+    → new.masters ≡ slice_set put place last → All (λ m. due_in m ≡ false) new.masters → Delivers old place bytes (record did { sent = true }) new frame
+answered old new place bytes did frame before accepted ready last input put at accepts same_settings told waiting reads ni cycle ready_at due replies nm rest = λ settings app calls h.
+    let m : Meant = meant settings app calls in
+    let cs : List Connection = m.connections in
+    let what : Move = move.Deliver bytes in
+    let p = at_place IsWhere cs old.masters place before h.masters at in
+    let c : Connection = p.there in
+    let d : Connection = with_event what c in
+    let u = accepts.under_way c.settings c.deeds p.holds in
+    let taken : tells_due (next_deed what c).did ≡ true = sym (ap (λ (x : Did). tells_due x) u.did) ∙ sym told ∙ waiting in
+    let with_frame : Meant = with_one m place what c in
+    let inputs : new.inputs ≡ map outputs_at with_frame.connections =
+    ni ∙ ap₂ (λ (xs : List (List ℕ)) (x : List ℕ). slice_set xs place x) h.inputs_are (reads.shows _ u.waits) ∙ sym (map-set outputs_at cs place d)
+    in
+    let lens : map own_len (slice_set old.masters place accepted) ≡ map offer_len with_frame.connections =
+    map_set own_len old.masters place before accepted at (ap (λ s. s.lengths.master) same_settings) ∙ own_lens cs old.masters h.masters ∙ sym (map_set offer_len cs place c d p.is refl)
+    in
+    let came : List ℕ × Did = (bytes, did) in
+    let here : Stands (Some came) c accepted = subst (λ (due : Bool). StandsIf (Some came) due c accepted) (sym waiting) u.waits in
+    let same : slice_set cs place c ≡ cs = ap (slice_set cs place) (sym (get_or_from_slice_get cs place c c p.is)) ∙ set-get_or cs place c in
+    let stand : AllZip (Stands (Some came)) cs (slice_set old.masters place accepted) =
+    subst (λ (xs : List Connection). AllZip (Stands (Some came)) xs (slice_set old.masters place accepted)) same
+    (zip_set (Stands (Some came)) cs old.masters place c accepted (stand-alike came cs old.masters h.masters) here)
+    in
+    let a : Answer = answer false with_frame in
+    let y = cycle_put with_frame false (Some came) cs old.app new.app new.inputs (slice_set old.masters place accepted) put new.changed h.app_is inputs lens stand cycle in
+    let offered : List Connection = with_offers a.outputs cs in
+    let q = at_place (Stands (Some came)) offered put place ready y.put.stand ready_at in
+    let e : Connection = with_event what q.there in
+    let waits : Waits ready (delivery_at q.there came) = subst (λ (due : Bool). StandsIf (Some came) due q.there ready) due q.holds in
+    let same_did : (next_deed what q.there).did ≡ record did { sent = true } = replies.did (delivery_at q.there came) waits ∙ ap (λ (b : Bool). record did { sent = b }) due in
+    let shows : outputs_at e ≡ outputs_at d =
+    same_outputs c q.there bytes (same_at (λ (x : Connection). x.settings) (λ (x : Connection). x.settings) offered cs place q.there c (all_settings_put cs a.outputs) q.is p.is)
+    (same_at outputs_at outputs_at offered cs place q.there c (all_outputs_put cs a.outputs) q.is p.is)
+    (ap (λ (x : Did). x.took) same_did ∙ ap (λ (x : Did). x.took) u.did) (ap (λ (x : Did). x.reset) same_did ∙ ap (λ (x : Did). x.reset) u.did)
+    in
+    let kept : map outputs_at with_frame.connections ≡ map outputs_at (slice_set offered place e) =
+    map-set outputs_at cs place d ∙ ap₂ (λ (xs : List (List ℕ)) (x : List ℕ). slice_set xs place x) (sym (all_outputs_put cs a.outputs)) (sym shows) ∙ sym (map-set outputs_at offered place e)
+    in
+    let replied : Stands (Some came) e last = subst (λ (due : Bool). StandsIf (Some came) due e last) (sym (ap due_in (replies.is_after _ waits).is)) (replies.is_after _ waits) in
+    record {
+      cycle = Some a;
+      cycle_is = cycle-is m place c bytes true p.is taken ∙ ap (λ (x : Meant). Some (answer false x)) (event_is m place c what p.is);
+      there = q.there;
+      is = q.is;
+      stands = record {
+        masters = stand-again came (slice_set offered place e) new.masters rest (rw nm (zip_set (Stands (Some came)) offered put place e last y.put.stand replied));
+        app_is = y.app_is;
+        inputs_are = inputs ∙ kept;
+        changed_are = y.put.told_are;
+        sound = record {
+          answered = map_set offer_at offered place q.there e q.is refl ∙ y.answered;
+          guarded = subst (λ (xs : List (List ℕ)). GuardsBy m.app.guards xs a.outputs) kept y.guarded;
         };
-        deed_is = same_deed what _ _ _ _ same_did (sym (t.replies.sent (delivery_at q.there came) waits));
       };
-}
+      deed_is = same_deed what _ _ _ _ same_did (sym (replies.sent (delivery_at q.there came) waits));
+    }

@@ -1,5 +1,5 @@
 -- What a call does, from what it does to the masters, the inputs and the application.
-use Rattle.multi_master.proofs.Common.{AllZip, AnswersTick, AppView, ChangeApp, Connection, Cycles, Did, Follows, GuardsBy, IsWhere, MasterView, Meant, MultiView, PutsEach, RunsCycle, Stands, Tick, TicksEach, all_tick, answer, changed_from, meant, numbers_of, offer_at, offer_len, outputs_at, own_len, with_cycle, with_offers}
+use Rattle.multi_master.proofs.Common.{AllZip, AnswersTick, AppView, ChangeApp, Connection, Did, Follows, GuardsBy, HavePut, IsWhere, MasterView, Meant, MultiView, PutsEach, RunsCycle, Stands, Tick, TicksEach, all_tick, answer, changed_from, meant, numbers_of, offer_at, offer_len, outputs_at, own_len, with_cycle, with_offers}
 use Rattle.std.proofs.Common.{◌≡◌, ℕ, List, [], ◌∷◌, map, Option, Some, None, Bool, true, false, refl, sym, ap, ap₂, subst, ◌∙◌, arith}
 use Rattle.std.proofs.lemmas.Slice.Zip.{AllZip-long}
 use Rattle.multi_master.proofs.Putting.{offers_put, all_outputs_put}
@@ -12,17 +12,10 @@ own_lens [] [] h = refl
 own_lens (c ∷ cs) (m ∷ ms) h = ap₂ (λ (n : ℕ) (ns : List ℕ). n ∷ ns) (ap own_len h.0.is) (own_lens cs ms h.1)
 own_lens _ _ h = absurd h
 
--- the answer of a cycle, by what is meant
-cycle-answers : (m : Meant) (old new : AppView) (ticked : Bool) (inputs : List (List ℕ)) (lens : List ℕ) (answers : List (List ℕ)) → old ≡ m.app → inputs ≡ map outputs_at m.connections
-    → lens ≡ map offer_len m.connections → Cycles old ticked inputs lens answers new
-    → (answers ≡ (answer ticked m).outputs) × (new ≡ record m.app { holds = (answer ticked m).holds })
-cycle-answers m old new ticked inputs lens answers h k l n = grind arith
-
 -- a cycle was run over what is meant, and its answers were put at these connections
 pub record CyclePut (m : Meant) (ticked : Bool) (frame : Option (List ℕ × Did)) (cs : List Connection) (masters : List MasterView) (app : AppView) (told : List ℕ) : Type 0 where
-  pub stand : AllZip (Stands frame) (with_offers (answer ticked m).outputs cs) masters
+  pub put : HavePut frame cs (answer ticked m).outputs masters told
   pub app_is : app ≡ record m.app { holds = (answer ticked m).holds }
-  pub told_are : told ≡ numbers_of (changed_from 1 cs (answer ticked m).outputs)
   pub answered : map offer_at (with_offers (answer ticked m).outputs cs) ≡ (answer ticked m).outputs
   pub guarded : GuardsBy m.app.guards (map outputs_at m.connections) (answer ticked m).outputs
 
@@ -30,14 +23,13 @@ pub cycle_put : (m : Meant) (ticked : Bool) (frame : Option (List ℕ × Did)) (
     → inputs ≡ map outputs_at m.connections → map own_len middle ≡ map offer_len m.connections → AllZip (Stands frame) cs middle → RunsCycle old ticked inputs middle new masters told
     → CyclePut m ticked frame cs masters new told
 cycle_put m ticked frame cs old new inputs middle masters told a i l w r =
-    let both = cycle-answers m old new ticked inputs (map own_len middle) r.answers a i l r.cycle in
+    let both : (r.answers ≡ (answer ticked m).outputs) × (new ≡ record m.app { holds = (answer ticked m).holds }) = grind arith in
     let p : PutsEach middle (answer ticked m).outputs masters told = subst (λ (loads : List (List ℕ)). PutsEach middle loads masters told) both.0 r.puts in
     record {
-      stand = p.stand frame cs w;
+      put = p.each frame cs w;
       app_is = both.1;
-      told_are = p.told_are frame cs w;
       answered = offers_put (answer ticked m).outputs cs (p.long ∙ AllZip-long (Stands frame) cs middle w);
-      guarded = rw (← both.0, ← i, ← a) r.cycle.guarded;
+      guarded = rw (← both.0, ← i, ← a) r.guarded;
     }
 
 -- it was run while no frame was due, by connections where the same offers are changed
@@ -49,10 +41,10 @@ cycle-stands m ticked cs old middle new same a i w r =
     let p = cycle_put m ticked None m.connections old new.app new.inputs middle new.masters new.changed a i (own_lens m.connections middle w) w r in
     let kept : map outputs_at m.connections ≡ map outputs_at (with_offers loads m.connections) = sym (all_outputs_put m.connections loads) in
     record {
-      masters = p.stand;
+      masters = p.put.stand;
       app_is = p.app_is;
       inputs_are = i ∙ kept;
-      changed_are = p.told_are ∙ ap numbers_of (same loads);
+      changed_are = p.put.told_are ∙ ap numbers_of (same loads);
       sound = record { answered = p.answered; guarded = subst (λ (xs : List (List ℕ)). GuardsBy m.app.guards xs loads) kept p.guarded };
     }
 

@@ -1,5 +1,4 @@
 pub mod Places
-pub mod Beginning
 pub mod Delivering
 pub mod Following
 pub mod Keeping

@@ -1,14 +1,14 @@
 -- Loops over lists, place by place.
-use Rattle.multi_master.proofs.Common.{All-append, All-weaker, IsNumber, get_or_from_slice_get, map-append, slice_get_within, take_more, take_more_set}
-use Rattle.std.proofs.Common.{◌≡◌, ◌≤◌, ◌<◌, ℕ, ◌+◌, List, [], ◌∷◌, ◌++◌, map, length, take, slice_get, slice_set, Some, Bool, All, if◌then◌else◌, sym, ap, subst, ◌∙◌, arith}
-use Rattle.multi_master.proofs.Places.{set_before}
+use Rattle.multi_master.proofs.Common.{All-append, All-weaker, AreNumbers, IsNumber, common_steps, get_or_from_slice_get, map-append, slice_get_within, take_more, take_more_set}
+use Rattle.std.proofs.Common.{◌≡◌, ◌≤◌, ◌<◌, ℕ, ◌+◌, List, [], ◌∷◌, ◌++◌, map, length, take, slice_get, slice_set, Some, Bool, if◌then◌else◌, sym, ap, ap₂, ◌∙◌, arith, length-append}
+use Rattle.std.proofs.lemmas.Option.{gets}
 
 -- from a place on, a list is as it was
 abbrev pub Untouched : {A : Type 0} → ℕ → List A → List A → Type 0
 Untouched i old now = (k : ℕ) → i ≤ k → slice_get now k ≡ slice_get old k
 
 pub untouched_more : {A : Type 0} (i : ℕ) (old now now' : List A) (y : A) → Untouched i old now → now' ≡ slice_set now i y → Untouched (i + 1) old now'
-untouched_more i old now now' y h set = λ k late. ap (λ xs. slice_get xs k) set ∙ set_before now i k y (omega arith) ∙ h k (omega arith)
+untouched_more i old now now' y h set = λ k late. let was = h k (omega arith) in grind (arith, common_steps, gets)
 
 -- the first places of a list with the next one
 pub next_taken : {A : Type 0} (xs : List A) (i : ℕ) (x : A) → slice_get xs i ≡ Some x → take (i + 1) xs ≡ take i xs ++ x ∷ []
@@ -19,12 +19,16 @@ pub written_more : {S A : Type 0} (f : S → A) (steps : List S) (x : S) (now no
     → map f (steps ++ x ∷ []) ≡ take (i + 1) now'
 written_more f steps x now now' i h within set = map-append f steps (x ∷ []) ∙ ap (λ ys. ys ++ f x ∷ []) h ∙ sym (ap (take (i + 1)) set ∙ take_more_set now i (f x) within)
 
--- the numbers of the connections up to a place, and of the next one where it is told
-number-here : (told : Bool) (i : ℕ) → All (IsNumber (i + 1)) (if told then (i + 1) ∷ [] else [])
-number-here told i = grind arith
+-- a list that says what the steps so far say, with one step more
+pub mapped_more : {S A : Type 0} (f : S → A) (steps : List S) (x : S) (ys : List A) (y : A) → ys ≡ map f steps → y ≡ f x → ys ++ y ∷ [] ≡ map f (steps ++ x ∷ [])
+mapped_more f steps x ys y h is = ap₂ (λ zs z. zs ++ z ∷ []) h is ∙ sym (map-append f steps (x ∷ []))
 
-pub number_told : (told : Bool) (i : ℕ) (old new : List ℕ) → new ≡ old ++ (if told then (i + 1) ∷ [] else []) → All (IsNumber i) old → All (IsNumber (i + 1)) new
+-- the numbers of the connections up to a place, and of the next one where it is told
+pub number_told : (told : Bool) (i : ℕ) (old new : List ℕ) → new ≡ old ++ (if told then (i + 1) ∷ [] else []) → AreNumbers i old → AreNumbers (i + 1) new
 number_told told i old new e h =
-    subst (All (IsNumber (i + 1))) (sym e)
-    (All-append (IsNumber (i + 1)) old (if told then (i + 1) ∷ [] else [])
-    (All-weaker (IsNumber i) (IsNumber (i + 1)) (λ n is. let last = is.last in record { first = is.first; last = omega arith }) old h) (number-here told i))
+    let few = h.few in
+    rw e (record {
+      few = grind (arith, length-append);
+      each = All-append (IsNumber (i + 1)) old (if told then (i + 1) ∷ [] else [])
+          (All-weaker (IsNumber i) (IsNumber (i + 1)) (λ n is. let last = is.last in record { first = is.first; last = omega arith }) old h.each) (grind arith);
+    })

@@ -52,13 +52,11 @@ suc-suc j k = ap compare_is_eq (compare.suc-suc j k)
 event-there : (own : List Move) (cs : List Connection) (link k : ℕ) (what : Move) → is_no_put what ≡ true → IfSome (slice_get cs k) (IsOwn own)
     → IfSome (slice_get (event_on link what cs) k) (IsOwn (own ++ (if link == suc k then what ∷ [] else [])))
 event-there own [] link k what n h = h
-event-there own (c ∷ cs) zero k what n h = not-own own (0 == suc k) what (slice_get (c ∷ cs) k) (grind arith) h
 event-there own (c ∷ cs) (suc zero) zero what n h = subst (λ (b : Bool). IsOwn (own ++ (if b then what ∷ [] else [])) (with_event what c)) n (event-own own what c h)
-event-there own (c ∷ cs) (suc zero) (suc k) what n h = not-own own (1 == suc (suc k)) what (slice_get cs k) (grind arith) h
-event-there own (c ∷ cs) (suc (suc place)) zero what n h = not-own own (suc (suc place) == 1) what (Some c) (grind arith) h
 event-there own (c ∷ cs) (suc (suc place)) (suc k) what n h =
     subst (λ (b : Bool). IfSome (slice_get (event_on (suc place) what cs) k) (IsOwn (own ++ (if b then what ∷ [] else [])))) (sym (suc-suc (suc place) (suc k)))
     (event-there own cs (suc place) k what n h)
+event-there own (c ∷ cs) link k what n h = not-own own (link == suc k) what (slice_get (c ∷ cs) k) (grind arith) h
 
 -- a connection's own events, call by call
 call-own : (own : List Move) (call : Call) (m : Meant) (k : ℕ) → IfSome (slice_get m.connections k) (IsOwn own) → IfSome (slice_get (after call m).connections k) (IsOwn (own ++ own_part (suc k) call))
@@ -78,10 +76,6 @@ pub all_own : (settings : List MasterSettings) (app : AppView) (calls : List Cal
 all_own settings app calls zero = tt
 all_own settings app [] (suc k) = fresh-own settings k
 all_own settings app (call ∷ calls) (suc k) = call-own (own_events (suc k) calls) call (meant settings app calls) k (all_own settings app calls (suc k))
-
-pub weaker : {P Q : Connection → Type 0} (o : Option Connection) → ((c : Connection) → P c → Q c) → IfSome o P → IfSome o Q
-weaker None so h = h
-weaker (Some c) so h = so c h
 
 -- what is the same after an event stays so at all connections
 pub event_keeps : {X : Type 0} (f : Connection → X) (link : ℕ) (what : Move) (cs : List Connection) → ((c : Connection) → f (with_event what c) ≡ f c) → map f (event_on link what cs) ≡ map f cs

@@ -1,6 +1,8 @@
 -- Two lists side by side, at a place.
 use Rattle.multi_master.proofs.Common.{All-get_or, AllZip, IsNumber, MasterView, common_steps, get_or_from_slice_get, length-map, settings_in, slice_get_read, slice_get_within}
 use Rattle.std.proofs.Common.{◌≡◌, ℕ, zero, suc, ◌<◌, ◌-◌, List, [], ◌∷◌, map, length, All, slice_get, slice_set, slice_index_or, Some, refl, sym, ap, subst, ◌∙◌, arith}
+use Rattle.std.proofs.lemmas.Option.{gets, slice_get-map}
+use Rattle.std.proofs.Math.Seq.{map-set_same}
 
 -- what is at a place of the first list goes with what is at that place of the second
 pub record At {A B : Type 0} (R : A → B → Type 0) (xs : List A) (k : ℕ) (y : B) : Type 0 where
@@ -40,22 +42,18 @@ all_at P xs k x h e = subst P (get_or_from_slice_get xs k x x e) (All-get_or P x
 
 -- the same list where what stands at a place goes to the same as what stood there
 pub map_set : {A B : Type 0} (f : A → B) (xs : List A) (k : ℕ) (x y : A) → slice_get xs k ≡ Some x → f y ≡ f x → map f (slice_set xs k y) ≡ map f xs
-map_set f [] k x y e h = absurd (cc e)
-map_set {B = B} f (a ∷ xs) zero x y e h = let i : a ≡ x = cc in ap (λ (z : B). z ∷ map f xs) (h ∙ ap f (sym i))
-map_set {B = B} f (a ∷ xs) (suc k) x y e h = ap (λ (zs : List B). f a ∷ zs) (map_set f xs k x y e h)
+map_set f xs k x y e h = map-set_same f xs k y x (h ∙ ap f (sym (get_or_from_slice_get xs k x x e)))
 
 -- at two lists that map to the same, what is at a place maps to the same
 pub same_at : {A B C : Type 0} (f : A → C) (g : B → C) (xs : List A) (ys : List B) (k : ℕ) (x : A) (y : B) → map f xs ≡ map g ys → slice_get xs k ≡ Some x → slice_get ys k ≡ Some y → f x ≡ g y
-same_at f g [] ys k x y h i j = absurd (cc i)
-same_at f g (a ∷ xs) [] k x y h i j = absurd (cc j)
-same_at f g (a ∷ xs) (b ∷ ys) zero x y h i j = let p : a ≡ x = cc in let q : b ≡ y = cc in let r : f a ≡ g b = cc in sym (ap f p) ∙ r ∙ ap g q
-same_at f g (a ∷ xs) (b ∷ ys) (suc k) x y h i j = same_at f g xs ys k x y (cc) i j
+same_at f g xs ys k x y h i j =
+    let a = slice_get-map f xs k in
+    let b = slice_get-map g ys k in
+    grind (arith, common_steps)
 
 -- what is set at a place is there
 pub set_there : {A : Type 0} (xs : List A) (k : ℕ) (x y : A) → slice_get xs k ≡ Some x → slice_get (slice_set xs k y) k ≡ Some y
-set_there [] k x y h = absurd (cc h)
-set_there (a ∷ xs) zero x y h = refl
-set_there (a ∷ xs) (suc k) x y h = set_there xs k x y h
+set_there xs k x y h = grind (arith, common_steps, gets)
 
 -- there is something at each place of a list
 pub some_at : {A : Type 0} (xs : List A) (k : ℕ) → k < length xs → (x : A) × (slice_get xs k ≡ Some x)
@@ -66,10 +64,3 @@ some_at (a ∷ xs) (suc k) h = some_at xs k (omega arith)
 -- lists that map to the same are as long
 pub same_length : {A B C : Type 0} (f : A → C) (g : B → C) (xs : List A) (ys : List B) → map f xs ≡ map g ys → length xs ≡ length ys
 same_length f g xs ys h = grind (arith, common_steps)
-
--- a later place is as before
-pub set_before : {A : Type 0} (xs : List A) (i k : ℕ) (y : A) → i < k → slice_get (slice_set xs i y) k ≡ slice_get xs k
-set_before (a ∷ xs) zero zero y h = absurd (omega arith)
-set_before (a ∷ xs) (suc i) zero y h = absurd (omega arith)
-set_before (a ∷ xs) (suc i) (suc k) y h = set_before xs i k y (omega arith)
-set_before _ _ _ y h = refl

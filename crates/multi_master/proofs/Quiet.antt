@@ -1,5 +1,5 @@
 -- Events that leave offers and outputs as they are.
-use Rattle.multi_master.proofs.Common.{Cause, Connection, Deed, Did, IsRun, MasterSettings, Move, OfMaster, Setup, deed, held_up, next_deed, out, outputs, outputs_at, step, tells_due, with_event, zeros}
+use Rattle.multi_master.proofs.Common.{Cause, Connection, Deed, Did, IsRun, Move, OfMaster, Setup, deed, held_up, next_deed, out, outputs, outputs_at, step, tells_due, with_event, zeros}
 use Rattle.std.proofs.Common.{◌≡◌, ℕ, List, [], ◌∷◌, Option, None, is_some, false, ◌||◌, if◌then◌else◌, refl, sym, ◌∙◌, arith, rules}
 use Rattle.fsoe_base.specs.declared.did.Took.{Took}
 use Rattle.param_load.specs.declared.entry.Move.TheVariants as move
@@ -43,10 +43,8 @@ quiet_deed s e bytes r h =
     let x : Deed = step s e (move.Deliver bytes) in
     sym (quiet s e (move.Deliver bytes) x.did x.sent tt h (reacts s e (move.Deliver bytes) r tt))
 
-abbrev brought_by : MasterSettings → Option Took → Option Cause → List ℕ → List ℕ
-brought_by ms took reset before = if is_some reset then zeros (OfMaster ms) else held_up (OfMaster ms) [] 0 took before
-
-frame-brings : (c : Connection) (bytes : List ℕ) → outputs_at (with_event (move.Deliver bytes) c) ≡ brought_by c.settings (next_deed (move.Deliver bytes) c).did.took (next_deed (move.Deliver bytes) c).did.reset (outputs_at c)
+frame-brings : (c : Connection) (bytes : List ℕ) → outputs_at (with_event (move.Deliver bytes) c)
+    ≡ (if is_some (next_deed (move.Deliver bytes) c).did.reset then zeros (OfMaster c.settings) else held_up (OfMaster c.settings) [] 0 (next_deed (move.Deliver bytes) c).did.took (outputs_at c))
 frame-brings c bytes = grind arith
 
 pub same_outputs : (c d : Connection) (bytes : List ℕ) → d.settings ≡ c.settings → outputs_at d ≡ outputs_at c

@@ -1,17 +1,20 @@
 -- What is shown of one connection, and an event at one.
-use Rattle.multi_master.proofs.Common.{AllZip, Answer, AppView, Call, Connection, Deed, Follows, IsNumber, IsSound, IsWhere, MasterSettings, MasterView, Meant, Move, MultiView, Nonce, Setup, ShowsAt, StandsFor, after, changed_by, cycle_in, event_at, event_on, meant, numbers_of, outputs_at, settings_in, setup, with_event}
-use Rattle.std.proofs.Common.{◌≡◌, ◌-◌, ℕ, zero, suc, length, slice_index_or, List, [], ◌∷◌, map, slice_get, slice_set, Option, Some, None, IfSome, refl, sym, ap, ◌∙◌, arith}
+use Rattle.multi_master.proofs.Common.{AllZip, Answer, AppView, Call, Connection, Deed, Follows, IsSound, IsWhere, MasterSettings, MasterView, Meant, Move, MultiView, Nonce, Setup, ShowsAt, StandsFor, after, changed_by, cycle_in, event_at, event_on, meant, numbers_of, outputs_at, setup, with_event}
+use Rattle.failsafe_io.specs.declared.bit.Bit.{Bit}
+use Rattle.multi_master.specs.Calls.{Rule}
+use Rattle.multi_master.specs.Standing.{HasLink, MultiValue, seen}
+use Rattle.std.proofs.Common.{◌≡◌, Bool, ◌-◌, ℕ, zero, suc, slice_index_or, List, [], ◌∷◌, map, slice_get, slice_set, Option, Some, None, IfSome, refl, sym, ap, ◌∙◌, arith}
 use Rattle.param_load.specs.declared.entry.Move.TheVariants as move
 use Rattle.master_core.specs.Standing as core
 use Rattle.multi_master.proofs.Places.{Placed, at_place, map_set, master_placed, zip_set}
 
 -- a word of the master that is read at the place of a connection is that word of the connection
-pub shown_at : {X : Type 0} (v : MultiView) (link from : ℕ) (m : MasterView) (shown : X) (word : Setup → List Deed → X) → IsNumber (length (map settings_in v.masters)) link → from ≡ link
-    → m ≡ slice_index_or v.masters (from - 1) m → core.Shows m shown word → ShowsAt v link shown (λ c. word (setup c) c.deeds)
-shown_at v link from m shown word has f read s = record {
+pub shown_at : {X A : Type 0} (rule : A → Rule) (holds : A → List ℕ) (guards : A → Bit → Bit → Bool) (inside now : MultiValue A) (link from : ℕ) (m : MasterView) (shown : X) (word : Setup → List Deed → X)
+    → core.Shows m shown word → m ≡ slice_index_or inside.masters (from - 1) m → from ≡ link → inside ≡ now → HasLink now link → ShowsAt (seen rule holds guards now) link shown (λ c. word (setup c) c.deeds)
+shown_at {A = A} rule holds guards inside now link from m shown word s read f same has = record {
   shows = λ settings app calls h.
-      let is = master_placed v.masters link from m has f read in
-      let p = at_place IsWhere (meant settings app calls).connections v.masters (from - 1) m h.masters is.at in
+      let is = master_placed now.masters link from m has f (rw (ap (λ (v : MultiValue A). v.masters) same) at read) in
+      let p = at_place IsWhere (meant settings app calls).connections now.masters (from - 1) m h.masters is.at in
       rw (is.number, p.is) (ap (λ x. Some x) (sym (s.shows p.there.settings p.there.deeds p.holds)));
 }
 

@@ -9,11 +9,7 @@ use Rattle.multi_master.specs.declared.fault.NewFault.TheVariants as fault
 abbrev pub pair_fault : ℕ × ℕ → NewFault
 pair_fault pair = fault.SameConn pair.0 pair.1
 
--- the fault of the first pair of places, counted from 1, with the same connection id
-abbrev pub first_pair : List MasterSettings → Option NewFault
-first_pair settings = option_map pair_fault (same_conn 1 (map (λ s. s.conn) settings))
-
 -- the first fault of these settings: there are more than 64, or two have the same connection id. Places are counted
 -- from 1
 abbrev pub first_fault : List MasterSettings → Option NewFault
-first_fault settings = if nat_lt 64 (length settings) then Some fault.TooMany else first_pair settings
+first_fault settings = if nat_lt 64 (length settings) then Some fault.TooMany else option_map pair_fault (same_conn 1 (map (λ s. s.conn) settings))

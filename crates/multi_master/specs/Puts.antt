@@ -1,25 +1,30 @@
--- How a cycle is run and its answers are put, master by master, and how all masters tick. A frame of a master may be
--- due while answers are put. Contracts of private functions alone rest on these words.
-use Rattle.std.specs.Prelude.{◌≡◌, ℕ, nat_eq, Bool, true, false, not, List, map, length, replicate, Option, Some, None}
+-- What new masters are, how a cycle is run and its answers are put, master by master, and how all masters tick. A frame
+-- of a master may be due while answers are put. Contracts of private functions alone rest on these words.
+use Rattle.std.specs.Prelude.{◌≡◌, ℕ, nat_eq, Bool, true, false, not, List, [], map, length, All, Option, Some, None}
 use Rattle.std.specs.List.{AllZip}
 use Rattle.std.specs.Cmp.Lexicographic.{pointwise}
 use Rattle.fsoe_base.specs.declared.did.Cause.{Cause}
 use Rattle.fsoe_base.specs.declared.did.Did.{Did}
 use Rattle.failsafe_io.specs.Application.{GuardsBy}
 use Rattle.param_load.specs.declared.entry.Move.TheVariants as move
+use Rattle.param_load.specs.declared.master_settings.MasterSettings.{MasterSettings}
 use Rattle.end_model.specs.Outputs.{out}
 use Rattle.end_model.specs.Readiness.{offer}
-use Rattle.end_model.specs.Setup.{OfMaster, receives}
 use Rattle.master_core.specs.MasterView.{MasterView}
 use Rattle.master_core.specs.Standing.{Follows, Answers, Shows}
 use Rattle.master_core.specs.Waiting.{Delivery, Keeps, ShowsDue, Waits}
-use Rattle.multi_master.specs.Connection.{Connection, next_deed, with_event, with_offers, outputs_at}
+use Rattle.multi_master.specs.Connection.{Connection, fresh, next_deed, with_event, with_offers, outputs_at}
 use Rattle.multi_master.specs.Calls.{AppView, changed_from}
 use Rattle.multi_master.specs.Standing.{IsWhere, due_in, numbers_of, own_len, settings_in}
 
--- the outputs of a new master
-abbrev pub first_input : MasterView → List ℕ
-first_input m = replicate (receives (OfMaster m.kit.settings)) 0
+-- new masters with these settings, their outputs, and answers of the lengths of their frames; no offer was changed
+pub record AreNew (settings : List MasterSettings) (masters : List MasterView) (inputs answers : List (List ℕ)) (changed : List ℕ) : Type 0 where
+  pub stand : AllZip IsWhere (map fresh settings) masters
+  pub settings_are : map settings_in masters ≡ settings
+  pub rest : All (λ m. due_in m ≡ false) masters
+  pub inputs_are : inputs ≡ map outputs_at (map fresh settings)
+  pub answers_fit : map length answers ≡ map own_len masters
+  pub unchanged : changed ≡ []
 
 -- a frame that came for a connection, with what accepting it did, as a delivery there
 abbrev pub delivery_at : Connection → List ℕ × Did → Delivery
@@ -35,14 +40,9 @@ StandsIf (Some frame) true c m = Waits m (delivery_at c frame)
 abbrev pub Stands : Option (List ℕ × Did) → Connection → MasterView → Type 0
 Stands frame c m = StandsIf frame (due_in m) c m
 
--- what `put` ensures, whether or not a frame is due
-pub record IsPut (old : MasterView) (load : List ℕ) (new : MasterView) : Type 0 where
-  pub follows : Follows old (move.Put load) new
-  pub keeps : Keeps old (move.Put load) new
-
--- a load was put, or nothing was
+-- a load was put, whether or not a frame is due, or nothing was
 abbrev pub MayBePut : Bool → MasterView → List ℕ → MasterView → Type 0
-MayBePut true old load new = IsPut old load new
+MayBePut true old load new = Follows old (move.Put load) new × Keeps old (move.Put load) new
 MayBePut false old load new = new ≡ old
 
 -- an answer is put at a master where it isn't what is shown as the offer, and it is told whether it wasn't
@@ -55,22 +55,23 @@ pub record PutsAnswer (old : MasterView) (answer : List ℕ) (new : MasterView) 
   pub settings : settings_in new ≡ settings_in old
   pub due : due_in new ≡ due_in old
 
--- each answer is put at its master where it isn't the offer, and the numbers of connections where it wasn't are told
+-- these answers were put at these connections: so stand the masters, and the numbers where it wasn't the offer are told
+pub record HavePut (frame : Option (List ℕ × Did)) (cs : List Connection) (answers : List (List ℕ)) (masters : List MasterView) (told : List ℕ) : Type 0 where
+  pub stand : AllZip (Stands frame) (with_offers answers cs) masters
+  pub told_are : told ≡ numbers_of (changed_from 1 cs answers)
+
+-- each answer is put at its master where it isn't the offer
 pub record PutsEach (old : List MasterView) (answers : List (List ℕ)) (new : List MasterView) (told : List ℕ) : Type 0 where
   pub long : length answers ≡ length old
-  pub stand : (frame : Option (List ℕ × Did)) (cs : List Connection) → AllZip (Stands frame) cs old → AllZip (Stands frame) (with_offers answers cs) new
-  pub told_are : (frame : Option (List ℕ × Did)) (cs : List Connection) → AllZip (Stands frame) cs old → told ≡ numbers_of (changed_from 1 cs answers)
+  pub each : (frame : Option (List ℕ × Did)) (cs : List Connection) → AllZip (Stands frame) cs old → HavePut frame cs answers new told
 
--- what a cycle does: the application that runs answers by its rule, as it guards, and holds then what its answer says
-pub record Cycles (old : AppView) (ticked : Bool) (inputs : List (List ℕ)) (lens : List ℕ) (answers : List (List ℕ)) (new : AppView) : Type 0 where
-  pub answers_are : answers ≡ (old.rule old.holds ticked inputs lens).outputs
-  pub app_is : new ≡ record old { holds = (old.rule old.holds ticked inputs lens).holds }
-  pub guarded : GuardsBy old.guards inputs answers
-
--- a cycle is run, and each of its answers is put
+-- a cycle is run, and each of its answers is put: the application that runs answers by its rule, as it guards, and
+-- holds then what its answer says
 pub record RunsCycle (old : AppView) (ticked : Bool) (inputs : List (List ℕ)) (before : List MasterView) (new : AppView) (put : List MasterView) (changed : List ℕ) : Type 0 where
   pub answers : List (List ℕ)
-  pub cycle : Cycles old ticked inputs (map own_len before) answers new
+  pub answers_are : answers ≡ (old.rule old.holds ticked inputs (map own_len before)).outputs
+  pub app_is : new ≡ record old { holds = (old.rule old.holds ticked inputs (map own_len before)).holds }
+  pub guarded : GuardsBy old.guards inputs answers
   pub puts : PutsEach before answers put changed
 
 -- a master's outputs are read anew, or stay as they were read

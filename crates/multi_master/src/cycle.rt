@@ -4,7 +4,7 @@ ghost use Rattle.master_core.specs.Now.{is_due};
 ghost use Rattle.multi_master.specs.Standing.{app_view, due_in, own_len, settings_in, AreNumbers};
 ghost use Rattle.multi_master.specs.Puts.{PutsAnswer, PutsEach, RunsCycle, TicksOne, TicksEach};
 
-use crate::making::MOST_LINKS;
+use crate::making::{Connections, MOST_LINKS};
 use arrayvec::ArrayVec;
 use failsafe_io::Application;
 use fsoe_base::{Did, FrameBuf, Image};
@@ -39,26 +39,27 @@ fn put_answers(masters: &mut [Master], answers: &[Image], changed: &mut ArrayVec
     }
 }
 
-/// Runs one cycle of the application over the inputs, and puts its results as the offers of the masters. The
-/// connections with a changed offer are listed.
-pub(crate) fn run_cycle<A: Application>(
-    app: &mut A,
-    ticked: bool,
-    inputs: &[Image],
-    answers: &mut [Image],
-    masters: &mut [Master],
-    changed: &mut ArrayVec<u16, MOST_LINKS>,
-)
-    requires fits { map length answers.old ≡ map own_len masters.old }
-    requires most { length masters.old ≤ MOST_LINKS }
-    ensures runs { let view = app_view A.rule A.holds A.guards in RunsCycle (view app.old) ticked inputs.now masters.old (view app.new) masters.new changed.new.items }
-    ensures numbers { AreNumbers (length masters.new) changed.new.items }
-    ensures fit { map length answers.new ≡ map own_len masters.new }
-    ensures settings { map settings_in masters.new ≡ map settings_in masters.old }
-    ensures due { map due_in masters.new ≡ map due_in masters.old }
-{
-    app.cycle(ticked, inputs, answers);
-    put_answers(masters, answers, changed);
+impl Connections {
+    /// Runs one cycle of the application over the inputs, and puts its results as the offers of the masters. The
+    /// connections with a changed offer are listed.
+    pub(crate) fn run_cycle<A: Application>(&mut self, app: &mut A, ticked: bool)
+        requires fits { map length self.old.answers.items ≡ map own_len self.old.masters.items }
+        requires most { length self.old.masters.items ≤ MOST_LINKS }
+        ensures runs { let view = app_view A.rule A.holds A.guards in RunsCycle (view app.old) ticked self.new.inputs.items self.old.masters.items (view app.new) self.new.masters.items self.new.changed.items }
+        ensures numbers { AreNumbers (length self.new.masters.items) self.new.changed.items }
+        ensures fit { map length self.new.answers.items ≡ map own_len self.new.masters.items }
+        ensures long { length self.new.masters.items ≡ length self.old.masters.items }
+        ensures inputs { self.new.inputs.items ≡ self.old.inputs.items }
+        ensures settings { map settings_in self.new.masters.items ≡ map settings_in self.old.masters.items }
+        ensures due { map due_in self.new.masters.items ≡ map due_in self.old.masters.items }
+    {
+        app.cycle(ticked, self.inputs.as_slice(), self.answers.as_mut_slice());
+        put_answers(
+            self.masters.as_mut_slice(),
+            self.answers.as_slice(),
+            &mut self.changed,
+        );
+    }
 }
 
 /// Counts a tick at a master, and reads its outputs if its session ended.

@@ -4,13 +4,12 @@ ghost use Rattle.std.specs.Result.{result_err};
 ghost use Rattle.end_model.specs.Readiness as model;
 ghost use Rattle.multi_master.specs.declared.fault.NewFault.TheVariants as fault;
 
-use crate::cycle::{run_cycle, tick_all};
+use crate::cycle::tick_all;
 use crate::fault::NewFault;
-use crate::making::{MOST_LINKS, first_fault, images_of, masters_of};
+use crate::making::{Connections, first_fault};
 use arrayvec::ArrayVec;
 use failsafe_io::{Application, Bit};
-use fsoe_base::{Did, FrameBuf, Image, MOST_DATA, State};
-use master_core::Master;
+use fsoe_base::{Did, FrameBuf, MOST_DATA, State};
 use param_load::{MasterSettings, Terms};
 use std::alloc::Global;
 use std::marker::Model;
@@ -19,14 +18,8 @@ use std::marker::Model;
 /// outputs of all. An event of one connection changes another one only in this way. Only `new` and `connect` allocate.
 #[derive(Drop)]
 pub struct MultiMaster<A> {
-    masters: Vec<Master>,
+    connections: Connections,
     app: A,
-    /// The outputs of each master, as a cycle reads them: one is written when it changes, and stays for later cycles.
-    inputs: Vec<Image>,
-    /// Where the application writes its results.
-    answers: Vec<Image>,
-    /// The connections whose offers the last call changed.
-    changed: ArrayVec<u16, MOST_LINKS>,
 }
 
 impl<A> Model for MultiMaster<A> {
@@ -35,13 +28,13 @@ impl<A> Model for MultiMaster<A> {
     ghost Value = { MultiValue A };
 
     ghost view = { λ m. record {
-      masters = m.masters.items;
+      masters = m.connections.masters.items;
       app = m.app;
-      inputs = m.inputs.items;
-      changed = m.changed.items;
+      inputs = m.connections.inputs.items;
+      changed = m.connections.changed.items;
     } };
 
-    ghost invariant = { λ m. IsMulti m.masters.items m.inputs.items m.answers.items m.changed.items };
+    ghost invariant = { λ m. let made = m.connections in IsMulti made.masters.items made.inputs.items made.answers.items made.changed.items };
 }
 
 impl<A: Application> MultiMaster<A> {
@@ -70,11 +63,13 @@ impl<A: Application> MultiMaster<A> {
         ensures { result ≡ record { masters = []; app = app; inputs = []; changed = [] } }
     {
         MultiMaster {
-            masters: Vec::new(alloc),
+            connections: Connections {
+                masters: Vec::new(alloc),
+                inputs: Vec::new(alloc),
+                answers: Vec::new(alloc),
+                changed: ArrayVec::new(),
+            },
             app,
-            inputs: Vec::new(alloc),
-            answers: Vec::new(alloc),
-            changed: ArrayVec::new(),
         }
     }
 
@@ -91,13 +86,10 @@ impl<A: Application> MultiMaster<A> {
         if let Some(found) = first_fault(settings.as_slice()) {
             return Err(found);
         }
-        let alloc = *settings.allocator();
-        let masters = masters_of(settings)?;
-        let (inputs, answers) = images_of(alloc, masters.as_slice())?;
-        self.masters = masters;
-        self.inputs = inputs;
-        self.answers = answers;
-        self.changed.clear();
+        let Ok(connections) = Connections::new(settings) else {
+            return Err(NewFault::Memory);
+        };
+        self.connections = connections;
         Ok(())
     }
 
@@ -124,23 +116,16 @@ impl<A: Application> MultiMaster<A> {
         ensures settings { settings_of self.new ≡ settings_of self.old }
     {
         let place = usize::from(link) - 1;
-        let master = &mut self.masters[place];
+        let master = &mut self.connections.masters[place];
         master.accept_into(frame, did);
         if !master.due() {
-            self.changed.clear();
+            self.connections.changed.clear();
             out.clear();
             return;
         }
-        self.inputs[place].set(master.outputs());
-        run_cycle(
-            &mut self.app,
-            false,
-            self.inputs.as_slice(),
-            self.answers.as_mut_slice(),
-            self.masters.as_mut_slice(),
-            &mut self.changed,
-        );
-        self.masters[place].reply(out);
+        self.connections.inputs[place].set(master.outputs());
+        self.connections.run_cycle(&mut self.app, false);
+        self.connections.masters[place].reply(out);
         did.sent = true;
     }
 
@@ -155,19 +140,12 @@ impl<A: Application> MultiMaster<A> {
         ensures settings { settings_of self.new ≡ settings_of self.old }
     {
         tick_all(
-            self.masters.as_mut_slice(),
-            self.inputs.as_mut_slice(),
+            self.connections.masters.as_mut_slice(),
+            self.connections.inputs.as_mut_slice(),
             outs,
             dids,
         );
-        run_cycle(
-            &mut self.app,
-            true,
-            self.inputs.as_slice(),
-            self.answers.as_mut_slice(),
-            self.masters.as_mut_slice(),
-            &mut self.changed,
-        );
+        self.connections.run_cycle(&mut self.app, true);
     }
 
     /// Runs an unticked cycle of the application, as the first one after a change to it from any other application. Its
@@ -176,14 +154,7 @@ impl<A: Application> MultiMaster<A> {
         ensures follows { let seen = seen A.rule A.holds A.guards in (other : AppView) → Follows (record (seen self.old) { app = other }) (ChangeApp (seen self.old).app) (seen self.new) }
         ensures settings { settings_of self.new ≡ settings_of self.old }
     {
-        run_cycle(
-            &mut self.app,
-            false,
-            self.inputs.as_slice(),
-            self.answers.as_mut_slice(),
-            self.masters.as_mut_slice(),
-            &mut self.changed,
-        );
+        self.connections.run_cycle(&mut self.app, false);
     }
 
     /// Replaces the running application with `app`, and runs its first cycle at once, as `first_cycle` does.
@@ -202,15 +173,15 @@ impl<A: Application> MultiMaster<A> {
         ensures follows { let seen = seen A.rule A.holds A.guards in Follows (seen self.old) (Nonce link id) (seen self.new) }
         ensures settings { settings_of self.new ≡ settings_of self.old }
     {
-        self.changed.clear();
-        self.masters[usize::from(link) - 1].nonce(u32::from(id));
+        self.connections.changed.clear();
+        self.connections.masters[usize::from(link) - 1].nonce(u32::from(id));
     }
 
     /// The number of connections, which are numbered from 1.
     pub fn links(&self) -> u16
         ensures { result ≡ links self.now }
     {
-        self.masters.len() as u16
+        self.connections.masters.len() as u16
     }
 
     /// The state of the master of this connection.
@@ -218,7 +189,7 @@ impl<A: Application> MultiMaster<A> {
         requires { HasLink self.now link }
         ensures { ShowsAt (seen A.rule A.holds A.guards self.now) link result (λ c. model.state_of (setup c) c.deeds) }
     {
-        self.masters[usize::from(link) - 1].state()
+        self.connections.masters[usize::from(link) - 1].state()
     }
 
     /// Returns the outputs of the master of this connection, which are inputs of the application (SafeInputs): as many
@@ -228,7 +199,7 @@ impl<A: Application> MultiMaster<A> {
         ensures shown { ShowsAt (seen A.rule A.holds A.guards self.now) link result.now outputs_at }
         ensures most { length result.now ≤ MOST_DATA }
     {
-        self.masters[usize::from(link) - 1].outputs()
+        self.connections.masters[usize::from(link) - 1].outputs()
     }
 
     /// Returns the terms of this connection's session, or None in every state except Data.
@@ -236,7 +207,7 @@ impl<A: Application> MultiMaster<A> {
         requires { HasLink self.now link }
         ensures { ShowsAt (seen A.rule A.holds A.guards self.now) link (option_copied result) (λ c. model.told_terms (setup c) c.deeds) }
     {
-        self.masters[usize::from(link) - 1].terms()
+        self.connections.masters[usize::from(link) - 1].terms()
     }
 
     /// Returns the safe data that this connection's next data frame carries: the last result of the application, or
@@ -246,7 +217,7 @@ impl<A: Application> MultiMaster<A> {
         ensures shown { ShowsAt (seen A.rule A.holds A.guards self.now) link result.now offer_at }
         ensures most { length result.now ≤ MOST_DATA }
     {
-        let master = &self.masters[usize::from(link) - 1];
+        let master = &self.connections.masters[usize::from(link) - 1];
         let fits = master.settings().own_len() <= MOST_DATA;
         prove!(fits);
         master.offer()
@@ -258,7 +229,7 @@ impl<A: Application> MultiMaster<A> {
         ensures changed { ShowsChanged (seen A.rule A.holds A.guards self.now) result.now }
         ensures numbers { AreNumbers (links self.now) result.now }
     {
-        self.changed.as_slice()
+        self.connections.changed.as_slice()
     }
 
     /// Returns the result of `guards` of the running application.

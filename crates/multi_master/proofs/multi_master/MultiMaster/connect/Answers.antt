@@ -1,11 +1,14 @@
-use Rattle.multi_master.proofs.Common.{MasterView, first_input}
-use Rattle.std.proofs.Common.{List, map, refl, ap, ◌∙◌, rules}
-use Rattle.multi_master.proofs.Beginning.{new_multi, new_stands}
+use Rattle.multi_master.proofs.Common.{common_steps, length-map}
+use Rattle.std.proofs.Common.{◌≡◌, length, refl, arith, rules}
 use Rattle.multi_master.proofs.multi_master.MultiMaster.connect.Goals as goal
 
 pub invariant_of-self : goal.invariant_of-self
-invariant_of-self c = search (rules, new_multi)
+invariant_of-self g c =
+    let h = c.in-Ok.ensures.settings_are in
+    let links : length c.in-Ok.connections.masters.items ≡ length c.args.settings.items = grind (arith, common_steps) in
+    search (rules, length-map)
 
 pub returns-clause-stands : goal.returns-clause-stands
 returns-clause-stands g c =
-    rw (← c.self.view_is) (new_stands c.args.settings.items _ _ c.in_ok-masters.ensures.stand c.in_ok-masters.ensures.settings refl (c.in_ok-inputs.ensures.zeros ∙ ap (λ (ms : List MasterView). map first_input ms) c.as_slice-2.ensures.value) c.clear.ensures)
+    let made = c.in-Ok.ensures in
+    rw (← c.self.view_is) (record { masters = made.stand; app_is = refl; inputs_are = made.inputs_are; changed_are = made.unchanged; sound = tt })

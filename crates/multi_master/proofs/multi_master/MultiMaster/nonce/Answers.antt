@@ -2,7 +2,7 @@ use Rattle.std.proofs.Common.{ℕ, refl, subst, rules}
 use Rattle.param_load.specs.declared.entry.Move.TheVariants as move
 use Rattle.master_core.specs.Standing as core
 use Rattle.multi_master.proofs.Keeping.{multi_set}
-use Rattle.multi_master.proofs.Places.{map_set, master_placed}
+use Rattle.multi_master.proofs.Places.{all_at, map_set, master_placed}
 use Rattle.multi_master.proofs.Reading.{nonce_follows}
 use Rattle.multi_master.proofs.multi_master.MultiMaster.nonce.Goals as goal
 
@@ -14,7 +14,7 @@ returns-clause-follows g c =
     (subst (λ (id : ℕ). core.Follows c.index_mut.result.now (move.Nonce id) c.nonce.new.self) c.from-2.ensures c.nonce.ensures.follows) refl refl refl c.clear.ensures)
 
 pub invariant_of-self : goal.invariant_of-self
-invariant_of-self c = search (rules, master_placed, multi_set)
+invariant_of-self c = search (rules, all_at, master_placed, multi_set)
 
 pub returns-clause-settings : goal.returns-clause-settings
 returns-clause-settings c = search (rules, master_placed, map_set)

@@ -1,8 +1,5 @@
-use Rattle.multi_master.proofs.Common.{state_of}
 use Rattle.multi_master.proofs.Reading.{shown_at}
 use Rattle.multi_master.proofs.multi_master.MultiMaster.state.Goals as goal
 
 pub returns : goal.returns
-returns g c =
-    let has = rw (← c.self.view_is) at c.requires in
-    rw (← c.self.view_is) (shown_at _ _ _ _ _ state_of has c.from.ensures c.index.ensures c.state.ensures.shown)
+returns g c = shown_at g.A.Application.rule g.A.Application.holds g.A.Application.guards _ _ _ _ _ _ _ c.state.ensures.shown c.index.ensures c.from.ensures c.self.view_is c.requires
