@@ -1,48 +1,45 @@
 -- A tick is late for a bound only where a pair has another entry: from the first of the still moments that reach it on
 -- the bound is quiet. Acts and what is heard are listed newest first.
 use Rattle.plant_model.proofs.Common.{Act, AllSound, Beginning, BoundSpec, Happen, HasLinks, JournalStep, LinkConf, PullFrom, Said, StaysOff, append-nil, first_of_both, is_on, is_still, is_tick, journal, limit, line_step, offers, option_map_or, steps_of, ticks}
-use Rattle.std.proofs.Common.{◌≡◌, ◌≤◌, ℕ, suc, ◌+◌, ◌-◌, Bool, true, false, cond, ◌||◌, List, [], ◌∷◌, ◌++◌, Option, None, refl, sym, ap, ap₂, subst, ◌∙◌, arith, rules}
+use Rattle.std.proofs.Common.{◌≡◌, ◌≤◌, ℕ, suc, ◌+◌, ◌-◌, Bool, true, false, cond, ◌||◌, List, [], ◌∷◌, ◌++◌, Option, None, refl, sym, ap, ap₂, ◌∙◌, arith, rules}
+use Rattle.std.proofs.lemmas.Bool.{and_parts}
 use Rattle.reaction_bound.specs.Reaction as reaction
 use Rattle.plant_model.specs.BoundLines.{limit_by, limit_of, is_driven, is_ticking, heard, heard_before}
 use Rattle.plant_model.proofs.Reacting.{Clean, clean_at, clean_before, steps_off}
 use Rattle.plant_model.proofs.Since.{act_ticks, is_tick_act}
-use Rattle.plant_model.proofs.StillTicks.{Pulls, of_tick, quiet_on, stays_still}
+use Rattle.plant_model.proofs.StillTicks.{Pulls, of_tick, stays_still}
 use Rattle.plant_model.proofs.FairPlant.{AreWorlds}
 use Rattle.plant_model.specs.Broken.{BrokenByOther}
 
 -- a bound is still and quiet since some of these acts, after which at least so many ticks came
-record QuietFor (b : Beginning) (bound : BoundSpec) (done : List Act) (n : ℕ) : Type 0 where
-  later : List Act
-  earlier : List Act
-  acts_are : done ≡ later ++ earlier
-  long : ticks (journal b earlier) + n ≤ ticks (journal b done)
-  still : is_still b bound done ≡ true
-  quiet : StaysOff b bound later earlier
+data QuietFor (b : Beginning) (bound : BoundSpec) : List Act → ℕ → Type 0 where
+  Since : (later earlier : List Act) (n : ℕ) → ticks (journal b earlier) + n ≤ ticks (journal b (later ++ earlier)) → is_still b bound (later ++ earlier) ≡ true → StaysOff b bound later earlier
+      → QuietFor b bound (later ++ earlier) n
 
 fewer : (b : Beginning) (bound : BoundSpec) (done : List Act) (n m : ℕ) → m ≤ n → QuietFor b bound done n → QuietFor b bound done m
-fewer b bound done n m few q = let long = q.long in record { later = q.later; earlier = q.earlier; acts_are = q.acts_are; long = omega arith; still = q.still; quiet = q.quiet }
+fewer b bound _ _ m few (Since later earlier n long still quiet) = Since later earlier m (omega arith) still quiet
 
 -- through an act after which it is still
-quiet_act : (b : Beginning) (bound : BoundSpec) (act : Act) (done : List Act) (n : ℕ) → AllSound b (act ∷ done) → is_still b bound (act ∷ done) ≡ true
+quiet_act : (b : Beginning) (bound : BoundSpec) (act : Act) (done : List Act) (n : ℕ) → AllSound b (act ∷ done) → (is_still b bound done ≡ true → is_still b bound (act ∷ done) ≡ true)
     → QuietFor b bound done n → QuietFor b bound (act ∷ done) (n + cond (is_tick_act act) 1 0)
-quiet_act b bound act done n s still q =
-    let same : act ∷ done ≡ act ∷ q.later ++ q.earlier = ap (λ (z : List Act). act ∷ z) q.acts_are in
-    let here : is_still b bound (act ∷ q.later ++ q.earlier) ≡ true = subst (λ (z : List Act). is_still b bound z ≡ true) same still in
-    let one = act_ticks b act done in
-    let before = q.long in
-    record {
-      later = act ∷ q.later;
-      earlier = q.earlier;
-      acts_are = same;
-      long = omega arith;
-      still = still;
-      quiet = quiet_on b bound act q.later q.earlier (subst (AllSound b) same s) here q.quiet;
-    }
+quiet_act b bound act _ _ s stays (Since later earlier n long still quiet) =
+    let one = act_ticks b act (later ++ earlier) in
+    let on = stays still in
+    Since (act ∷ later) earlier _ (omega arith) on (search (rules, and_parts))
+
+-- so its drive is off in time
+quiet_drive : (b : Beginning) (bound : BoundSpec) (estop drive : LinkConf) (done : List Act) (n : ℕ) → HasLinks b bound estop drive → Clean estop bound.estop.link (journal b done) → Clean drive bound.drive.link (journal b done)
+    → limit estop drive ≤ n + 3 → QuietFor b bound done n → is_on bound drive (journal b done) ≡ false
+quiet_drive b bound estop drive _ _ links ce cd long (Since later earlier n count still quiet) =
+    steps_off b bound estop drive later earlier (journal b (later ++ earlier)) [] links quiet (sym (append-nil _)) ce cd (omega arith)
 
 -- from here on or from earlier on
+here : (b : Beginning) (bound : BoundSpec) (done : List Act) (n : ℕ) → n ≤ 0 → is_still b bound done ≡ true → QuietFor b bound done n
+here b bound done n few still = Since [] done n (omega arith) still (and_parts _ _ still).0
+
 quiet_now : (b : Beginning) (bound : BoundSpec) (done : List Act) (n : ℕ) (still : Bool) (heard : List reaction.Heard) → is_still b bound done ≡ still
     → (is_still b bound done ≡ true → reaction.quiet_for n heard ≡ true → QuietFor b bound done n) → reaction.quiet_for n (reaction.Quiet still ∷ heard) ≡ true → QuietFor b bound done n
-quiet_now b bound done n still heard h k l = search rules
+quiet_now b bound done n still heard h k l = search (rules, here)
 
 not_late : (limit : ℕ) (on : Bool) (heard : List reaction.Heard) → (reaction.quiet_for (limit - 1) heard ≡ true → on ≡ false) → reaction.is_late limit (reaction.Tick on ∷ heard) ≡ false
 not_late limit on heard h = grind arith
@@ -53,30 +50,22 @@ record KeptBefore (b : Beginning) (bound : BoundSpec) (done : List Act) (tick : 
   quiet : (n : ℕ) → reaction.quiet_for n heard ≡ true → (tick || is_still b bound done) ≡ true → QuietFor b bound done (n + cond tick 1 0)
   none : reaction.broken_of (limit_of b.links bound) heard ≡ None
 
--- so it is up to here
-record Kept (b : Beginning) (bound : BoundSpec) (done : List Act) (heard : List reaction.Heard) : Type 0 where
-  quiet : (n : ℕ) → reaction.quiet_for n heard ≡ true → QuietFor b bound done n
-  none : reaction.broken_of (limit_of b.links bound) heard ≡ None
-
 kept_line : (b : Beginning) (bound : BoundSpec) (estop drive : LinkConf) (done : List Act) (tick : Bool) (before : List reaction.Heard) → HasLinks b bound estop drive
-    → Clean estop bound.estop.link (journal b done) → Clean drive bound.drive.link (journal b done) → KeptBefore b bound done tick before → Kept b bound done (heard b bound tick done before)
+    → Clean estop bound.estop.link (journal b done) → Clean drive bound.drive.link (journal b done) → KeptBefore b bound done tick before
+    → ((n : ℕ) → reaction.quiet_for n (heard b bound tick done before) ≡ true → QuietFor b bound done n) × (reaction.broken_of (limit_of b.links bound) (heard b bound tick done before) ≡ None)
 kept_line b bound estop drive done true before links ce cd k =
     let driven : is_driven b bound done ≡ is_on bound drive (journal b done) = ap (λ (o : Option LinkConf). option_map_or (λ z. is_on bound z (journal b done)) o false) links.drive_is in
     let limit_is : limit_of b.links bound ≡ limit estop drive = ap₂ (λ (one two : Option LinkConf). limit_by one two) links.estop_is links.drive_is in
-    let count : ℕ = suc (reaction.ticks before) in
-    record {
-      quiet = λ n. quiet_now b bound done n (is_still b bound done) (reaction.Tick (is_driven b bound done) ∷ before) refl (λ still quiet. fewer b bound done (n - 1 + 1) n (omega arith) (k.quiet (n - 1) quiet refl));
-      none = ap₂ (λ (before : Option ℕ) (late : Bool). first_of_both (first_of_both before late count) false count) k.none
+    let count : ℕ = suc (reaction.ticks before) in (
+      λ n. quiet_now b bound done n (is_still b bound done) (reaction.Tick (is_driven b bound done) ∷ before) refl (λ still quiet. fewer b bound done (n - 1 + 1) n (omega arith) (k.quiet (n - 1) quiet refl)),
+      ap₂ (λ (before : Option ℕ) (late : Bool). first_of_both (first_of_both before late count) false count) k.none
           (not_late (limit_of b.links bound) (is_driven b bound done) before
-          (λ quiet.
-          let q : QuietFor b bound done (limit_of b.links bound - 1 + 1) = k.quiet (limit_of b.links bound - 1) quiet refl in
-          let long = q.long in
-          driven ∙ steps_off b bound estop drive q.later q.earlier (journal b done) [] links q.quiet (sym (ap (journal b) q.acts_are) ∙ sym (append-nil (journal b done))) ce cd (omega (arith, limit_is))));
-    }
-kept_line b bound estop drive done false before links ce cd k = record {
-  quiet = λ n. quiet_now b bound done n (is_still b bound done) before refl (λ still quiet. fewer b bound done (n + 0) n (omega arith) (k.quiet n quiet still));
-  none = ap (λ (o : Option ℕ). first_of_both o false (reaction.ticks before)) k.none;
-}
+          (λ quiet. driven ∙ quiet_drive b bound estop drive done _ links ce cd (omega (arith, limit_is)) (k.quiet (limit_of b.links bound - 1) quiet refl))),
+    )
+kept_line b bound estop drive done false before links ce cd k = (
+  λ n. quiet_now b bound done n (is_still b bound done) before refl (λ still quiet. fewer b bound done (n + 0) n (omega arith) (k.quiet n quiet still)),
+  ap (λ (o : Option ℕ). first_of_both o false (reaction.ticks before)) k.none,
+)
 
 -- where a bound was still before a tick it is so after it
 still_on : (b : Beginning) (bound : BoundSpec) (said : Said) (done : List Act) (tick : Bool) → is_tick (line_step said) ≡ tick → (tick || is_still b bound (Happen said ∷ done)) ≡ true → is_still b bound done ≡ true
@@ -97,9 +86,7 @@ kept_acts b bound estop drive (PullFrom gift ∷ done) links s ce cd =
     let k = kept_acts b bound estop drive done links s.1 (clean_before estop bound.estop.link (journal b done) more ce) (clean_before drive bound.drive.link (journal b done) more cd) in
     let same = stays_still b bound act done (Pulls gift) in
     record {
-      quiet = λ n quiet on.
-          let q = k.quiet n quiet (ap (λ (x : Bool). is_ticking done || x) (sym same) ∙ on) in
-          fewer b bound (act ∷ done) _ _ (omega arith) (quiet_act b bound act done (n + cond (is_ticking done) 1 0) s (same ∙ q.still) q);
+      quiet = λ n quiet on. fewer b bound (act ∷ done) _ _ (omega arith) (quiet_act b bound act done _ s (λ still. same ∙ still) (k.quiet n quiet (ap (λ (x : Bool). is_ticking done || x) (sym same) ∙ on)));
       none = k.none;
     }
 kept_acts b bound estop drive _ links s ce cd = record { quiet = λ n none on. absurd (cc none); none = refl }
@@ -110,4 +97,4 @@ worlds_broken b done are s = λ bound estop drive links clean.
     let whole : js ≡ js ++ [] = sym (append-nil js) in
     let e = clean_at b.links js estop bound.estop.link js [] are links.estop_is whole clean.estop_pair in
     let d = clean_at b.links js drive bound.drive.link js [] are links.drive_is whole clean.drive_pair in
-    (kept_line b bound estop drive done (is_ticking done) (heard_before b bound done) links e d (kept_acts b bound estop drive done links s e d)).none
+    (kept_line b bound estop drive done (is_ticking done) (heard_before b bound done) links e d (kept_acts b bound estop drive done links s e d)).1

@@ -1,6 +1,8 @@
 -- A net that runs answers by looking back over its cycles.
-use Rattle.plant_model.proofs.Common.{Act, Answer, AppView, Beginning, Call, ChangeApp, Connection, Deliver, MasterSettings, Meant, Nonce, Rule, Tick, after, all_tick, answer, call_of, calls, connection, cycle_in, event_at, event_keeps, event_on, is_heard, is_offer, masters, meant, offer_len, option_and_then, option_to_list, outputs_at, settings, settings_alone, with_cycle, with_event, with_offers}
+use Rattle.plant_model.proofs.Common.{Act, Answer, AppView, Beginning, Call, ChangeApp, Connection, Deliver, MasterSettings, Meant, Nonce, Tick, after, all_tick, answer, call_of, calls, connection, cycle_in, event_at, event_keeps, event_on, is_heard, is_offer, masters, meant, offer_len, option_and_then, option_to_list, outputs_at, settings, settings_alone, with_cycle, with_event, with_offers}
 use Rattle.std.proofs.Common.{◌≡◌, ℕ, zero, suc, Bool, true, false, List, [], ◌∷◌, ◌++◌, map, Option, Some, None, IfSome, if◌then◌else◌, refl, sym, ap, ap₂, ◌∙◌, arith}
+use Rattle.std.proofs.lemmas.List.{map-id}
+use Rattle.std.proofs.lemmas.Option.{cond_some}
 use Rattle.std.proofs.lemmas.Simd.{map-map}
 use Rattle.fb_net.specs.Calls as net
 use Rattle.fb_net.specs.Calls.{cycles_of, held_after}
@@ -13,13 +15,6 @@ use Rattle.param_load.specs.declared.entry.Move.TheVariants as move
 use Rattle.multi_master.proofs.Putting.{all_outputs_put, outputs_put}
 use Rattle.plant_model.specs.NetCycles.{AnswersByNet, app_begun, app_cycles, cycles_before, is_ticked, net_app, sent_lens, with_answered}
 
--- the lengths of what is answered never change
-lens_are : (settings : List MasterSettings) (app : AppView) (calls : List Call) → map offer_len (meant settings app calls).connections ≡ sent_lens settings
-lens_are settings app calls = sym (map-map (λ s. s.lengths.master) (λ c. c.settings) (meant settings app calls).connections) ∙ ap sent_lens (settings_alone settings app calls)
-
-ticked_lens : (cs : List Connection) → map offer_len (map (with_event move.Tick) cs) ≡ map offer_len cs
-ticked_lens cs = map-map offer_len (with_event move.Tick) cs
-
 -- an answer that was put before a frame changes nothing of what the frame brings
 put_delivered : (c : Connection) (load bytes : List ℕ) (b : Bool) → outputs_at (with_event (move.Deliver bytes) (if b then c else with_event (move.Put load) c)) ≡ outputs_at (with_event (move.Deliver bytes) c)
 put_delivered c load bytes true = refl
@@ -28,10 +23,10 @@ put_delivered c load bytes false = refl
 outputs_delivered : (link : ℕ) (bytes : List ℕ) (cs : List Connection) (loads : List (List ℕ))
     → map outputs_at (event_on link (move.Deliver bytes) (with_offers loads cs)) ≡ map outputs_at (event_on link (move.Deliver bytes) cs)
 outputs_delivered link bytes cs [] = refl
-outputs_delivered link bytes [] (load ∷ loads) = refl
 outputs_delivered zero bytes (c ∷ cs) (load ∷ loads) = all_outputs_put (c ∷ cs) (load ∷ loads)
 outputs_delivered (suc zero) bytes (c ∷ cs) (load ∷ loads) = ap₂ (λ (x : List ℕ) (xs : List (List ℕ)). x ∷ xs) (put_delivered c load bytes (is_offer load c)) (all_outputs_put cs loads)
 outputs_delivered (suc (suc place)) bytes (c ∷ cs) (load ∷ loads) = ap₂ (λ (x : List ℕ) (xs : List (List ℕ)). x ∷ xs) (outputs_put c load) (outputs_delivered (suc place) bytes cs loads)
+outputs_delivered link bytes [] (load ∷ loads) = refl
 
 -- the application that answers in a call
 abbrev answering : Call → Meant → AppView
@@ -42,19 +37,16 @@ answering _ m = m.app
 abbrev answer_to : Call → Meant → Answer
 answer_to call m = (answering call m).rule (answering call m).holds (is_ticked call) (map outputs_at (after call m).connections) (map offer_len m.connections)
 
-heard_answer : (link : ℕ) (bytes : List ℕ) (m : Meant) (heard : Bool) (a : Answer) → (if heard then Some (answer false (event_at link (move.Deliver bytes) m)) else None) ≡ Some a → a ≡ answer false (event_at link (move.Deliver bytes) m)
-heard_answer link bytes m heard a h = grind arith
-
 answered : (call : Call) (m : Meant) (a : Answer) → cycle_in call m ≡ Some a → a ≡ answer_to call m
 answered (Deliver link bytes) m a e =
     let lens = event_keeps offer_len link (move.Deliver bytes) m.connections (λ c. refl) in
-    heard_answer link bytes m (is_heard bytes (connection link m)) a e
+    sym (cond_some (is_heard bytes (connection link m)) (answer false (event_at link (move.Deliver bytes) m)) a e).1
     ∙ ap₂ (λ (inputs : List (List ℕ)) (ls : List ℕ). m.app.rule m.app.holds false inputs ls)
     (sym (outputs_delivered link bytes m.connections a.outputs) ∙ sym (ap (λ (o : Option Answer). map outputs_at (event_at link (move.Deliver bytes) (with_cycle o m)).connections) e)) lens
 answered Tick m a e =
     let told : Answer = answer true (all_tick m) in
     let is : a ≡ told = cc in
-    is ∙ ap₂ (λ (inputs : List (List ℕ)) (ls : List ℕ). m.app.rule m.app.holds true inputs ls) (sym (all_outputs_put (all_tick m).connections told.outputs)) (ticked_lens m.connections)
+    is ∙ ap₂ (λ (inputs : List (List ℕ)) (ls : List ℕ). m.app.rule m.app.holds true inputs ls) (sym (all_outputs_put (all_tick m).connections told.outputs)) (map-map offer_len (with_event move.Tick) m.connections)
 answered (Nonce link id) m a e = absurd (cc e)
 answered (ChangeApp app) m a e =
     let told : Answer = answer false (record m { app = app }) in
@@ -73,52 +65,40 @@ app_after call m = grind arith
 abbrev net_calls : List MasterSettings → List NetCycle → List net.Call
 net_calls settings e = map (λ c. record { cycle = c; lens = sent_lens settings }) e
 
-cycles_back : (settings : List MasterSettings) (e : List NetCycle) → cycles_of (net_calls settings e) ≡ e
-cycles_back settings [] = refl
-cycles_back settings (c ∷ e) = ap (λ (cs : List NetCycle). c ∷ cs) (cycles_back settings e)
+-- an application after these cycles
+abbrev had : List MasterSettings → AppView → List NetCycle → AppView
+had settings begun e = record begun { holds = held_after begun.rule begun.holds (net_calls settings e) }
 
--- an application is what it began as, after these cycles
-record HasHad (settings : List MasterSettings) (begun : AppView) (e : List NetCycle) (app : AppView) : Type 0 where
-  pub rule : app.rule ≡ begun.rule
-  pub holds : app.holds ≡ held_after begun.rule begun.holds (net_calls settings e)
-
-answering_had : (settings : List MasterSettings) (app : AppView) (calls : List Call) (call : Call) (m : Meant) (e : List NetCycle) → HasHad settings (app_begun app calls) e m.app
-    → HasHad settings (app_begun app (call ∷ calls)) (cycles_before call e) (answering call m)
+answering_had : (settings : List MasterSettings) (app : AppView) (calls : List Call) (call : Call) (m : Meant) (e : List NetCycle) → m.app ≡ had settings (app_begun app calls) e
+    → answering call m ≡ had settings (app_begun app (call ∷ calls)) (cycles_before call e)
 answering_had settings app calls call m e h = grind arith
-
--- an answer is that of what it began as
-had_answers : (settings : List MasterSettings) (begun app : AppView) (e : List NetCycle) (c : NetCycle) → HasHad settings begun e app
-    → app.rule app.holds c.ticked c.inputs (sent_lens settings) ≡ begun.rule (held_after begun.rule begun.holds (net_calls settings e)) c.ticked c.inputs (sent_lens settings)
-had_answers settings begun app e c h = ap₂ (λ (r : Rule) (held : List ℕ). r held c.ticked c.inputs (sent_lens settings)) h.rule h.holds
 
 -- a call's cycle, if it runs one
 abbrev cycle_by : Call → Meant → NetCycle
 cycle_by call m = record { ticked = is_ticked call; inputs = map outputs_at (after call m).connections }
 
-told : (settings : List MasterSettings) (app : AppView) (calls : List Call) (call : Call) (a : Answer) (e : List NetCycle) → cycle_in call (meant settings app calls) ≡ Some a
-    → HasHad settings (app_begun app (call ∷ calls)) e (answering call (meant settings app calls))
-    → let begun : AppView = app_begun app (call ∷ calls) in let c : NetCycle = cycle_by call (meant settings app calls) in
-    a ≡ begun.rule (held_after begun.rule begun.holds (net_calls settings e)) c.ticked c.inputs (sent_lens settings)
-told settings app calls call a e is h =
+-- an answer is that of what the application began as; the lengths of what is answered never change
+told : (settings : List MasterSettings) (app : AppView) (calls : List Call) (call : Call) (a : Answer) (x : AppView) → cycle_in call (meant settings app calls) ≡ Some a → answering call (meant settings app calls) ≡ x
+    → a ≡ x.rule x.holds (is_ticked call) (map outputs_at (after call (meant settings app calls)).connections) (sent_lens settings)
+told settings app calls call a x is h =
     let m : Meant = meant settings app calls in
     answered call m a is
-    ∙ ap (λ (ls : List ℕ). (answering call m).rule (answering call m).holds (is_ticked call) (map outputs_at (after call m).connections) ls) (lens_are settings app calls)
-    ∙ had_answers settings (app_begun app (call ∷ calls)) (answering call m) e (cycle_by call m) h
+    ∙ ap₂ (λ (y : AppView) (lens : List ℕ). y.rule y.holds (is_ticked call) (map outputs_at (after call m).connections) lens) h
+    (sym (map-map (λ (s : MasterSettings). s.lengths.master) (λ (c : Connection). c.settings) m.connections) ∙ ap sent_lens (settings_alone settings app calls))
 
-went_on : (settings : List MasterSettings) (app : AppView) (calls : List Call) (call : Call) (o : Option Answer) (e : List NetCycle) → cycle_in call (meant settings app calls) ≡ o
-    → HasHad settings (app_begun app (call ∷ calls)) e (answering call (meant settings app calls))
-    → HasHad settings (app_begun app (call ∷ calls)) (with_answered o (cycle_by call (meant settings app calls)) e) (held_by o (answering call (meant settings app calls)))
-went_on settings app calls call None e is h = h
-went_on settings app calls call (Some a) e is h = record { rule = h.rule; holds = ap (λ (a : Answer). a.holds) (told settings app calls call a e is h) }
+went_on : (settings : List MasterSettings) (app : AppView) (calls : List Call) (call : Call) (o : Option Answer) (begun : AppView) (e : List NetCycle) → cycle_in call (meant settings app calls) ≡ o
+    → answering call (meant settings app calls) ≡ had settings begun e → held_by o (answering call (meant settings app calls)) ≡ had settings begun (with_answered o (cycle_by call (meant settings app calls)) e)
+went_on settings app calls call None begun e is h = h
+went_on settings app calls call (Some a) begun e is h =
+    ap₂ (λ (x : AppView) (y : Answer). record x { holds = y.holds }) h (told settings app calls call a (had settings begun e) is h)
 
-has_had : (settings : List MasterSettings) (app : AppView) (calls : List Call) → HasHad settings (app_begun app calls) (app_cycles settings app calls) (meant settings app calls).app
-has_had settings app [] = record { rule = refl; holds = refl }
+has_had : (settings : List MasterSettings) (app : AppView) (calls : List Call) → (meant settings app calls).app ≡ had settings (app_begun app calls) (app_cycles settings app calls)
+has_had settings app [] = refl
 has_had settings app (call ∷ calls) =
     let m : Meant = meant settings app calls in
-    let before : List NetCycle = cycles_before call (app_cycles settings app calls) in
-    let h = went_on settings app calls call (cycle_in call m) before refl (answering_had settings app calls call m (app_cycles settings app calls) (has_had settings app calls)) in
-    let same = app_after call m in
-    record { rule = ap (λ (x : AppView). x.rule) same ∙ h.rule; holds = ap (λ (x : AppView). x.holds) same ∙ h.holds }
+    let e : List NetCycle = app_cycles settings app calls in
+    app_after call m
+    ∙ went_on settings app calls call (cycle_in call m) (app_begun app (call ∷ calls)) (cycles_before call e) refl (answering_had settings app calls call m e (has_had settings app calls))
 
 net_answers : (v : NetView) (settings : List MasterSettings) (app : AppView) (calls : List Call) (call : Call) (o : Option Answer) → IsNewNet v → app_begun app (call ∷ calls) ≡ net_app v
     → cycle_in call (meant settings app calls) ≡ o
@@ -128,11 +108,11 @@ net_answers v settings app calls call (Some a) new begun is =
     let m : Meant = meant settings app calls in
     let c : NetCycle = cycle_by call m in
     let e : List NetCycle = cycles_before call (app_cycles settings app calls) in
-    let had = answering_had settings app calls call m (app_cycles settings app calls) (has_had settings app calls) in
-    ap (λ (a : Answer). a.outputs) (told settings app calls call a e is had)
-    ∙ ap (λ (x : AppView). (x.rule (held_after x.rule x.holds (net_calls settings e)) c.ticked c.inputs (sent_lens settings)).outputs) begun
+    let now = answering_had settings app calls call m (app_cycles settings app calls) (has_had settings app calls) ∙ ap (λ (x : AppView). had settings x e) begun in
+    ap (λ (a : Answer). a.outputs) (told settings app calls call a (had settings (net_app v) e) is now)
     ∙ rule_answers v (record { cycle = c; lens = sent_lens settings }) (net_calls settings e) new
-    ∙ ap (λ (cs : List NetCycle). net_outputs v (c ∷ cs) (sent_lens settings)) (cycles_back settings e)
+    ∙ ap (λ (cs : List NetCycle). net_outputs v (c ∷ cs) (sent_lens settings))
+    (map-map (λ (a : net.Call). a.cycle) (λ (c : NetCycle). record { cycle = c; lens = sent_lens settings }) e ∙ map-id e)
 
 by_call : (v : NetView) (b : Beginning) (acts : List Act) (o : Option Call) → IsNewNet v → app_begun b.app (option_to_list o ++ calls b acts) ≡ net_app v
     → IfSome (option_and_then (λ call. cycle_in call (masters b acts)) o) (λ a. a.outputs ≡ net_outputs v (app_cycles (settings b) b.app (option_to_list o ++ calls b acts)) (sent_lens (settings b)))

@@ -6,10 +6,10 @@ pub use Rattle.end_model.specs.Phases.{is_data_frame}
 pub use Rattle.end_model.specs.Setup.{OfMaster, OfSlave, Setup, sends}
 pub use Rattle.end_model.specs.Step.{step}
 pub use Rattle.exchange_model.proofs.Fairness.Headline.{fair_before, fair_world}
-pub use Rattle.exchange_model.proofs.Offering.Older.{older_clean, older_world, ticks_joined}
+pub use Rattle.exchange_model.proofs.Offering.Older.{older_clean}
 pub use Rattle.exchange_model.specs.Ends.{of_end, peer, same_end}
 pub use Rattle.exchange_model.specs.Fair.{Fair, offers_bit, outputs_due, received_len}
-pub use Rattle.exchange_model.specs.Items.{FailSafe, Offered, Unset, is_held, last_put, next_offered, offered_put}
+pub use Rattle.exchange_model.specs.Items.{FailSafe, Offered, Unset, next_offered, offered_put}
 pub use Rattle.exchange_model.specs.Offering.{WasOffered, ticks_of}
 pub use Rattle.exchange_model.specs.Other.{NoOther, before_other, first_of_both}
 pub use Rattle.exchange_model.specs.Schedules.{IsNextEntry, IsProperEvent, IsWorld}
@@ -21,7 +21,7 @@ pub use Rattle.fsoe_base.specs.Image.{bit_of}
 pub use Rattle.fsoe_base.specs.declared.command.End.{End}
 pub use Rattle.fsoe_base.specs.declared.lengths.Lengths.{Lengths}
 pub use Rattle.multi_master.proofs.Neighbours.{event_keeps, settings_alone}
-pub use Rattle.multi_master.specs.Calls.{AppView, Call, ChangeApp, Deliver, IsSound, Meant, Nonce, Rule, Tick, after, all_tick, answer, changed_by, changed_from, connection, cycle_in, event_at, event_on, is_heard, meant, with_cycle}
+pub use Rattle.multi_master.specs.Calls.{AppView, Call, ChangeApp, Deliver, IsSound, Meant, Nonce, Tick, after, all_tick, answer, changed_by, changed_from, connection, cycle_in, event_at, event_on, is_heard, meant, with_cycle}
 pub use Rattle.multi_master.specs.Connection.{Connection, fresh, is_offer, offer_at, offer_len, outputs_at, with_event, with_offers}
 pub use Rattle.param_load.specs.declared.entry.Entry.{Entry}
 pub use Rattle.param_load.specs.declared.entry.Move.{Move}

@@ -1,19 +1,21 @@
 -- Which acts run a cycle, and that its answer is sound.
-use Rattle.plant_model.proofs.Common.{Act, AllSound, Answer, Beginning, Call, Cycles, Deliver, End, Event, Happen, IfSome, IsSound, JournalStep, LinkConf, Parcel, PullFrom, call_of, calls, changed_by, connection, cycle_in, delivery_call, is_heard, is_some, journal, link_at, master_hears, masters, meant, next_of, offer_step, option_and_then, option_to_list, pair, place_of, settings, tells_hearing}
-use Rattle.std.proofs.Common.{◌≡◌, ℕ, zero, suc, Bool, List, [], ◌∷◌, ◌++◌, map, slice_get, Option, Some, None, if◌then◌else◌, refl, sym, ap, ◌∙◌, append_assoc, arith}
+use Rattle.plant_model.proofs.Common.{Act, AllSound, Answer, Beginning, Call, Cycles, Deliver, End, Entry, Event, Happen, IfSome, IsSound, JournalStep, LinkConf, Parcel, PullFrom, call_of, calls, connection, cycle_in, delivery_call, is_heard, is_some, journal, link_at, master_hears, masters, meant, next_of, option_and_then, option_to_list, pair, place_of, settings, tells_hearing, world_after}
+use Rattle.std.proofs.Common.{◌≡◌, ℕ, zero, suc, ◌==◌, Bool, true, false, List, [], ◌∷◌, ◌++◌, slice_get, Option, Some, None, if◌then◌else◌, refl, sym, ap, ◌∙◌, append_assoc, arith}
 use Rattle.fsoe_base.specs.declared.command.End.TheVariants as side
 use Rattle.param_load.specs.declared.entry.Move.TheVariants as move
+use Rattle.schedule_file.specs.declared.event.Event.TheVariants as at
 use Rattle.master_core.specs.Calls.{tells_due}
 use Rattle.multi_master.specs.Standing as multi
 use Rattle.plant_model.specs.declared.event.PlantEvent.TheVariants as event
 use Rattle.plant_model.specs.declared.journal.JournalStep.TheVariants as step
-use Rattle.plant_model.proofs.Growing.{offers_kept, pair_own}
+use Rattle.plant_model.proofs.Growing.{Keeps, pair_own, steps_keep}
+use Rattle.plant_model.proofs.Lines.{each_listed}
 use Rattle.plant_model.proofs.Masters.{mastered, offers_by}
 
--- offers change nothing of what is done with a frame
-after_offers : (listed : List (ℕ × List ℕ)) (link : LinkConf) (k : ℕ) (bytes : List ℕ) (steps : List JournalStep)
-    → (next_of side.Master (move.Deliver bytes) link (pair link k (steps ++ map offer_step listed))).did ≡ (next_of side.Master (move.Deliver bytes) link (pair link k steps)).did
-after_offers listed link k bytes steps = offers_kept (λ w. (next_of side.Master (move.Deliver bytes) link w).did) link k listed steps (λ load w. refl)
+-- an offer changes nothing of what is done with a frame
+put_keeps : (link : LinkConf) (bytes load : List ℕ) (w : List Entry) (mine : Bool) → (next_of side.Master (move.Deliver bytes) link (world_after link.master link.slave (if mine then at.Put side.Master load ∷ [] else []) w)).did ≡ (next_of side.Master (move.Deliver bytes) link w).did
+put_keeps link bytes load w true = refl
+put_keeps link bytes load w false = refl
 
 some_if : (b : Bool) (a : Answer) → is_some (if b then Some a else None) ≡ b
 some_if b a = grind arith
@@ -31,7 +33,7 @@ heard b done place frame link is =
     let own = mastered b done place link is in
     some_if (is_heard frame (connection n (masters b done))) _
     ∙ ap (is_heard frame) own
-    ∙ ap tells_due (sym (after_offers (changed_by (cycle_in call (masters b done)) (masters b done).connections) link n frame steps))
+    ∙ ap tells_due (sym (steps_keep (λ w. (next_of side.Master (move.Deliver frame) link w).did) link n steps offers (each_listed (Keeps (λ w. (next_of side.Master (move.Deliver frame) link w).did) link n) (λ x w. put_keeps link frame x.1 w (x.0 == n)) _)))
     ∙ sym (ap tells_hearing (ap (pair link n) (sym (append_assoc steps offers (step.Pulled parcel ∷ []))) ∙ pair_own link (steps ++ offers) (step.Pulled parcel) n side.Master (move.Deliver frame) (record { part = λ j. refl })))
 
 parcel_cycles : (b : Beginning) (done : List Act) (n : ℕ) (end : End) (frame : List ℕ) (o : Option LinkConf) → link_at b.links n ≡ o

@@ -1,6 +1,6 @@
 -- The masters of a plant did what their pairs in the journal say: connection by connection both have the same deeds.
-use Rattle.plant_model.proofs.Common.{Act, Answer, App, Beginning, Call, Connection, Deed, End, Entry, Happen, IsSomeAnd, JournalStep, LinkConf, MastersAgree, Meant, Move, PullFrom, SaysEvent, Start, all_tick, append-nil, calls, changed_by, changed_from, connection, cycle_in, cycle_of, deeds, delivery_call, eq-eqb, event_on, fresh, is_offer, journal, link_at, masters, meant, next_of, offer_step, option_and_then, option_map, option_to_list, own_events, own_part, pair, settings, with_cycle, with_event, with_offers, world_after}
-use Rattle.std.proofs.Common.{◌≡◌, ◌≢◌, ℕ, zero, suc, ◌+◌, ◌<◌, ◌==◌, List, [], ◌∷◌, ◌++◌, map, slice_get, Option, Some, None, IfSome, Bool, true, false, if◌then◌else◌, refl, sym, ap, ap₂, subst, ◌∙◌, append_assoc, arith}
+use Rattle.plant_model.proofs.Common.{Act, Answer, App, Beginning, Call, Connection, Deed, End, Entry, Happen, IsSomeAnd, JournalStep, LinkConf, MastersAgree, Meant, Move, PlantEvent, PullFrom, SaysEvent, Start, all_tick, append-nil, calls, changed_by, changed_from, connection, cycle_in, cycle_of, deeds, delivery_call, eq-eqb, event_on, fresh, if_same, is_offer, journal, link_at, masters, meant, next_of, offer_step, option_and_then, option_map, option_to_list, own_events, own_part, pair, settings, with_cycle, with_event, with_offers, world_after}
+use Rattle.std.proofs.Common.{◌≡◌, ◌≢◌, ℕ, zero, suc, ◌+◌, ◌<◌, ◌==◌, List, [], ◌∷◌, ◌++◌, map, slice_get, Option, Some, None, Bool, true, false, if◌then◌else◌, refl, sym, ap, ap₂, subst, ◌∙◌, append_assoc, arith}
 use Rattle.std.proofs.lemmas.Option.{slice_get-map}
 use Rattle.fsoe_base.specs.declared.command.End.TheVariants as side
 use Rattle.param_load.specs.declared.entry.Move.TheVariants as move
@@ -10,7 +10,10 @@ use Rattle.multi_master.proofs.Neighbours.{suc-suc}
 use Rattle.multi_master.proofs.Ticking.{told_ticked}
 use Rattle.plant_model.specs.declared.event.PlantEvent.TheVariants as event
 use Rattle.plant_model.specs.declared.journal.JournalStep.TheVariants as step
-use Rattle.plant_model.proofs.Growing.{IsOne, not_same, pair_more, pair_one, pair_other, no_entry}
+use Rattle.plant_model.specs.Acts.{event_call}
+use Rattle.plant_model.specs.Pair.{script_part}
+use Rattle.plant_model.proofs.Growing.{IsOne, not_same, pair_more, pair_one, pair_other, pair_step}
+use Rattle.plant_model.proofs.Proper.{if_some}
 
 -- a master that did what a pair with these entries says
 abbrev pub master_with : LinkConf → List Entry → Connection
@@ -24,45 +27,33 @@ Has cs place link js = slice_get cs place ≡ Some (master_with link (pair link 
 by_entries : (cs : List Connection) (place : ℕ) (link : LinkConf) (js : List JournalStep) (w : List Entry) → slice_get cs place ≡ Some (master_with link w) → pair link (suc place) js ≡ w → Has cs place link js
 by_entries cs place link js w h e = h ∙ ap (λ (z : List Entry). Some (master_with link z)) (sym e)
 
--- a step at a slave
-slave_keeps : (link : LinkConf) (what : Move) (w : List Entry) (b : Bool) → deeds side.Master (if b then next_of side.Slave what link w ∷ w else w) ≡ deeds side.Master w
-slave_keeps link what w b = grind arith
+-- a step in which its master does nothing
+quiet_step : (cs : List Connection) (place : ℕ) (link : LinkConf) (js : List JournalStep) (s : JournalStep) → deeds side.Master (world_after link.master link.slave (own_part (suc place) s) (pair link (suc place) js)) ≡ deeds side.Master (pair link (suc place) js)
+    → Has cs place link js → Has cs place link (js ++ s ∷ [])
+quiet_step cs place link js s same h = h ∙ ap (λ (e : List Deed). Some (record { settings = link.master; deeds = e })) (sym (ap (deeds side.Master) (pair_step link (suc place) js s) ∙ same))
 
-slave_step : (cs : List Connection) (place : ℕ) (link : LinkConf) (js : List JournalStep) (s : JournalStep) (n : ℕ) (what : Move) → IsOne s n side.Slave what → Has cs place link js → Has cs place link (js ++ s ∷ [])
-slave_step cs place link js s n what one h =
-    let w : List Entry = pair link (suc place) js in
-    let same = ap (deeds side.Master) (pair_one link (suc place) js s n side.Slave what one) ∙ slave_keeps link what w (n == suc place) in
-    h ∙ ap (λ (e : List Deed). Some (record { settings = link.master; deeds = e })) (sym same)
+-- as each line is that makes no call, and a frame that comes to a slave
+line_keeps : (link : LinkConf) (k : ℕ) (e : PlantEvent) (w : List Entry) → event_call e ≡ None → deeds side.Master (world_after link.master link.slave (script_part k e) w) ≡ deeds side.Master w
+line_keeps link k e w h = grind arith
+
+frame_keeps : (link : LinkConf) (n k : ℕ) (frame : List ℕ) (w : List Entry) → deeds side.Master (world_after link.master link.slave (if_same n k (at.Raw side.Slave frame)) w) ≡ deeds side.Master w
+frame_keeps link n k frame w = grind arith
 
 -- a step at a master
 abbrev one_of : Bool → Move → Connection → Connection
 one_of b what c = if b then with_event what c else c
 
-as_told : (what : Move) (c : Connection) (o : Option Connection) (a b : Bool) → o ≡ Some (one_of a what c) → b ≡ a → o ≡ Some (one_of b what c)
-as_told what c o a b h e = h ∙ ap (λ (x : Bool). Some (one_of x what c)) (sym e)
-
 event_there : (cs : List Connection) (n place : ℕ) (what : Move) (c : Connection) → slice_get cs place ≡ Some c → slice_get (event_on n what cs) place ≡ Some (one_of (n == suc place) what c)
-event_there [] n place what c h = absurd (cc h)
-event_there (a ∷ cs) zero place what c h = as_told what c (slice_get (a ∷ cs) place) false (0 == suc place) h (grind arith)
-event_there (a ∷ cs) (suc zero) zero what c h = let i : a ≡ c = cc in ap (λ (d : Connection). Some (with_event what d)) i
-event_there (a ∷ cs) (suc zero) (suc k) what c h = as_told what c (slice_get cs k) false (1 == suc (suc k)) h (grind arith)
-event_there (a ∷ cs) (suc (suc p)) zero what c h = as_told what c (Some a) false (suc (suc p) == 1) h (grind arith)
-event_there (a ∷ cs) (suc (suc p)) (suc k) what c h =
-    as_told what c (slice_get (event_on (suc p) what cs) k) (suc p == suc k) (suc (suc p) == suc (suc k)) (event_there cs (suc p) k what c h) (suc-suc (suc p) (suc k))
+event_there (a ∷ cs) (suc (suc p)) (suc k) what c h = event_there cs (suc p) k what c h ∙ ap (λ (x : Bool). Some (one_of x what c)) (sym (suc-suc (suc p) (suc k)))
+event_there cs n place what c h = grind arith
 
 master_goes : (link : LinkConf) (what : Move) (w : List Entry) (b : Bool) → one_of b what (master_with link w) ≡ master_with link (if b then next_of side.Master what link w ∷ w else w)
-master_goes link what w true = refl
-master_goes link what w false = refl
+master_goes link what w b = grind arith
 
 master_step : (cs : List Connection) (place : ℕ) (link : LinkConf) (js : List JournalStep) (s : JournalStep) (n : ℕ) (what : Move) → IsOne s n side.Master what → Has cs place link js → Has (event_on n what cs) place link (js ++ s ∷ [])
 master_step cs place link js s n what one h =
     let w : List Entry = pair link (suc place) js in
     by_entries (event_on n what cs) place link (js ++ s ∷ []) _ (event_there cs n place what (master_with link w) h ∙ ap (λ (d : Connection). Some d) (master_goes link what w (n == suc place))) (pair_one link (suc place) js s n side.Master what one)
-
--- a tick
-tick_step : (cs : List Connection) (place : ℕ) (link : LinkConf) (js : List JournalStep) → Has cs place link js → Has (map (with_event move.Tick) cs) place link (js ++ step.Script event.Tick ∷ [])
-tick_step cs place link js h =
-    by_entries (map (with_event move.Tick) cs) place link (js ++ step.Script event.Tick ∷ []) _ (slice_get-map (with_event move.Tick) cs place ∙ ap (option_map (with_event move.Tick)) h) (pair_more link (suc place) js (step.Script event.Tick ∷ []))
 
 -- an offer of another connection, and those of later ones, are none of connection k
 other_offer : (k n : ℕ) (load : List ℕ) (rest : List (ℕ × List ℕ)) (same : Bool) → n ≢ k → own_events k (map offer_step (if same then rest else (n, load) ∷ rest)) ≡ own_events k (map offer_step rest)
@@ -101,10 +92,6 @@ line_more : (o : Option Answer) (m : Meant) (place : ℕ) (link : LinkConf) (js 
     → Has (with_cycle o m).connections place link (js ++ (s ∷ map offer_step (changed_by o m.connections)))
 line_more o m place link js s h = rw (← append_assoc js (s ∷ []) (map offer_step (changed_by o m.connections))) (cycle_step o m place link (js ++ s ∷ []) h)
 
--- a step that means nothing for any end
-quiet_step : (cs : List Connection) (place : ℕ) (link : LinkConf) (js : List JournalStep) (s : JournalStep) → own_part (suc place) s ≡ [] → Has cs place link js → Has cs place link (js ++ s ∷ [])
-quiet_step cs place link js s none h = by_entries cs place link (js ++ s ∷ []) _ h (no_entry link (suc place) js s none)
-
 -- the offers that an act changed which makes this call, or none
 abbrev pub offers_by : Beginning → Option Call → List Act → List JournalStep
 offers_by b o acts = map offer_step (changed_by (option_and_then (λ call. cycle_in call (masters b acts)) o) (masters b acts).connections)
@@ -113,8 +100,8 @@ offers_by b o acts = map offer_step (changed_by (option_and_then (λ call. cycle
 parcel_step : (b : Beginning) (acts : List Act) (place : ℕ) (link : LinkConf) (n : ℕ) (end : End) (frame : List ℕ) (o : Option LinkConf) → slice_get b.links place ≡ Some link → link_at b.links n ≡ o → Has (masters b acts).connections place link (journal b acts)
     → Has (meant (settings b) b.app (option_to_list (delivery_call o end n frame) ++ calls b acts)).connections place link
     (journal b acts ++ (offers_by b (delivery_call o end n frame) acts ++ step.Pulled (record { to = record { link = n; end = end }; frame = frame }) ∷ []))
-parcel_step b acts place link n side.Slave frame None at e h = slave_step (masters b acts).connections place link (journal b acts) _ n (move.Deliver frame) (record { part = λ k. refl }) h
-parcel_step b acts place link n side.Slave frame (Some conf) at e h = slave_step (masters b acts).connections place link (journal b acts) _ n (move.Deliver frame) (record { part = λ k. refl }) h
+parcel_step b acts place link n side.Slave frame None at e h = quiet_step (masters b acts).connections place link (journal b acts) _ (frame_keeps link n (suc place) frame (pair link (suc place) (journal b acts))) h
+parcel_step b acts place link n side.Slave frame (Some conf) at e h = quiet_step (masters b acts).connections place link (journal b acts) _ (frame_keeps link n (suc place) frame (pair link (suc place) (journal b acts))) h
 parcel_step b acts place link n side.Master frame None at e h =
     let s : JournalStep = step.Pulled (record { to = record { link = n; end = side.Master }; frame = frame }) in
     by_entries (masters b acts).connections place link (journal b acts ++ s ∷ []) (pair link (suc place) (journal b acts)) h
@@ -133,26 +120,21 @@ mastered b [] place link h = slice_get-map fresh (settings b) place ∙ ap (opti
 mastered b (Start ∷ acts) place link h = let m : Meant = masters b acts in cycle_step (cycle_of b Start acts) (record m { app = b.app }) place link (journal b acts) (mastered b acts place link h)
 mastered b (Happen (SaysEvent event.Tick) ∷ acts) place link h =
     let m : Meant = masters b acts in
-    line_more (cycle_of b (Happen (SaysEvent event.Tick)) acts) (all_tick m) place link (journal b acts) (step.Script event.Tick) (tick_step m.connections place link (journal b acts) (mastered b acts place link h))
+    line_more (cycle_of b (Happen (SaysEvent event.Tick)) acts) (all_tick m) place link (journal b acts) (step.Script event.Tick)
+    (by_entries (map (with_event move.Tick) m.connections) place link (journal b acts ++ step.Script event.Tick ∷ []) _ (slice_get-map (with_event move.Tick) m.connections place ∙ ap (option_map (with_event move.Tick)) (mastered b acts place link h)) (pair_more link (suc place) (journal b acts) (step.Script event.Tick ∷ [])))
     ∙ ap (λ (listed : List (ℕ × List ℕ)). Some (master_with link (pair link (suc place) (journal b acts ++ (step.Script event.Tick ∷ map offer_step listed))))) (told_ticked 1 m.connections _)
-mastered b (Happen (SaysEvent (event.Put n load)) ∷ acts) place link h = slave_step (masters b acts).connections place link (journal b acts) _ n (move.Put load) (record { part = λ k. refl }) (mastered b acts place link h)
-mastered b (Happen (SaysEvent (event.Hold n failsafe)) ∷ acts) place link h = slave_step (masters b acts).connections place link (journal b acts) _ n (move.Hold failsafe) (record { part = λ k. refl }) (mastered b acts place link h)
-mastered b (Happen (SaysEvent (event.Local n)) ∷ acts) place link h = slave_step (masters b acts).connections place link (journal b acts) _ n move.Local (record { part = λ k. refl }) (mastered b acts place link h)
-mastered b (Happen (SaysEvent (event.Nonce n side.Slave id)) ∷ acts) place link h = slave_step (masters b acts).connections place link (journal b acts) _ n (move.Nonce id) (record { part = λ k. refl }) (mastered b acts place link h)
 mastered b (Happen (SaysEvent (event.Nonce n side.Master id)) ∷ acts) place link h = master_step (masters b acts).connections place link (journal b acts) _ n (move.Nonce id) (record { part = λ k. refl }) (mastered b acts place link h)
-mastered b (Happen (SaysEvent (event.Cut n cut)) ∷ acts) place link h = quiet_step (masters b acts).connections place link (journal b acts) _ refl (mastered b acts place link h)
+mastered b (Happen (SaysEvent e) ∷ acts) place link h = quiet_step (masters b acts).connections place link (journal b acts) (step.Script e) (line_keeps link (suc place) e (pair link (suc place) (journal b acts)) refl) (mastered b acts place link h)
 mastered b (Happen (App app) ∷ acts) place link h =
     let m : Meant = masters b acts in
     line_more (cycle_of b (Happen (App app)) acts) (record m { app = app }) place link (journal b acts) step.App (quiet_step m.connections place link (journal b acts) step.App refl (mastered b acts place link h))
 mastered b (PullFrom None ∷ acts) place link h = cycle_step None (masters b acts) place link (journal b acts) (mastered b acts place link h)
 mastered b (PullFrom (Some parcel) ∷ acts) place link h = parcel_step b acts place link parcel.to.link parcel.to.end parcel.frame (link_at b.links parcel.to.link) h refl (mastered b acts place link h)
 
-agree_if : (b : Beginning) (acts : List Act) (k : ℕ) (o : Option LinkConf) → link_at b.links k ≡ o
-    → IfSome o (λ link. IsSomeAnd (connection k (masters b acts)) (λ c. deeds side.Master (pair link k (journal b acts)) ≡ c.deeds))
-agree_if b acts k None h = tt
-agree_if b acts zero (Some link) h = absurd (cc h)
-agree_if b acts (suc place) (Some link) h =
+agree : (b : Beginning) (acts : List Act) (k : ℕ) (link : LinkConf) → link_at b.links k ≡ Some link → IsSomeAnd (connection k (masters b acts)) (λ c. deeds side.Master (pair link k (journal b acts)) ≡ c.deeds)
+agree b acts zero link h = absurd (cc h)
+agree b acts (suc place) link h =
     subst (λ (o : Option Connection). IsSomeAnd o (λ c. deeds side.Master (pair link (suc place) (journal b acts)) ≡ c.deeds)) (sym (mastered b acts place link h)) refl
 
 pub masters_agree : (b : Beginning) (acts : List Act) → MastersAgree b acts
-masters_agree b acts = λ k. agree_if b acts k (link_at b.links k) refl
+masters_agree b acts = λ k. if_some (λ link. IsSomeAnd (connection k (masters b acts)) (λ c. deeds side.Master (pair link k (journal b acts)) ≡ c.deeds)) (link_at b.links k) (agree b acts k)

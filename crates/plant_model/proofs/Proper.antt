@@ -2,7 +2,7 @@
 use Rattle.plant_model.proofs.Common.{Fair, HasSameLengths, IfSome, IsProperEvent, IsSomeAnd, IsTrue, JournalStep, Lengths, LinkConf, None, Option, PairsAreFair, SameLengths, Some, StepFits, before_other, fair_before, link_at, option_map, own_events, own_part, pair}
 use Rattle.std.proofs.Common.{◌≡◌, ℕ, zero, suc, ◌≤◌, ◌==◌, Bool, List, [], ◌∷◌, map, All, refl, sym, ap, arith, rules}
 use Rattle.std.specs.Prelude.{if◌then◌else◌}
-use Rattle.std.proofs.lemmas.List.Elements.{All-append, All-cons, All-head, All-nil, All-tail}
+use Rattle.std.proofs.lemmas.List.Elements.{All-append, All-head, All-nil, All-tail}
 use Rattle.std.proofs.lemmas.Option.{slice_get-map}
 use Rattle.multi_master.proofs.Places.{all_at}
 use Rattle.param_load.specs.Profile.{allows_id}
@@ -12,9 +12,6 @@ use Rattle.plant_model.specs.Fits.{lengths_in, lengths_at}
 
 abbrev Proper : LinkConf → Event → Type 0
 Proper link one = IsProperEvent link.master link.slave one
-
-one : (link : LinkConf) (e : Event) → Proper link e → All (Proper link) (e ∷ [])
-one link e h = All-cons (Proper link) e [] h (All-nil (Proper link))
 
 -- an event that is proper where the numbers are the same
 same : (link : LinkConf) (n k : ℕ) (e : Event) (is : Bool) → (n == k) ≡ is → (n ≡ k → Proper link e) → All (Proper link) (if is then e ∷ [] else [])
@@ -50,10 +47,11 @@ lengths_at_link : (links : List LinkConf) (k : ℕ) (link : LinkConf) → All Ha
 lengths_at_link links zero link same found = cc
 lengths_at_link links (suc place) link same found = has_same link (all_at HasSameLengths links place link same found)
 
-fair_if : (links : List LinkConf) (k : ℕ) (journal : List JournalStep) (at_k : Option LinkConf) → link_at links k ≡ at_k → All HasSameLengths links → All (StepFits links) journal → IfSome at_k (λ link. Fair link.master.lengths (before_other (pair link k journal)))
-fair_if links k journal None found same fits = tt
-fair_if links k journal (Some link) found same fits =
-    fair_before link.master link.slave (own_events k journal) (lengths_at_link links k link same found) (events_proper links k link journal found fits)
+-- what holds of a value wherever there is one
+pub if_some : {X : Type 0} (P : X → Type 0) (o : Option X) → ((x : X) → o ≡ Some x → P x) → IfSome o P
+if_some P None h = tt
+if_some P (Some x) h = h x refl
 
 pub pairs_are_fair : (links : List LinkConf) (journal : List JournalStep) → All HasSameLengths links → All (StepFits links) journal → PairsAreFair links journal
-pairs_are_fair links journal same fits = λ k. fair_if links k journal (link_at links k) refl same fits
+pairs_are_fair links journal same fits = λ k. if_some (λ link. Fair link.master.lengths (before_other (pair link k journal))) (link_at links k)
+    (λ link found. fair_before link.master link.slave (own_events k journal) (lengths_at_link links k link same found) (events_proper links k link journal found fits))

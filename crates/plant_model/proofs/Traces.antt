@@ -17,10 +17,7 @@ by_gift : (gift : Option Parcel) (old new : Option (List Parcel)) → GrowsByGif
 by_gift gift old new h = search rules
 
 pub told_lists : (uses : List Use) (old new : Told) → Trace uses old new → ToldLists uses old new
-told_lists [] old new e = record {
-  pushed = subst (λ (z : Told). GrewBy [] old.pushed z.pushed) e (no_more old.pushed);
-  given = subst (λ (z : Told). GrewBy [] old.given z.given) e (no_more old.given);
-}
+told_lists [] old new e = subst (ToldLists [] old) e (record { pushed = no_more old.pushed; given = no_more old.given })
 told_lists (Begin seed ∷ uses) old new t = let rest = told_lists uses t.0 new t.2 in search (rules, grown)
 told_lists (Push parcel ∷ uses) old new t =
     let rest = told_lists uses t.0 new t.2 in
@@ -50,14 +47,12 @@ same_held : (held : Option Holds) → held ≡ option_map (λ z. z) held
 same_held held = grind arith
 
 no_pull : (held : Option Holds) → IfSome held (GivesHeld [])
-no_pull None = tt
-no_pull (Some held) = tt
+no_pull held = grind arith
 
 pub told_holds : (uses : List Use) (old new : Told) → Trace uses old new → ToldHolds uses old new
 told_holds [] old new e = record { gives = no_pull old.holds; holds = ap (λ (z : Told). z.holds) (sym e) ∙ same_held old.holds }
-told_holds (Begin seed ∷ uses) old new t = let rest = told_holds uses t.0 new t.2 in search (rules, of_made, made_twice)
-told_holds (Push parcel ∷ uses) old new t = let rest = told_holds uses t.0 new t.2 in search (rules, of_made, made_twice)
 told_holds (Pull gift ∷ uses) old new t = let rest = told_holds uses t.0 new t.2 in search (rules, both, made_twice)
+told_holds (_ ∷ uses) old new t = let rest = told_holds uses t.0 new t.2 in search (rules, of_made, made_twice)
 
 -- a pull that gave nothing counts, unless the count stays
 one_rose : (gift : Option Parcel) (n all old mid new : ℕ) → all ≡ cond (is_none gift) 1 0 + n → old ≤ mid → (gift ≡ None → Rose old mid) → RoseBy n mid new → RoseBy all old new

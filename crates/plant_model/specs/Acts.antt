@@ -48,9 +48,8 @@ event_call _ = None
 
 -- the call that a parcel makes: a delivery, where it goes to the master of a connection that exists
 abbrev pub delivery_call : Option LinkConf → End → ℕ → List ℕ → Option Call
-delivery_call None end link frame = None
 delivery_call (Some conf) side.Master link frame = Some (Deliver link frame)
-delivery_call (Some conf) side.Slave link frame = None
+delivery_call _ _ link frame = None
 
 -- the call that an act makes, if it makes one: the start of a plant is the change to its first application
 abbrev pub call_of : Beginning → Act → Option Call
@@ -123,15 +122,13 @@ newer before now = reverse (take (length now - length before) now)
 abbrev pub push_to : ℕ → End → List ℕ → Use
 push_to k end frame = Push (record { to = record { link = k; end = end }; frame = frame })
 
--- the frames that an end of connection k sent between two journals are pushed, for its peer
-abbrev pub pushes_at : LinkConf → ℕ → End → List JournalStep → List JournalStep → List Use
-pushes_at link k end before now = map (push_to k (peer end)) (newer (frames_of end (pair link k before)) (frames_of end (pair link k now)))
-
--- so it is at one end of each connection that isn't cut, from number k on
+-- the frames that one end of each connection, from number k on, sent between two journals are pushed, for its peer,
+-- unless the connection is cut
 abbrev pub pushes_of : End → ℕ → List LinkConf → (ℕ → Bool) → List JournalStep → List JournalStep → List Use
 pushes_of end k [] cut before now = []
 pushes_of end k (link ∷ links) cut before now =
-    (if cut k then [] else pushes_at link k end before now) ++ pushes_of end (suc k) links cut before now
+    (if cut k then [] else map (push_to k (peer end)) (newer (frames_of end (pair link k before)) (frames_of end (pair link k now))))
+    ++ pushes_of end (suc k) links cut before now
 
 -- the frames that all ends sent between two journals are pushed: those of the slaves first, and then those of the
 -- masters

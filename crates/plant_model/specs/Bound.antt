@@ -43,18 +43,15 @@ inputs_after b acts = map connection.outputs_at (masters b acts).connections
 abbrev pub offers_after : Beginning → List Act → List (List ℕ)
 offers_after b acts = map connection.offer_at (masters b acts).connections
 
--- where an act runs a cycle and its master has the e-stop's bit as 0 after it, the drive's bit is offered as 0 then
-abbrev pub KeepsOff : Beginning → BoundSpec → Act → List Act → Type 0
-KeepsOff b bound act acts =
-    IfSome (cycle_of b act acts) (λ a.
-    bit_at (inputs_after b (act ∷ acts)) bound.estop ≡ false → bit_at (offers_after b (act ∷ acts)) bound.drive ≡ false)
-
--- from some acts on the e-stop of a bound is off, after these and after each later one, and each later one keeps the
--- drive off
+-- from some acts on the e-stop of a bound is off, after these and after each later one. Where a later one runs a cycle,
+-- and its master has the e-stop's bit as 0 after it, the drive's bit is offered as 0 then
 abbrev pub StaysOff : Beginning → BoundSpec → List Act → List Act → Type 0
 StaysOff b bound [] earlier = IsTrue (is_off b bound.estop earlier)
 StaysOff b bound (act ∷ later) earlier =
-    IsTrue (is_off b bound.estop (act ∷ later ++ earlier)) × KeepsOff b bound act (later ++ earlier) × StaysOff b bound later earlier
+    let done : List Act = act ∷ later ++ earlier in
+    IsTrue (is_off b bound.estop done)
+    × IfSome (cycle_of b act (later ++ earlier)) (λ a. bit_at (inputs_after b done) bound.estop ≡ false → bit_at (offers_after b done) bound.drive ≡ false)
+    × StaysOff b bound later earlier
 
 -- the connections of a bound, which there are
 pub record HasLinks (b : Beginning) (bound : BoundSpec) (estop drive : LinkConf) : Type 0 where

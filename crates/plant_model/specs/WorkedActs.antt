@@ -1,12 +1,12 @@
 -- Acts of the worked plant: its journal, and what happened to the channel. Acts are listed newest first, steps and uses
 -- oldest first.
-use Rattle.std.specs.Prelude.{◌≡◌, ℕ, true, false, List, [], ◌∷◌, codes, map, reverse, take, Some, None}
+use Rattle.std.specs.Prelude.{◌≡◌, ℕ, true, false, List, [], ◌∷◌, ◌++◌, codes, map, reverse, take, Some, None}
+use Rattle.fsoe_base.specs.declared.command.End.{End}
 use Rattle.fsoe_base.specs.declared.command.End.TheVariants as side
 use Rattle.black_channel.specs.Holds.{Ring}
 use Rattle.black_channel.specs.declared.channel.Parcel.{Parcel}
 use Rattle.multi_master.specs.Calls.{AppView}
 use Rattle.plant_model.specs.declared.event.PlantEvent.TheVariants as event
-use Rattle.plant_model.specs.declared.journal.JournalStep.{JournalStep}
 use Rattle.plant_model.specs.declared.journal.JournalStep.TheVariants as step
 use Rattle.plant_model.specs.Acts.{Beginning, Event, Act, Start, Happen, PullFrom, journal, uses}
 use Rattle.plant_model.specs.Past.{IsPast}
@@ -26,58 +26,33 @@ driving = record {
 abbrev pub driving_plant : Beginning
 driving_plant = record { links = both_links; app = driving; seed = 1 }
 
--- a parcel for a slave, and for a master
-abbrev pub for_slave : ℕ → List ℕ → Parcel
-for_slave = parcel_for side.Slave
-
-abbrev pub for_master : ℕ → List ℕ → Parcel
-for_master = parcel_for side.Master
+-- parcels with the same frame for both slaves, or for both masters
+abbrev pub for_both : End → List ℕ → List Parcel
+for_both end text = parcel_for end 1 text ∷ parcel_for end 2 text ∷ []
 
 -- the parcels of the first pulls
 abbrev pub first_parcels : List Parcel
-first_parcels =
-    for_slave 1 (codes "2a0000c42d0000")
-    ∷ for_slave 2 (codes "2a0000c42d0000")
-    ∷ for_master 1 (codes "2a0000c42d0000")
-    ∷ for_master 2 (codes "2a0000c42d0000")
-    ∷ for_slave 1 (codes "4e0100123e0000")
-    ∷ for_slave 2 (codes "4e0100123e0000")
-    ∷ []
+first_parcels = for_both side.Slave (codes "2a0000c42d0000") ++ for_both side.Master (codes "2a0000c42d0000") ++ for_both side.Slave (codes "4e0100123e0000")
 
 -- a start, a tick, and these pulls
 abbrev pub first_acts : List Act
 first_acts = reverse (Start ∷ Happen (Event event.Tick) ∷ map (λ parcel. PullFrom (Some parcel)) first_parcels)
 
--- the journal begins with the one offer that the first cycle changed; nothing is changed after it
-abbrev pub first_steps : List JournalStep
-first_steps = offer 2 (codes "0100") ∷ tick ∷ map step.Pulled first_parcels
+-- each of these parcels is pulled, and its answer pushed
+abbrev pub answered : List Parcel → List Parcel → List Use
+answered (parcel ∷ parcels) (answer ∷ answers) = Pull (Some parcel) ∷ Push answer ∷ answered parcels answers
+answered _ _ = []
 
--- the uses of the channel: it begins with the seed; both masters' first frames are pushed; each parcel is pulled, and
--- its answer pushed
-abbrev pub first_uses : List Use
-first_uses =
-    Begin 1
-    ∷ Push (for_slave 1 (codes "2a0000c42d0000"))
-    ∷ Push (for_slave 2 (codes "2a0000c42d0000"))
-    ∷ Pull (Some (for_slave 1 (codes "2a0000c42d0000")))
-    ∷ Push (for_master 1 (codes "2a0000c42d0000"))
-    ∷ Pull (Some (for_slave 2 (codes "2a0000c42d0000")))
-    ∷ Push (for_master 2 (codes "2a0000c42d0000"))
-    ∷ Pull (Some (for_master 1 (codes "2a0000c42d0000")))
-    ∷ Push (for_slave 1 (codes "4e0100123e0000"))
-    ∷ Pull (Some (for_master 2 (codes "2a0000c42d0000")))
-    ∷ Push (for_slave 2 (codes "4e0100123e0000"))
-    ∷ Pull (Some (for_slave 1 (codes "4e0100123e0000")))
-    ∷ Push (for_master 1 (codes "4e020090470000"))
-    ∷ Pull (Some (for_slave 2 (codes "4e0100123e0000")))
-    ∷ Push (for_master 2 (codes "4e020090470000"))
-    ∷ []
-
--- so they are, and a channel that keeps order gives just these parcels; 58 more may be pulled in this tick
+-- the journal begins with the one offer that the first cycle changed; nothing is changed after it. The channel begins
+-- with the seed; both masters' first frames are pushed; each parcel is answered. A channel that keeps order gives just
+-- these parcels, and 58 more may be pulled in this tick
 unfoldable pub FirstActs : Type 0
 FirstActs =
-    (journal driving_plant first_acts ≡ first_steps)
-    × (uses driving_plant first_acts ≡ first_uses)
+    (journal driving_plant first_acts ≡ offer 2 (codes "0100") ∷ tick ∷ map step.Pulled first_parcels)
+    × (uses driving_plant first_acts
+    ≡ Begin 1
+    ∷ map Push (for_both side.Slave (codes "2a0000c42d0000"))
+    ++ answered first_parcels (for_both side.Master (codes "2a0000c42d0000") ++ for_both side.Slave (codes "4e0100123e0000") ++ for_both side.Master (codes "4e020090470000")))
     × GivesHeld (uses driving_plant first_acts) (Ring [])
     × IsPast 58 first_acts
 
@@ -98,11 +73,9 @@ unfoldable pub CutActs : Type 0
 CutActs =
     (uses driving_plant cut_acts
     ≡ Begin 1
-    ∷ Push (for_slave 1 (codes "2a0000c42d0000"))
-    ∷ Push (for_slave 2 (codes "2a0000c42d0000"))
-    ∷ Pull None
-    ∷ Pull (Some (for_slave 1 (codes "2a0000c42d0000")))
-    ∷ Pull (Some (for_slave 2 (codes "2a0000c42d0000")))
-    ∷ Push (for_master 2 (codes "2a0000c42d0000"))
+    ∷ map Push (for_both side.Slave (codes "2a0000c42d0000"))
+    ++ Pull None
+    ∷ map (λ parcel. Pull (Some parcel)) (take 2 first_parcels)
+    ++ Push (parcel_for side.Master 2 (codes "2a0000c42d0000"))
     ∷ [])
     × IsPast 62 cut_acts

@@ -11,7 +11,7 @@ pub record Carries (l : ℕ) (i : Item) : Type 0 where
   pub carries : (c : Command) → command_in i.bytes ≡ Some c → is_data c ≡ true → frame_if l i.offered ≡ Some (record { command = c; load = (frame_of l i.bytes).load })
 
 -- what was put last, zeros where nothing was
-abbrev offer_by : ℕ → Option (List ℕ) → List ℕ
+abbrev pub offer_by : ℕ → Option (List ℕ) → List ℕ
 offer_by l None = replicate l 0
 offer_by l (Some bytes) = bytes
 
@@ -20,7 +20,7 @@ put-head : (s : Setup) (which : End) (x : Entry) (w : List Entry) (mine : Bool) 
 put-head s which x w mine h = grind arith
 
 -- what was put last by an end's entries is its offer
-put-is : (s : Setup) (which : End) (w : List Entry) → offer s (deeds which w) ≡ offer_by (sends s) (last_put (of_end which w))
+pub put-is : (s : Setup) (which : End) (w : List Entry) → offer s (deeds which w) ≡ offer_by (sends s) (last_put (of_end which w))
 put-is s which [] = refl
 put-is s which (x ∷ w) = put-head s which x w (same_end which x.end) (put-is s which w)
 
@@ -28,7 +28,7 @@ held-head : (which : End) (x : Entry) (w : List Entry) (mine : Bool) → held (d
     → held (if mine then deed_in x ∷ deeds which w else deeds which w) ≡ is_held (if mine then x ∷ of_end which w else of_end which w)
 held-head which x w mine h = grind arith
 
-held-is : (which : End) (w : List Entry) → held (deeds which w) ≡ is_held (of_end which w)
+pub held-is : (which : End) (w : List Entry) → held (deeds which w) ≡ is_held (of_end which w)
 held-is which [] = refl
 held-is which (x ∷ w) = held-head which x w (same_end which x.end) (held-is which w)
 
