@@ -20,13 +20,13 @@ pub use Rattle.multi_master.proofs.Keeping.{written_back}
 pub use Rattle.multi_master.proofs.Places.{Placed, all_at, map_set, placed, same_length, some_at}
 pub use Rattle.multi_master.specs.Calls.{AppView, Call, ChangeApp, Deliver, IsSound, Meant, Nonce, Tick, changed_by, changed_from, connection, meant}
 pub use Rattle.multi_master.specs.Connection.{Connection, is_offer, next_deed, offer_at, setup}
-pub use Rattle.multi_master.specs.Standing.{AllSound, AnswersFrame, AnswersTick, IsWhere, MultiValue, MultiView, ShowsApp, ShowsAt, ShowsChanged, StandsFor, changed, newest_at, numbers_of, seen}
+pub use Rattle.multi_master.specs.Standing.{AllSound, AnswersFrame, AnswersTick, IsNumber, IsWhere, MultiValue, MultiView, ShowsApp, ShowsAt, ShowsChanged, StandsFor, changed, newest_at, numbers_of, seen}
 pub use Rattle.param_load.specs.declared.entry.Entry.{Entry}
 pub use Rattle.param_load.specs.declared.entry.Move.{Move}
 pub use Rattle.plant_conf.specs.declared.conf.BoundSpec.{BoundSpec}
 pub use Rattle.plant_conf.specs.declared.conf.LinkConf.{LinkConf}
-pub use Rattle.plant_core.specs.Doing.{Acted, ActedTo, AllActed, AreNext, Delivers, Done, DoesLine, EachActs, GoesOn, IsReady, MasterTicked, OffersNoted, Pulls, SlaveActs, SlaveTicks, frames_pushed, one_each, one_each_to, sees, slave_move}
-pub use Rattle.plant_core.specs.Link.{AgesNote, Fixed, LinkStands, LinkView, MasterNoted, NotesOne, NotesSlave, fixed_of, new_ages, new_link}
+pub use Rattle.plant_core.specs.Doing.{Acted, Change, Delivers, Done, DoesLine, EachActs, GoesOn, IsReady, MasterTicked, OffersNoted, Pulls, SlaveActs, SlaveTicks, sees, slave_move}
+pub use Rattle.plant_core.specs.Link.{AgesNote, Fixed, IsNoted, LinkStands, LinkView, NotesOne, fixed_of, new_ages, new_link}
 pub use Rattle.plant_core.specs.Making.{is_named, links_made, master_in}
 pub use Rattle.plant_core.specs.Standing.{AllNoted, AreNoted, EachLink, Follows, HasDone, HasLink, IsPlant, LinkIs, LinksAre, PlantStands, PlantValue, PlantView, ShowsOn, ShowsPair, ShowsWorst, Starts, TellsOther, TellsStill, fixed_in, kept_at, lengths_kept}
 pub use Rattle.plant_model.proofs.Growing.{IsOne, each_none, each_one, no_entry, not_same, pair_more, pair_one, pair_other, pair_own, pushes_each, sent_in, with_frame}
@@ -43,8 +43,8 @@ pub use Rattle.reaction_bound.specs.Ages.{AgesView, HasAgeParts, HasWatchdog, wa
 pub use Rattle.slave_core.specs.SlaveView.{SlaveView}
 pub use Rattle.slave_core.specs.Standing.{Shows, SlaveIsAfter}
 pub use Rattle.std.proofs.lemmas.Bool.{eq-eqb, le-ltb, lt-ltb}
-pub use Rattle.std.proofs.lemmas.List.{append-nil, drop-set-lt, drop_more, length-map, map-append, take_all, take_more_set}
-pub use Rattle.std.proofs.lemmas.List.Elements.{All-append, All-cons, All-head, All-nil, All-push, All-tail, All-weaker}
+pub use Rattle.std.proofs.lemmas.List.{append-nil, drop-set-lt, drop_more, length-map, length-set, length-take-le, map-append, take_all, take_more, take_more_set}
+pub use Rattle.std.proofs.lemmas.List.Elements.{All-append, All-cons, All-drop, All-head, All-nil, All-tail, All-weaker}
 pub use Rattle.std.proofs.lemmas.Option.{get_or_from_slice_get, slice_get-get_or, slice_get-map, slice_get_past, slice_get_read, slice_get_within}
 pub use Rattle.std.specs.Option.{option_map_or}
-pub use Rattle.std.specs.Prelude.{IfSome, IsSomeAnd, Result, is_err, is_ok, is_some, option_copied, option_to_list}
+pub use Rattle.std.specs.Prelude.{IfSome, IsSome, IsSomeAnd, Result, is_err, is_ok, is_some, option_copied, option_to_list}

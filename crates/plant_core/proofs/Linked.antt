@@ -1,11 +1,12 @@
 -- The slave of a connection and what notes its pair, after a deed of either end.
-use Rattle.plant_core.proofs.Common.{AgesNote, AgesView, Deed, Did, End, Entry, Fixed, HasAgeParts, IfSome, Lengths, LinkConf, LinkStands, LinkView, MasterNoted, Move, NotesOne, NotesParts, NotesSlave, OfSlave, SlaveActs, SlaveIsAfter, SlaveView, Told, Trace, deed_in, deeds, delivered, is_some, new_ages, new_link, next_of, place_of, same_end, sent_uses, watchdog_in}
+use Rattle.plant_core.proofs.Common.{Acted, AgesNote, AgesView, Deed, Did, End, Entry, Fixed, HasAgeParts, IfSome, IsNoted, Lengths, LinkConf, LinkStands, LinkView, Move, NotesOne, OfSlave, SlaveActs, SlaveIsAfter, SlaveView, Told, Trace, deed_in, deeds, delivered, is_some, new_ages, new_link, next_of, place_of, same_end, sent_uses, told_terms, watchdog_in}
 use Rattle.fsoe_base.specs.declared.did.Took.{Took}
 use Rattle.end_model.specs.Step.{step}
-use Rattle.std.proofs.Common.{◌≡◌, ℕ, ◌+◌, List, [], ◌∷◌, Bool, false, ap, ap₂, refl, sym, subst, Option, if◌then◌else◌, arith}
+use Rattle.std.proofs.Common.{◌≡◌, ℕ, ◌+◌, List, [], ◌∷◌, Bool, false, ap, ap₂, refl, sym, subst, Option, if◌then◌else◌, ◌∙◌, arith}
 use Rattle.fsoe_base.specs.declared.command.Command.TheVariants as command
 use Rattle.fsoe_base.specs.declared.command.End.TheVariants as side
 use Rattle.param_load.specs.declared.slave_settings.SlaveSettings.{SlaveSettings}
+use Rattle.param_load.specs.declared.terms.Terms.{Terms}
 use Rattle.exchange_model.specs.Honest.{is_tick}
 use Rattle.exchange_model.specs.Monitor.{HasParts}
 use Rattle.exchange_model.specs.Monitor as monitor
@@ -28,44 +29,6 @@ ages_noted old new at tick came did sent watchdog x w h k l = grind arith
 pub whatever : (took : Option Took) (watchdog told : Option ℕ) → watchdog ≡ told → IfSome took (λ t. t.command ≡ command.ProcessData → watchdog ≡ told)
 whatever took watchdog told h = grind arith
 
-pub slave_acts : (k : ℕ) (what : Move) (old new : LinkView) (did : Did) (sent : List ℕ) (before after : Told) → slave_core.Follows old.slave what new.slave → slave_core.Answers old.slave what did sent
-    → NotesParts old.monitor side.Slave (delivered what) did sent new.monitor → NotesSlave new.slave old.ages (is_tick what) (delivered what) did sent new.ages
-    → Trace (sent_uses (place_of k side.Master) sent old.cut) before after → SlaveActs k what old new before after
-slave_acts k what old new did sent before after follows answers noted aged pushed = record {
-  acts = λ link w h.
-      let e : List Deed = deeds side.Slave w in
-      let x : Entry = next_of side.Slave what link w in
-      let after_it = follows.is_after link.slave e h.slave in
-      let s = answers.sent link.slave e h.slave in
-      let told : aged.watchdog ≡ watchdog_in x.terms = (aged.shown.shows link.slave (step (OfSlave link.slave) e what ∷ e) after_it) in
-      let parts : HasParts x side.Slave (delivered what) did sent = record { end_is = refl; came_is = refl; did_is = sym (answers.did link.slave e h.slave); sent_is = sym s } in
-      record {
-        stands = record {
-          slave = after_it;
-          monitor = (noted.notes x parts).notes w h.monitor;
-          ages = ages_noted old.ages new.ages side.Slave (is_tick what) (delivered what) did sent aged.watchdog x w aged.noted
-              (record { parts = parts; tick_is = refl; watchdog_is = whatever x.did.took aged.watchdog (watchdog_in x.terms) told }) h.ages;
-        };
-        channel = subst (λ (f : List ℕ). Trace (sent_uses (place_of k side.Master) f old.cut) before after) s pushed;
-      };
-}
-
--- an entry of the master is none of the slave's deeds
-masters_own : (end : End) (x : Entry) (w : List Entry) → end ≡ side.Master → (if same_end side.Slave end then deed_in x ∷ deeds side.Slave w else deeds side.Slave w) ≡ deeds side.Slave w
-masters_own end x w h = grind arith
-
-pub master_noted : (old new : LinkView) (tick : Bool) (came : List ℕ) (did : Did) (sent : List ℕ) (watchdog : Option ℕ) → NotesParts old.monitor side.Master came did sent new.monitor
-    → AgesNote old.ages side.Master tick came did sent watchdog new.ages → new.slave ≡ old.slave → MasterNoted old tick came did sent watchdog new
-master_noted old new tick came did sent watchdog noted aged same = record {
-  stands = λ link w x h is.
-      let own = sym (masters_own x.end x w is.parts.end_is) in
-      record {
-        slave = subst (λ (z : SlaveView). SlaveIsAfter link.slave z (deeds side.Slave (x ∷ w))) (sym same) (subst (λ (z : List Deed). SlaveIsAfter link.slave old.slave z) own h.slave);
-        monitor = (noted.notes x is.parts).notes w h.monitor;
-        ages = ages_noted old.ages new.ages side.Master tick came did sent watchdog x w aged is h.ages;
-      };
-}
-
 abbrev fixed_by : Lengths → Bool → Fixed
 fixed_by lengths aged = record { lengths = lengths; aged = aged }
 
@@ -74,4 +37,49 @@ notes_one old new noted settings aged cut = record {
   noted = noted;
   fixed = ap₂ fixed_by (ap (λ (s : SlaveSettings). s.lengths) settings) aged;
   cut = cut;
+}
+
+pub slave_acts : (k : ℕ) (what : Move) (old mid new : LinkView) (did : Did) (sent : List ℕ) (terms : Option Terms) (watchdog : Option ℕ) (before after : Told) → slave_core.Follows old.slave what mid.slave → slave_core.Answers old.slave what did sent
+    → slave_core.Shows mid.slave terms told_terms → watchdog ≡ watchdog_in terms → IsNoted side.Slave (is_tick what) (delivered what) did sent watchdog mid new → Trace (sent_uses (place_of k side.Master) sent mid.cut) before after
+    → mid.slave.kit.settings ≡ old.slave.kit.settings → mid ≡ record old { slave = mid.slave } → SlaveActs k what old new before after
+slave_acts k what old mid new did sent terms watchdog before after follows answers shown told noted pushed settings stays = record {
+  acts = λ link w h.
+      let e : List Deed = deeds side.Slave w in
+      let x : Entry = next_of side.Slave what link w in
+      let after_it = follows.is_after link.slave e h.slave in
+      let s = answers.sent link.slave e h.slave in
+      let told_so : watchdog ≡ watchdog_in x.terms = told ∙ ap watchdog_in (shown.shows link.slave (step (OfSlave link.slave) e what ∷ e) after_it) in
+      let parts : HasParts x side.Slave (delivered what) did sent = record { end_is = refl; came_is = refl; did_is = sym (answers.did link.slave e h.slave); sent_is = sym s } in
+      record {
+        stands = record {
+          slave = subst (λ (z : SlaveView). SlaveIsAfter link.slave z (step (OfSlave link.slave) e what ∷ e)) (sym noted.slave) after_it;
+          monitor = (noted.monitor.notes x parts).notes w (ap (λ (v : LinkView). v.monitor) stays ∙ h.monitor);
+          ages = ages_noted mid.ages new.ages side.Slave (is_tick what) (delivered what) did sent watchdog x w noted.ages
+              (record { parts = parts; tick_is = refl; watchdog_is = whatever x.did.took watchdog (watchdog_in x.terms) told_so }) (rw (ap (λ (v : LinkView). v.ages) stays) h.ages);
+        };
+        channel = subst (λ (f : List ℕ). Trace (sent_uses (place_of k side.Master) f old.cut) before after) s (rw (← ap (λ (v : LinkView). v.cut) stays) pushed);
+      };
+  notes = notes_one old new (noted.notes.noted ∙ ap (λ (v : LinkView). v.monitor.noted + 1) stays) (ap (λ (v : SlaveView). v.kit.settings) noted.slave ∙ settings)
+      (ap (λ (f : Fixed). f.aged) noted.notes.fixed ∙ ap (λ (v : LinkView). is_some v.ages) stays) (noted.notes.cut ∙ ap (λ (v : LinkView). v.cut) stays);
+}
+
+-- an entry of the master is none of the slave's deeds
+masters_own : (end : End) (x : Entry) (w : List Entry) → end ≡ side.Master → (if same_end side.Slave end then deed_in x ∷ deeds side.Slave w else deeds side.Slave w) ≡ deeds side.Slave w
+masters_own end x w h = grind arith
+
+-- what is kept stands for an entry more of the master
+pub master_stands : (tick : Bool) (came : List ℕ) (did : Did) (sent : List ℕ) (watchdog : Option ℕ) (old new : LinkView) (link : LinkConf) (w : List Entry) (x : Entry) → IsNoted side.Master tick came did sent watchdog old new → LinkStands link old w
+    → HasAgeParts x side.Master tick came did sent watchdog → LinkStands link new (x ∷ w)
+master_stands tick came did sent watchdog old new link w x noted h is = record {
+  slave = rw (noted.slave, masters_own x.end x w is.parts.end_is) h.slave;
+  monitor = (noted.monitor.notes x is.parts).notes w h.monitor;
+  ages = ages_noted old.ages new.ages side.Master tick came did sent watchdog x w noted.ages is h.ages;
+}
+
+-- and its frame is pushed
+pub master_acts : (n : ℕ) (tick : Bool) (came : List ℕ) (did : Did) (sent : List ℕ) (watchdog : Option ℕ) (old new : LinkView) (before after : Told) (link : LinkConf) (w : List Entry) (x : Entry) → IsNoted side.Master tick came did sent watchdog old new
+    → Trace (sent_uses (place_of n side.Slave) sent old.cut) before after → LinkStands link old w → HasAgeParts x side.Master tick came did sent watchdog → Acted n side.Slave link x w old new before after
+master_acts n tick came did sent watchdog old new before after link w x noted pushed h is = record {
+  stands = master_stands tick came did sent watchdog old new link w x noted h is;
+  channel = subst (λ (f : List ℕ). Trace (sent_uses (place_of n side.Slave) f old.cut) before after) (sym is.parts.sent_is) pushed;
 }

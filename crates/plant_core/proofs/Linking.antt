@@ -1,7 +1,6 @@
 -- What holds of each connection and of what is kept of it.
-use Rattle.plant_core.proofs.Common.{EachLink, LinkConf, LinkView, slice_get_within, some_at}
-use Rattle.std.proofs.Common.{◌≡◌, ◌≢◌, ◌≤◌, ◌<◌, ℕ, zero, suc, ◌+◌, List, [], ◌∷◌, length, slice_get, slice_set, Some, refl, sym, ap, subst, ◌∙◌, arith}
-use Rattle.std.proofs.lemmas.Option.{same_Some}
+use Rattle.plant_core.proofs.Common.{EachLink, LinkConf, LinkView}
+use Rattle.std.proofs.Common.{◌≡◌, ◌≢◌, ◌≤◌, ◌<◌, ℕ, zero, suc, ◌+◌, List, [], ◌∷◌, length, slice_get, slice_set, Some, refl, sym, ap, subst, arith}
 
 -- the number of a connection by its place
 pub from_one : (n place : ℕ) → n ≡ suc place → n ≡ 1 + place
@@ -29,22 +28,6 @@ pub each_count : (P : ℕ → LinkConf → LinkView → Type 0) (k : ℕ) (links
 each_count P k [] [] h = refl
 each_count P k (link ∷ links) (v ∷ vs) h = ap suc (each_count P (suc k) links vs h.1)
 each_count P k _ _ h = absurd h
-
--- what is kept of the connection at a place
-pub record Kept (P : LinkView → Type 0) (vs : List LinkView) (place : ℕ) : Type 0 where
-  pub kept : LinkView
-  pub is : slice_get vs place ≡ Some kept
-  pub holds : P kept
-
-pub kept_at : (P : ℕ → LinkConf → LinkView → Type 0) (k : ℕ) (links : List LinkConf) (vs : List LinkView) (place n : ℕ) (link : LinkConf) → EachLink P k links vs → slice_get links place ≡ Some link → n ≡ k + place
-    → Kept (λ v. P n link v) vs place
-kept_at P k links vs place n link h e i =
-    let count = each_count P k links vs h in
-    let within = slice_get_within links place link e in
-    let there = some_at vs place (omega arith) in
-    let at = each_at P k links vs place n there.0 h there.1 i in
-    let same : at.link ≡ link = same_Some at.link link (sym at.is ∙ e) in
-    record { kept = there.0; is = there.1; holds = subst (λ (l : LinkConf). P n l there.0) same at.holds }
 
 -- what holds of each number from k on, and of each connection, follows
 pub each_from : (P Q : ℕ → LinkConf → LinkView → Type 0) (k : ℕ) (links : List LinkConf) (vs : List LinkView) → EachLink P k links vs

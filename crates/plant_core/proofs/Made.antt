@@ -1,38 +1,22 @@
 -- What a plant keeps of its connections before anything happened.
-use Rattle.plant_core.proofs.Common.{All-cons, All-nil, AreNoted, BoundSpec, Did, EachLink, Fixed, IsPlant, Lengths, LinkConf, LinkIs, LinkView, MultiValue, Result, fixed_in, is_err, is_named, is_ok, lengths_in, lengths_kept, links_made, new_link, pairs_by, slice_get_read}
-use Rattle.std.proofs.Common.{◌≡◌, ◌≤◌, ◌<◌, ◌+◌, ◌*◌, ℕ, zero, suc, Bool, false, List, [], ◌∷◌, ◌++◌, get_or, length, map, take, slice_get, Some, refl, sym, ap, ap₂, ◌∙◌, arith, rules}
+use Rattle.plant_core.proofs.Common.{All-cons, All-nil, AreNoted, BoundSpec, Did, EachLink, Fixed, IsPlant, Lengths, LinkConf, LinkIs, LinkView, MultiValue, Result, fixed_in, is_err, is_named, is_ok, lengths_in, lengths_kept, links_made, new_link, pairs_by}
+use Rattle.std.proofs.Common.{◌≡◌, ◌≤◌, ◌<◌, ◌+◌, ◌*◌, ℕ, suc, Bool, false, List, [], ◌∷◌, ◌++◌, drop, get_or, length, map, refl, ap, arith, rules}
+use Rattle.std.proofs.lemmas.Grind.{common_steps}
+use Rattle.std.proofs.lemmas.List.{at_drop_more}
 use Rattle.std.specs.Prelude.{if◌then◌else◌}
 use Rattle.multi_master.specs.Standing as multi
 use Rattle.plant_core.proofs.Linked.{new_stands}
-
--- one connection more
-pub made_more : (k i : ℕ) (bounds : List BoundSpec) (confs : List LinkConf) (conf : LinkConf) → slice_get confs i ≡ Some conf
-    → links_made k bounds (take (suc i) confs) ≡ links_made k bounds (take i confs) ++ new_link (is_named bounds (k + i)) conf ∷ []
-made_more k i bounds [] conf e = absurd (cc e)
-made_more k zero bounds (first ∷ confs) conf e =
-    let same : first ≡ conf = cc in
-    let number : k ≡ k + 0 = omega arith in
-    ap₂ (λ (n : ℕ) (z : LinkConf). new_link (is_named bounds n) z ∷ []) number same
-made_more k (suc i) bounds (first ∷ confs) conf e =
-    let number : suc k + i ≡ k + suc i = omega arith in
-    ap (λ (vs : List LinkView). new_link (is_named bounds k) first ∷ vs)
-    (made_more (suc k) i bounds confs conf e ∙ ap (λ (n : ℕ). links_made (suc k) bounds (take i confs) ++ new_link (is_named bounds n) conf ∷ []) number)
 
 -- what was pushed without an error
 pub pushed : {T E X : Type 0} (r : Result T E) (b : Bool) (new longer old : X) → b ≡ is_err r → b ≡ false → new ≡ (if is_ok r then longer else old) → new ≡ longer
 pushed r b new longer old h k l = grind arith
 
--- so it is of the connections that were gone through
-pub made_next : (bounds : List BoundSpec) (confs : List LinkConf) (i : ℕ) (conf : LinkConf) (aged : Bool) (old new : List LinkView) (link : LinkView) → old ≡ links_made 1 bounds (take i confs) → conf ≡ get_or confs i conf → i < length confs
-    → aged ≡ is_named bounds (i + 1) → link ≡ new_link aged conf → new ≡ old ++ link ∷ [] → new ≡ links_made 1 bounds (take (i + 1) confs)
-made_next bounds confs i conf aged old new link before at below named is more =
-    let number : 1 + i ≡ i + 1 = omega arith in
-    let next : suc i ≡ i + 1 = omega arith in
-    let last : link ≡ new_link (is_named bounds (1 + i)) conf = is ∙ ap (λ (z : Bool). new_link z conf) (named ∙ ap (is_named bounds) (sym number)) in
-    more
-    ∙ ap₂ (λ (vs : List LinkView) (v : LinkView). vs ++ v ∷ []) before last
-    ∙ sym (made_more 1 i bounds confs conf (slice_get_read confs (length confs) i conf refl below at))
-    ∙ ap (λ (n : ℕ). links_made 1 bounds (take n confs)) next
+-- so the connections that are left make the rest
+pub made_next : (bounds : List BoundSpec) (confs : List LinkConf) (i : ℕ) (conf : LinkConf) (aged : Bool) (old new all : List LinkView) (link : LinkView) → old ++ links_made (i + 1) bounds (drop i confs) ≡ all → conf ≡ get_or confs i conf → i < length confs
+    → aged ≡ is_named bounds (i + 1) → link ≡ new_link aged conf → new ≡ old ++ link ∷ [] → new ++ links_made (i + 1 + 1) bounds (drop (i + 1) confs) ≡ all
+made_next bounds confs i conf aged old new all link before at below named is more =
+    let next = at_drop_more (links_made (i + 1) bounds) confs i conf below in
+    grind (arith, common_steps, next)
 
 pub made_stand : (k : ℕ) (bounds : List BoundSpec) (links : List LinkConf) → EachLink (LinkIs (λ k. false) (pairs_by [])) k links (links_made k bounds links)
 made_stand k bounds [] = tt

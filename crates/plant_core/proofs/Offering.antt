@@ -1,12 +1,16 @@
 -- The offers that a cycle changed, in the journal and at their connections.
-use Rattle.plant_core.proofs.Common.{AllSound, AppView, Call, Connection, End, IfSome, IsOne, IsSound, JournalStep, LinkConf, LinkView, LinksAre, MasterNoted, Meant, MultiView, OffersNoted, ShowsAt, ShowsChanged, StandsFor, append-nil, changed, changed_by, changed_from, connection, fixed_in, frames_of, is_offer, map-append, meant, next_of, nothing, numbers_of, offer_at, offer_step, option_map_or, pair, pairs_by, slice_get-map, take_all, with_frame}
-use Rattle.std.proofs.Common.{◌≡◌, ◌≤◌, ℕ, zero, suc, ◌+◌, ◌==◌, Bool, true, false, List, [], ◌∷◌, ◌++◌, map, take, length, slice_get, slice_set, Option, Some, None, option_map, if◌then◌else◌, refl, sym, ap, ap₂, subst, ◌∙◌, append_assoc, arith, rules}
+use Rattle.plant_core.proofs.Common.{AllSound, AppView, Call, Connection, End, Entry, IfSome, IsNoted, IsOne, IsSound, JournalStep, LinkConf, LinkView, LinksAre, Meant, MultiView, OffersNoted, ShowsAt, ShowsChanged, StandsFor, changed, changed_by, changed_from, connection, fixed_in, frames_of, get_or_from_slice_get, is_offer, map-append, meant, next_of, nothing, numbers_of, offer_at, offer_step, option_map_or, pair, pairs_by, slice_get-map, slice_get_within, take_all, take_more}
+use Rattle.std.proofs.Common.{◌≡◌, ◌≤◌, ℕ, suc, ◌+◌, ◌==◌, Bool, true, false, List, [], ◌∷◌, ◌++◌, map, take, length, slice_get, slice_set, Option, Some, None, option_map, if◌then◌else◌, refl, sym, ap, ap₂, subst, ◌∙◌, append_assoc, arith, rules}
 use Rattle.fsoe_base.specs.declared.command.End.TheVariants as side
 use Rattle.failsafe_io.specs.Application.{Answer}
 use Rattle.param_load.specs.declared.entry.Move.TheVariants as move
 use Rattle.param_load.specs.declared.master_settings.MasterSettings.{MasterSettings}
+use Rattle.exchange_model.specs.World.{world_after}
 use Rattle.plant_model.specs.declared.journal.JournalStep.TheVariants as step
-use Rattle.plant_core.proofs.OneDeed.{one_links, one_frames}
+use Rattle.plant_core.proofs.Linked.{master_stands}
+use Rattle.plant_model.proofs.Growing.{Keeps, event_for, steps_keep}
+use Rattle.plant_model.proofs.Lines.{each_listed}
+use Rattle.plant_core.proofs.OneDeed.{one_links}
 
 -- what a connection offers, as a step
 abbrev pub shown_step : Meant → ℕ → JournalStep
@@ -22,10 +26,14 @@ pub record OffersOf (master : MultiView) (listed : List ℕ) (old new : List Lin
 shown_or : (o : Option Connection) (shown : List ℕ) → option_map offer_at o ≡ Some shown → option_map_or offer_at o [] ≡ shown
 shown_or o shown h = grind arith
 
-pub offers_more : (master : MultiView) (listed : List ℕ) (n place : ℕ) (shown : List ℕ) (old mid : List LinkView) (v is : LinkView) (before js after : List JournalStep) → OffersOf master listed old mid before js
-    → slice_get mid place ≡ Some v → n ≡ suc place → MasterNoted v false [] nothing [] None is → is.cut ≡ v.cut → ShowsAt master n shown offer_at → after ≡ js ++ step.Offer n shown ∷ []
-    → OffersOf master (listed ++ n ∷ []) old (slice_set mid place is) before after
-offers_more master listed n place shown old mid v is before js after h at e noted c shows a =
+-- one more of a list
+take_next : {X : Type 0} (xs : List X) (i : ℕ) (x : X) → slice_get xs i ≡ Some x → take (i + 1) xs ≡ take i xs ++ x ∷ []
+take_next xs i x at = take_more xs i x (slice_get_within xs i x at) ∙ ap (λ z. take i xs ++ z ∷ []) (get_or_from_slice_get xs i x x at)
+
+pub offers_next : (master : MultiView) (listed : List ℕ) (i n place : ℕ) (shown : List ℕ) (old mid : List LinkView) (v is : LinkView) (before js after : List JournalStep) → OffersOf master (take i listed) old mid before js
+    → slice_get listed i ≡ Some n → slice_get mid place ≡ Some v → n ≡ suc place → IsNoted side.Master false [] nothing [] None v is → ShowsAt master n shown offer_at → after ≡ js ++ step.Offer n shown ∷ []
+    → OffersOf master (take (i + 1) listed) old (slice_set mid place is) before after
+offers_next master listed i n place shown old mid v is before js after h found at e noted shows a =
     let x : JournalStep = step.Offer n shown in
     let one : IsOne x n side.Master (move.Put shown) = record { part = λ k. refl } in
     record {
@@ -34,27 +42,14 @@ offers_more master listed n place shown old mid v is before js after h at e note
       offers_are = λ settings app calls s.
           let m : Meant = meant settings app calls in
           let load : option_map_or offer_at (connection n m) [] ≡ shown = shown_or (connection n m) shown (shows.shows settings app calls s) in
-          ap₂ (λ (xs : List JournalStep) (l : List ℕ). xs ++ step.Offer n l ∷ []) (h.offers_are settings app calls s) (sym load) ∙ sym (map-append (shown_step m) listed (n ∷ []));
+          ap₂ (λ (xs : List JournalStep) (l : List ℕ). xs ++ step.Offer n l ∷ []) (h.offers_are settings app calls s) (sym load) ∙ sym (map-append (shown_step m) (take i listed) (n ∷ [])) ∙ ap (map (shown_step m)) (sym (take_next listed i n found));
       links = λ links cut steps s.
           subst (λ (z : List JournalStep). LinksAre links cut (pairs_by z) (slice_set mid place is)) (append_assoc steps h.offers (x ∷ []))
           (one_links links cut (steps ++ h.offers) x n side.Master (move.Put shown) place mid v is (h.links links cut steps s) at e one
           (λ link at_link stands.
-          noted.stands link (pair link n (steps ++ h.offers)) (next_of side.Master (move.Put shown) link (pair link n (steps ++ h.offers))) stands
-          (record { parts = record { end_is = refl; came_is = refl; did_is = refl; sent_is = refl }; tick_is = refl; watchdog_is = tt })) c);
+          master_stands false [] nothing [] None v is link (pair link n (steps ++ h.offers)) (next_of side.Master (move.Put shown) link (pair link n (steps ++ h.offers))) noted stands
+          (record { parts = record { end_is = refl; came_is = refl; did_is = refl; sent_is = refl }; tick_is = refl; watchdog_is = tt })) noted.notes.cut);
     }
-
--- one more of a list
-take_one : {X : Type 0} (xs : List X) (i : ℕ) (x : X) → slice_get xs i ≡ Some x → take (suc i) xs ≡ take i xs ++ x ∷ []
-take_one [] i x e = absurd (cc e)
-take_one (y ∷ xs) zero x e = let same : y ≡ x = cc in ap (λ z. z ∷ []) same
-take_one (y ∷ xs) (suc i) x e = ap (λ zs. y ∷ zs) (take_one xs i x e)
-
-pub offers_next : (master : MultiView) (listed : List ℕ) (i j n place : ℕ) (shown : List ℕ) (old mid : List LinkView) (v is : LinkView) (before js after : List JournalStep) → OffersOf master (take i listed) old mid before js
-    → slice_get listed i ≡ Some n → j ≡ suc i → slice_get mid place ≡ Some v → n ≡ suc place → MasterNoted v false [] nothing [] None is → is.cut ≡ v.cut → ShowsAt master n shown offer_at → after ≡ js ++ step.Offer n shown ∷ []
-    → OffersOf master (take j listed) old (slice_set mid place is) before after
-offers_next master listed i j n place shown old mid v is before js after h found k at e noted c shows a =
-    subst (λ (z : List ℕ). OffersOf master z old (slice_set mid place is) before after) (sym (ap (λ (m : ℕ). take m listed) k ∙ take_one listed i n found))
-    (offers_more master (take i listed) n place shown old mid v is before js after h at e noted c shows a)
 
 -- the offers that a call changed are what their connections offer after it
 shown_at : (m : Meant) (loads : List (List ℕ)) (place k : ℕ) (load : List ℕ) → map offer_at m.connections ≡ loads → k ≡ suc place → slice_get loads place ≡ Some load → shown_step m k ≡ step.Offer k load
@@ -90,21 +85,13 @@ offers_all master listed i old new before after past shows fixed h = record {
 }
 
 -- offers send nothing
-nothing_sent : (b c : Bool) (frames : List (List ℕ)) → with_frame (if b then (if c then [] else []) else []) frames ≡ frames
-nothing_sent b c frames = grind arith
-
-offer_sends : (at : End) (link : LinkConf) (k : ℕ) (steps : List JournalStep) (n : ℕ) (load : List ℕ) → frames_of at (pair link k (steps ++ step.Offer n load ∷ [])) ≡ frames_of at (pair link k steps)
-offer_sends side.Master link k steps n load =
-    one_frames side.Master link k steps (step.Offer n load) n side.Master (move.Put load) (record { part = λ j. refl }) ∙ nothing_sent (n == k) true (frames_of side.Master (pair link k steps))
-offer_sends side.Slave link k steps n load =
-    one_frames side.Slave link k steps (step.Offer n load) n side.Master (move.Put load) (record { part = λ j. refl }) ∙ nothing_sent (n == k) false (frames_of side.Slave (pair link k steps))
+put_sends : (at : End) (link : LinkConf) (load : List ℕ) (w : List Entry) (mine : Bool) → frames_of at (world_after link.master link.slave (if mine then event_for side.Master (move.Put load) ∷ [] else []) w) ≡ frames_of at w
+put_sends side.Master link load w true = refl
+put_sends side.Slave link load w true = refl
+put_sends at link load w false = refl
 
 pub offers_send : (listed : List (ℕ × List ℕ)) (at : End) (link : LinkConf) (k : ℕ) (steps : List JournalStep) → frames_of at (pair link k (steps ++ map offer_step listed)) ≡ frames_of at (pair link k steps)
-offers_send [] at link k steps = ap (λ (z : List JournalStep). frames_of at (pair link k z)) (append-nil steps)
-offers_send (x ∷ listed) at link k steps =
-    ap (λ (z : List JournalStep). frames_of at (pair link k z)) (sym (append_assoc steps (offer_step x ∷ []) (map offer_step listed)))
-    ∙ offers_send listed at link k (steps ++ offer_step x ∷ [])
-    ∙ offer_sends at link k steps x.0 x.1
+offers_send listed at link k steps = steps_keep (frames_of at) link k steps (map offer_step listed) (each_listed (Keeps (frames_of at) link k) (λ x w. put_sends at link x.1 w (x.0 == k)) listed)
 
 -- so noted offers send nothing
 pub offers_quiet : (master : MultiView) (old new : List LinkView) (before now : List JournalStep) (settings : List MasterSettings) (app : AppView) (calls : List Call) → OffersNoted master old new before now → StandsFor settings app master calls

@@ -11,17 +11,14 @@ use Rattle.plant_core.proofs.Made.{made_stand}
 use Rattle.plant_model.proofs.Lines.{line_said}
 use Rattle.plant_core.proofs.Linking.{each_count}
 use Rattle.plant_core.proofs.Offering.{offers_send}
-use Rattle.plant_core.proofs.OneDeed.{act_done, none_acted, quiet_calls, quiet_journal, quiet_pushes}
+use Rattle.plant_core.proofs.OneDeed.{act_done, none_acted, quiet_pushes}
 
--- acts after others
-more_acts : (more some done : List Act) → (more ++ some) ++ done ≡ more ++ (some ++ done)
-more_acts more some done = append_assoc more some done
-
+-- the uses of acts after others
 pub more_uses : (b : Beginning) (more some done : List Act) → uses_after b (more ++ some) done ≡ uses_after b some done ++ uses_after b more (some ++ done)
 more_uses b [] some done = sym (append-nil (uses_after b some done))
 more_uses b (act ∷ more) some done =
     let own : List Act → List Use = λ z. uses_of b.seed act (all_pushes b.links (λ k. is_cut k (act ∷ z)) (journal b z) (journal b (act ∷ z))) in
-    ap₂ (λ (us : List Use) (z : List Act). us ++ own z) (more_uses b more some done) (more_acts more some done)
+    ap₂ (λ (us : List Use) (z : List Act). us ++ own z) (more_uses b more some done) (append_assoc more some done)
     ∙ append_assoc (uses_after b some done) (uses_after b more (some ++ done)) (own (more ++ (some ++ done)))
 
 pub goes_on : (old mid new : PlantView) (some more : List Act) (first between last : Told) → GoesOn old some mid first between → GoesOn mid more new between last → GoesOn old (more ++ some) new first last
@@ -31,7 +28,7 @@ goes_on old mid new some more first between last g h = record {
       let one = g.goes b done s in
       let two = h.goes b (some ++ done) one.has_done in
       record {
-        has_done = subst (λ (z : List Act). HasDone b new z) (sym (more_acts more some done)) two.has_done;
+        has_done = subst (λ (z : List Act). HasDone b new z) (sym (append_assoc more some done)) two.has_done;
         channel = subst (λ (us : List Use). Trace us first last) (sym (more_uses b more some done))
             (trace_append (uses_after b some done) (uses_after b more (some ++ done)) first between last one.channel two.channel);
       };
@@ -42,7 +39,7 @@ pub none_pulled : (v : PlantView) (before after : Told) → PullsParcel None bef
 none_pulled v before after p = record {
   fixed = refl;
   goes = λ b done h.
-      act_done b (PullFrom None) done v v before after after h (h.journal_is ∙ sym (append-nil (journal b done))) h.master
+      act_done b (PullFrom None) None done v v [] before after after h refl refl (sym (append-nil v.journal)) h.master
       (none_acted b.links (λ k. is_cut k done) v.journal v.journal v.links after h.links (λ k link from below. refl)) (λ us t. (after, p, t));
 }
 
@@ -69,8 +66,8 @@ nowhere_delivered old new parcel t far same_master same_links written = record {
         let none : call_of b act ≡ None = ap (λ (o : Option LinkConf). delivery_call o parcel.to.end n parcel.frame) (nowhere b.links n away) in
         let grown = none_acted b.links (λ k. is_cut k done) steps (steps ++ s ∷ []) old.links t h.links
         (λ k link from below. pair_other link k steps s n parcel.to.end (move.Deliver parcel.frame) (record { part = λ j. refl }) (not_within b.links n k away from below)) in
-        act_done b act done old new first t t h (written ∙ ap (λ (js : List JournalStep). js ++ s ∷ []) h.journal_is ∙ sym (quiet_journal b act done none))
-        (quiet_calls b act done new.master none (subst (λ (m : MultiView). StandsFor (settings b) b.app m (calls b done)) (sym same_master) h.master)) (rw (same_links, written) grown) (λ us u. (t, pulled, u));
+        act_done b act None done old new [] first t t h none refl written
+        (subst (λ (m : MultiView). StandsFor (settings b) b.app m (calls b done)) (sym same_master) h.master) (rw (same_links, written) grown) (λ us u. (t, pulled, u));
   };
 }
 
@@ -142,19 +139,12 @@ follows_event old new e before after fits t = follows old new (Event e) before a
 pub follows_app : (old new : PlantView) (app : AppView) (t : Told) → GoesOn old (Happen (App app) ∷ []) new t t → Follows old (App app) new t t
 follows_app old new app t g = follows old new (App app) t t (λ links same. tt) (one_act old new (App app) t t refl g)
 
--- what a plant is made of before its start, and what this changes
-pub record StartChange (b : Beginning) (new : PlantView) (before after : Told) : Type 0 where
-  pub old : MultiView
-  pub stands : StandsFor (map master_in b.links) b.app old []
-  pub follows : multi.Follows old (ChangeApp b.app) new.master
-  pub bounds : List BoundSpec
-  pub offers : OffersNoted new.master (links_made 1 bounds b.links) new.links [] new.journal
-  pub begins : Begins b.seed before after
-
-pub starts : (b : Beginning) (new : PlantView) (before after : Told) → StartChange b new before after → Starts b new before after
-starts b new before after c =
+-- a plant starts, from what it is made of
+pub starts : (b : Beginning) (old : MultiView) (new : PlantView) (bounds : List BoundSpec) (before after : Told) → StandsFor (map master_in b.links) b.app old [] → multi.Follows old (ChangeApp b.app) new.master
+    → OffersNoted new.master (links_made 1 bounds b.links) new.links [] new.journal → Begins b.seed before after → Starts b new before after
+starts b old new bounds before after made follows told begins =
     let calls : List Call = ChangeApp b.app ∷ [] in
-    let stands = c.follows.stands (settings b) b.app [] c.stands in
+    let stands = follows.stands (settings b) b.app [] made in
     let none : all_pushes b.links (λ k. false) [] (offers b Start []) ≡ [] =
     quiet_pushes b.links (λ k. false) [] (offers b Start []) (λ at k link from below. offers_send (changed (settings b) b.app calls) at link k []) in
     record {
@@ -162,11 +152,11 @@ starts b new before after c =
         may = record { past = refl; fit = All-nil (SaidFits b.links) };
         has_done = record {
           master = stands;
-          links = subst (λ (js : List JournalStep). LinksAre b.links (λ k. false) (pairs_by js) new.links) (sym c.offers.steps) (c.offers.links b.links (λ k. false) [] (made_stand 1 c.bounds b.links));
-          journal_is = c.offers.steps ∙ c.offers.offers_are (settings b) b.app calls stands;
+          links = subst (λ (js : List JournalStep). LinksAre b.links (λ k. false) (pairs_by js) new.links) (sym told.steps) (told.links b.links (λ k. false) [] (made_stand 1 bounds b.links));
+          journal_is = told.steps ∙ told.offers_are (settings b) b.app calls stands;
         };
       };
-      channel = (after, c.begins, subst (λ (us : List Use). Trace us after after) (sym none) refl);
+      channel = (after, begins, subst (λ (us : List Use). Trace us after after) (sym none) refl);
     }
 
 -- room for the rest of the pulls

@@ -1,5 +1,5 @@
 -- What a plant shows of an end is what the pair of its connection tells.
-use Rattle.plant_core.proofs.Common.{Act, Beginning, Connection, Deed, Did, HasLink, IsPlant, IsSomeAnd, JournalStep, LinkConf, LinkIs, LinkView, OfMaster, OfSlave, Placed, PlantStands, PlantValue, PlantView, Setup, ShowsAt, ShowsPair, calls, deeds, is_cut, journal, link_at, master_with, mastered, masters, out, pair, pairs_by, settings, setup, some_at, state_of}
+use Rattle.plant_core.proofs.Common.{Act, Beginning, Connection, Deed, Did, HasLink, IsPlant, IsSomeAnd, JournalStep, LinkConf, LinkIs, LinkView, OfMaster, OfSlave, Placed, PlantStands, PlantValue, PlantView, Setup, ShowsAt, ShowsPair, calls, deeds, is_cut, journal, kept_at, link_at, master_with, mastered, masters, out, pair, pairs_by, settings, setup, some_at, state_of}
 use Rattle.multi_master.specs.Connection.{outputs_at}
 use Rattle.fsoe_base.specs.declared.command.State.{State}
 use Rattle.std.proofs.Common.{◌≡◌, ◌≤◌, ◌<◌, ℕ, zero, suc, List, length, slice_get, Option, Some, option_map, sym, ap, subst, ◌∙◌, arith}
@@ -7,17 +7,16 @@ use Rattle.fsoe_base.specs.declared.command.End.TheVariants as side
 use Rattle.slave_core.specs.Standing as slave_core
 use Rattle.multi_master.specs.Standing as multi
 use Rattle.plant_model.specs.Pair as pairs
-use Rattle.plant_core.proofs.Linking.{from_one, each_at, each_count}
+use Rattle.plant_core.proofs.Found.{found}
+use Rattle.plant_core.proofs.Linking.{each_count}
 
 -- a word of the slave is that word of its deeds in the pair
 pub slave_shown : {X : Type 0} (v : PlantView) (k place : ℕ) (l : LinkView) (shown : X) (word : Setup → List Deed → X) → Placed v.links k place l → slave_core.Shows l.slave shown word
     → ShowsPair v k shown (λ link w. word (OfSlave link.slave) (deeds side.Slave w))
 slave_shown v k place l shown word p s = record {
   shows = λ b acts h.
-      let beside = each_at (LinkIs (λ j. is_cut j acts) (pairs_by v.journal)) 1 b.links v.links place k l h.has_done.links p.at (from_one k place p.number) in
-      let found : link_at b.links k ≡ Some beside.link = subst (λ (j : ℕ). link_at b.links j ≡ Some beside.link) (sym p.number) beside.is in
-      subst (λ (o : Option LinkConf). IsSomeAnd o (λ link. shown ≡ word (OfSlave link.slave) (deeds side.Slave (pair link k v.journal)))) (sym found)
-      (s.shows beside.link.slave (deeds side.Slave (pair beside.link k v.journal)) beside.holds.stands.slave);
+      let f = found b v acts k l h (ap (kept_at v.links) p.number ∙ p.at) in
+      rw f.is (s.shows f.link.slave (deeds side.Slave (pair f.link k v.journal)) f.kept.stands.slave);
 }
 
 -- the same of the master

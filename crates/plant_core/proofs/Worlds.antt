@@ -1,14 +1,15 @@
 -- The pairs of a plant are worlds of proper events, since both ends of each are where their deeds leave them; so what
 -- holds of worlds holds of them.
-use Rattle.plant_core.proofs.Common.{Act, Beginning, Connection, IsRun, IsWhere, JournalStep, LinkConf, LinkIs, OfMaster, PlantStands, PlantView, Reacts, all_at, deeds, is_cut, journal, master_with, mastered, masters, pair, pairs_by}
-use Rattle.std.proofs.Common.{◌≡◌, ℕ, zero, suc, List, [], ◌∷◌, slice_get, Some, All, sym, subst, arith}
+use Rattle.plant_core.proofs.Common.{Act, Beginning, Connection, IsRun, IsWhere, JournalStep, LinkConf, LinkIs, LinkView, OfMaster, PlantStands, PlantView, Reacts, all_at, deeds, is_cut, journal, master_with, mastered, masters, pair, pairs_by, slice_get_within, some_at}
+use Rattle.std.proofs.Common.{◌≡◌, ℕ, zero, suc, List, [], ◌∷◌, slice_get, Some, All, sym, subst, ◌∙◌, arith}
+use Rattle.std.proofs.lemmas.Option.{same_Some}
 use Rattle.std.specs.List.{AllZip}
 use Rattle.fsoe_base.specs.declared.command.End.TheVariants as side
 use Rattle.plant_conf.specs.Kept.{HasSameLengths}
 use Rattle.master_core.specs.MasterView.{MasterView}
 use Rattle.plant_model.specs.FairPairs.{PairsAreFair}
 use Rattle.plant_model.proofs.Cycled.{sound_acts}
-use Rattle.plant_core.proofs.Linking.{kept_at}
+use Rattle.plant_core.proofs.Linking.{each_at, each_count}
 use Rattle.plant_model.proofs.FairPlant.{AreWorlds, world_of_runs, worlds_are_fair}
 use Rattle.plant_model.proofs.Reacting.{worlds_react}
 use Rattle.plant_model.proofs.Broken.{worlds_broken}
@@ -33,8 +34,13 @@ master_runs b v acts place link h e =
 
 pub worlds : (b : Beginning) (v : PlantView) (acts : List Act) → PlantStands b v acts → All HasSameLengths b.links → AreWorlds b.links v.journal
 worlds b v acts h same = λ place link e.
-    let kept = kept_at (LinkIs (λ j. is_cut j acts) (pairs_by v.journal)) 1 b.links v.links place (suc place) link h.has_done.links e (omega arith) in
-    world_of_runs link (suc place) v.journal (all_at HasSameLengths b.links place link same e) (master_runs b v acts place link h e) kept.holds.stands.slave.reached
+    let P : ℕ → LinkConf → LinkView → Type 0 = LinkIs (λ j. is_cut j acts) (pairs_by v.journal) in
+    let count = each_count P 1 b.links v.links h.has_done.links in
+    let within = slice_get_within b.links place link e in
+    let there = some_at v.links place (omega arith) in
+    let beside = each_at P 1 b.links v.links place (suc place) there.0 h.has_done.links there.1 (omega arith) in
+    let reached = rw (same_Some beside.link link (sym beside.is ∙ e)) at beside.holds.stands.slave.reached in
+    world_of_runs link (suc place) v.journal (all_at HasSameLengths b.links place link same e) (master_runs b v acts place link h e) reached
 
 -- by the journal of its acts
 by_acts : (b : Beginning) (v : PlantView) (acts : List Act) → PlantStands b v acts → All HasSameLengths b.links → AreWorlds b.links (journal b acts)

@@ -1,6 +1,6 @@
 -- What each part of a plant does of an act; `plant_model/Past` and `Acts` have their order. Contracts of private
 -- functions alone rest on these words. Entries and acts are listed newest first, steps oldest first.
-use Rattle.std.specs.Prelude.{◌≡◌, ◌+◌, ◌*◌, nat_lt, ℕ, suc, Bool, true, List, [], ◌∷◌, ◌++◌, map, take, slice_get, Option, Some, None, Vec, vec_len, if◌then◌else◌}
+use Rattle.std.specs.Prelude.{◌≡◌, ◌+◌, ◌*◌, ℕ, suc, Bool, true, List, [], ◌∷◌, ◌++◌, map, slice_get, Option, Some, None, Vec, vec_len}
 use Rattle.fsoe_base.specs.declared.command.End.{End}
 use Rattle.fsoe_base.specs.declared.command.End.TheVariants as side
 use Rattle.fsoe_base.specs.declared.did.Did.{Did}
@@ -18,14 +18,13 @@ use Rattle.plant_model.specs.declared.event.PlantEvent.{PlantEvent}
 use Rattle.plant_model.specs.declared.event.PlantEvent.TheVariants as event
 use Rattle.plant_model.specs.declared.journal.JournalStep.{JournalStep}
 use Rattle.plant_model.specs.Acts.{Beginning, Said, Act, PullFrom, offer_step, uses_after}
-use Rattle.reaction_bound.specs.Ages.{HasAgeParts}
-use Rattle.plant_core.specs.Link.{LinkView, LinkStands}
-use Rattle.plant_core.specs.Standing.{AreNoted, IsPlant, PlantView, HasDone, LinksAre, fixed_in}
+use Rattle.plant_core.specs.Link.{IsNoted, LinkStands, LinkView, NotesOne}
+use Rattle.plant_core.specs.Standing.{IsPlant, PlantView, HasDone, LinksAre, fixed_in}
 use Rattle.plant_core.specs.declared.ends.Ends.{Ends}
 use Rattle.plant_model.specs.Pair.{pairs_by, next_of}
 use Rattle.plant_model.specs.Past.{IsPast, with_line}
-use Rattle.plant_model.specs.Uses.{Use, Trace}
-use Rattle.plant_model.specs.Gifts.{place_of, sent_uses, each_uses}
+use Rattle.plant_model.specs.Uses.{Trace}
+use Rattle.plant_model.specs.Gifts.{place_of, sent_uses}
 use Rattle.black_channel.specs.declared.channel.Parcel.{Parcel}
 
 -- connection k, kept so before, has this entry more after these, and its frame was pushed to this end
@@ -36,48 +35,30 @@ pub record Acted (k : ℕ) (to : End) (link : LinkConf) (x : Entry) (w : List En
 -- the slave of connection k did its next deed at this event
 pub record SlaveActs (k : ℕ) (what : Move) (old new : LinkView) (before after : Told) : Type 0 where
   pub acts : (link : LinkConf) (w : List Entry) → LinkStands link old w → Acted k side.Master link (next_of side.Slave what link w) w old new before after
+  pub notes : NotesOne old new
 
--- one entry more with each connection: the next one after those that were done
-abbrev pub one_each : (ℕ → LinkConf → Entry) → (ℕ → LinkConf → List Entry) → ℕ → LinkConf → List Entry
-one_each next done k link = next k link ∷ done k link
+-- what the connection at a place may do, by what is kept of it and what its channel tells, before and after
+abbrev pub Change : Type 1
+Change = ℕ → LinkView → LinkView → Told → Told → Type 0
 
--- so it is up to connection n
-abbrev pub one_each_to : ℕ → (ℕ → LinkConf → Entry) → (ℕ → LinkConf → List Entry) → ℕ → LinkConf → List Entry
-one_each_to n next done k link = if nat_lt n k then done k link else next k link ∷ done k link
+-- the slave at a place ticked
+abbrev pub SlaveTicks : Change
+SlaveTicks place old new before after = SlaveActs (suc place) move.Tick old new before after
 
--- the frames of these entries are pushed to this end of each connection
-abbrev pub frames_pushed : End → (ℕ → LinkConf → Entry) → (ℕ → Bool) → List LinkConf → List Use
-frames_pushed to next cut links = each_uses (λ k link. sent_uses (place_of k to) (next k link).sent (cut k)) 1 links
+-- what the master at a place did in a tick was noted, and its frame pushed: both are told there
+pub record MasterTicked (dids : List Did) (frames : List (List ℕ)) (place : ℕ) (old new : LinkView) (before after : Told) : Type 0 where
+  pub did : Did
+  pub sent : List ℕ
+  pub did_at : slice_get dids place ≡ Some did
+  pub sent_at : slice_get frames place ≡ Some sent
+  pub noted : IsNoted side.Master true [] did sent None old new
+  pub pushed : Trace (sent_uses (place_of (suc place) side.Slave) sent old.cut) before after
 
--- one entry more was noted with each connection, and its frame pushed to this end
-pub record AllActed (to : End) (links : List LinkConf) (cut : ℕ → Bool) (done : ℕ → LinkConf → List Entry) (next : ℕ → LinkConf → Entry) (new : List LinkView) (before after : Told) : Type 0 where
-  pub kept : LinksAre links cut (one_each next done) new
-  pub channel : Trace (frames_pushed to next cut links) before after
-
--- so up to connection n
-pub record ActedTo (n : ℕ) (to : End) (links : List LinkConf) (cut : ℕ → Bool) (done : ℕ → LinkConf → List Entry) (next : ℕ → LinkConf → Entry) (new : List LinkView) (before after : Told) : Type 0 where
-  pub kept : LinksAre links cut (one_each_to n next done) new
-  pub channel : Trace (frames_pushed to next cut (take n links)) before after
-
--- the entry of a slave that ticks, at any place, for its connection and the entries before
-abbrev pub SlaveTicks : ℕ → LinkConf → List Entry → Entry → Type 0
-SlaveTicks place link w x = x ≡ next_of side.Slave move.Tick link w
-
--- an entry of the master at a place in a tick: it has the parts that are told there of what the masters did and sent
-abbrev pub MasterTicked : List Did → List (List ℕ) → ℕ → LinkConf → List Entry → Entry → Type 0
-MasterTicked dids frames place link w x =
-    (did : Did) (sent : List ℕ) → slice_get dids place ≡ Some did → slice_get frames place ≡ Some sent → HasAgeParts x side.Master true [] did sent None
-
--- the next entry of each connection is such an entry, by its place
-pub record AreNext (Is : ℕ → LinkConf → List Entry → Entry → Type 0) (links : List LinkConf) (done : ℕ → LinkConf → List Entry) (next : ℕ → LinkConf → Entry) : Type 0 where
-  pub each : (place : ℕ) (link : LinkConf) → slice_get links place ≡ Some link → Is place link (done (suc place) link) (next (suc place) link)
-
--- one such entry more was noted with each connection, and its frame pushed to this end
-pub record EachActs (to : End) (Is : ℕ → LinkConf → List Entry → Entry → Type 0) (old new : List LinkView) (before after : Told) : Type 0 where
-  pub acts : (links : List LinkConf) (cut : ℕ → Bool) (done : ℕ → LinkConf → List Entry) (next : ℕ → LinkConf → Entry) → AreNext Is links done next → LinksAre links cut done old
-      → AllActed to links cut done next new before after
-  pub noted : (most : ℕ) → AreNoted most old → AreNoted (most + 1) new
-  pub fixed : fixed_in new ≡ fixed_in old
+-- each of these connections acted so, one after the other, the first of which stands at this place
+abbrev pub EachActs : Change → ℕ → List LinkView → List LinkView → Told → Told → Type 0
+EachActs Acts place [] [] before after = before ≡ after
+EachActs Acts place (v ∷ old) (w ∷ new) before after = (between : Told) × Acts place v w before between × EachActs Acts (suc place) old new between after
+EachActs Acts place _ _ before after = ⊥
 
 -- the offers that the last call of the master changed are noted in the journal, and with each connection
 pub record OffersNoted (master : MultiView) (old new : List LinkView) (before after : List JournalStep) : Type 0 where

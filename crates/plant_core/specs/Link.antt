@@ -1,20 +1,19 @@
 -- What a plant keeps of one connection beside its master: its slave, what notes the entries of its pair, and whether it
 -- is cut. Entries are listed newest first.
-use Rattle.std.specs.Prelude.{◌≡◌, ℕ, ◌+◌, Bool, true, false, List, [], ◌∷◌, Option, Some, None, IfSome, is_some}
+use Rattle.std.specs.Prelude.{◌≡◌, ℕ, ◌+◌, Bool, true, false, List, [], Option, Some, None, IfSome, is_some}
 use Rattle.fsoe_base.specs.declared.command.End.{End}
 use Rattle.fsoe_base.specs.declared.command.End.TheVariants as side
 use Rattle.fsoe_base.specs.declared.did.Did.{Did}
 use Rattle.fsoe_base.specs.declared.lengths.Lengths.{Lengths}
 use Rattle.param_load.specs.declared.entry.Entry.{Entry}
 use Rattle.plant_conf.specs.declared.conf.LinkConf.{LinkConf}
-use Rattle.end_model.specs.Readiness.{told_terms}
 use Rattle.exchange_model.specs.Monitor.{MonitorView}
 use Rattle.exchange_model.specs.Monitor as monitor
 use Rattle.exchange_model.specs.World.{deeds}
-use Rattle.reaction_bound.specs.Ages.{AgesView, watchdog_in}
+use Rattle.reaction_bound.specs.Ages.{AgesView}
 use Rattle.reaction_bound.specs.Ages as ages
 use Rattle.slave_core.specs.SlaveView.{SlaveView}
-use Rattle.slave_core.specs.Standing.{Shows, SlaveIsAfter}
+use Rattle.slave_core.specs.Standing.{SlaveIsAfter}
 use Rattle.slave_core.specs.ViewOf.{view_of}
 use Rattle.plant_core.specs.declared.watch.Watch.{Watch}
 use Rattle.plant_core.specs.declared.watch.Watch.TheVariants as watch
@@ -34,13 +33,6 @@ abbrev pub AgesNote : Option AgesView → End → Bool → List ℕ → Did → 
 AgesNote None at tick came did sent watchdog new = new ≡ None
 AgesNote (Some old) at tick came did sent watchdog None = ⊥
 AgesNote (Some old) at tick came did sent watchdog (Some new) = ages.NotesParts old at tick came did sent watchdog new
-
--- ages noted an entry of a slave with these parts, where they are told: with the watchdog in the terms that the slave
--- tells after it
-pub record NotesSlave (slave : SlaveView) (old : Option AgesView) (tick : Bool) (came : List ℕ) (did : Did) (sent : List ℕ) (new : Option AgesView) : Type 0 where
-  pub watchdog : Option ℕ
-  pub shown : Shows slave watchdog (λ s e. watchdog_in (told_terms s e))
-  pub noted : AgesNote old side.Slave tick came did sent watchdog new
 
 -- what is kept beside the master of a connection
 pub record LinkView : Type 0 where
@@ -70,10 +62,6 @@ pub record LinkStands (link : LinkConf) (v : LinkView) (w : List Entry) : Type 0
   pub monitor : v.monitor ≡ monitor.view_of w
   pub ages : IfSome v.ages (λ a. a ≡ ages.view_of w)
 
--- an entry of its master with these parts was noted
-pub record MasterNoted (old : LinkView) (tick : Bool) (came : List ℕ) (did : Did) (sent : List ℕ) (watchdog : Option ℕ) (new : LinkView) : Type 0 where
-  pub stands : (link : LinkConf) (w : List Entry) (x : Entry) → LinkStands link old w → ages.HasAgeParts x side.Master tick came did sent watchdog → LinkStands link new (x ∷ w)
-
 -- what of a connection never changes: the lengths of its slave, and whether the ages of its outputs are told
 pub record Fixed : Type 0 where
   pub lengths : Lengths
@@ -87,3 +75,10 @@ pub record NotesOne (old new : LinkView) : Type 0 where
   pub noted : new.monitor.noted ≡ old.monitor.noted + 1
   pub fixed : fixed_of new ≡ fixed_of old
   pub cut : new.cut ≡ old.cut
+
+-- an entry of this end with these parts was noted, and nothing else changed
+pub record IsNoted (at : End) (tick : Bool) (came : List ℕ) (did : Did) (sent : List ℕ) (watchdog : Option ℕ) (old new : LinkView) : Type 0 where
+  pub monitor : monitor.NotesParts old.monitor at came did sent new.monitor
+  pub ages : AgesNote old.ages at tick came did sent watchdog new.ages
+  pub slave : new.slave ≡ old.slave
+  pub notes : NotesOne old new

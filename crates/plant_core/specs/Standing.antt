@@ -120,11 +120,9 @@ pub record ShowsPair {X : Type 0} (v : PlantView) (k : ℕ) (shown : X) (word : 
   pub shows : (b : Beginning) (acts : List Act) → PlantStands b v acts
       → IsSomeAnd (link_at b.links k) (λ link. shown ≡ word link (pair link k v.journal))
 
--- the monitors of these connections, the first of which has number k, have noted the entries of their pairs
-abbrev pub AllNoted : ℕ → List LinkConf → List LinkView → List JournalStep → Type 0
-AllNoted k [] [] steps = Unit {0}
-AllNoted k (link ∷ links) (v ∷ vs) steps = (v.monitor ≡ view_of (pair link k steps)) × AllNoted (suc k) links vs steps
-AllNoted k _ _ steps = ⊥
+-- the monitors of these connections have noted the entries of their pairs
+abbrev pub AllNoted : List LinkConf → List LinkView → List JournalStep → Type 0
+AllNoted links vs steps = EachLink (λ k link v. v.monitor ≡ view_of (pair link k steps)) 1 links vs
 
 -- the lowest connection whose pair has an other entry is told
 pub record TellsOther (v : PlantView) (told : Option ℕ) : Type 0 where

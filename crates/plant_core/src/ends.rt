@@ -53,6 +53,7 @@ fn note_event(event: &PlantEvent, steps: &mut Vec<JournalStep>)
     requires room { vec_len steps.old + 1 ≤ vec_capacity steps.old }
     ensures noted { steps.new.items ≡ steps.old.items ++ step.Script event.now ∷ [] }
     ensures count { vec_len steps.new ≡ vec_len steps.old + 1 }
+    ensures capacity { vec_capacity steps.old ≤ vec_capacity steps.new }
 {
     let event = match event {
         PlantEvent::Tick => PlantEvent::Tick,
@@ -78,8 +79,24 @@ fn note_event(event: &PlantEvent, steps: &mut Vec<JournalStep>)
     note(steps, JournalStep::Script(event));
 }
 
+/// What an event of the script has happen to the slave of a connection, with the number of this, if it does.
+fn slave_move(event: &PlantEvent) -> Option<(u16, Move)>
+    ensures { result ≡ slave_move event.now }
+{
+    match event {
+        PlantEvent::Put { link, load } => Some((*link, Move::Put(load.copy()))),
+        PlantEvent::Hold { link, failsafe } => Some((*link, Move::Hold(*failsafe))),
+        PlantEvent::Local { link } => Some((*link, Move::Local)),
+        PlantEvent::Nonce {
+            link,
+            end: End::Slave,
+            id,
+        } => Some((*link, Move::Nonce(u32::from(*id)))),
+        _ => None,
+    }
+}
+
 impl<A: Application> Ends<A> {
-    ghost use Rattle.fsoe_base.specs.declared.command.End.TheVariants as side;
     ghost use Rattle.multi_master.specs.Calls.{ChangeApp};
     ghost use Rattle.multi_master.specs.Standing as multi;
     ghost use Rattle.multi_master.specs.Standing.{app_view};
@@ -88,98 +105,9 @@ impl<A: Application> Ends<A> {
     ghost use Rattle.plant_core.specs.Standing.{fixed_in, lengths_kept};
     ghost use Rattle.black_channel.specs.Told.{Told};
     ghost use Rattle.plant_model.specs.Fits.{Fits};
-    ghost use Rattle.plant_model.specs.declared.event.PlantEvent.TheVariants as event;
 
-    /// Counts a tick at all ends, and notes the offers that the cycle changed.
-    fn tick<C: Channel>(&mut self, steps: &mut Vec<JournalStep>, channel: &mut C)
-        requires ready { IsReady self.old steps.old }
-        requires room { vec_len steps.old + 1 + vec_len self.old.links ≤ vec_capacity steps.old }
-        ensures goes { let seen = sees A.rule A.holds A.guards in GoesOn (seen self.old steps.old) (Happen (Event event.Tick) ∷ []) (seen self.new steps.new) (C.told channel.old) (C.told channel.new) }
-        ensures ready { IsReady self.new steps.new }
-        ensures few { vec_len steps.new ≤ vec_len steps.old + 1 + vec_len self.old.links }
-        ensures capacity { vec_capacity steps.old ≤ vec_capacity steps.new }
-    {
-        note(steps, JournalStep::Script(PlantEvent::Tick));
-        tick_slaves(self.links.as_mut_slice(), channel);
-        self.master
-            .tick(self.outs.as_mut_slice(), self.dids.as_mut_slice());
-        masters_ticked(
-            self.links.as_mut_slice(),
-            self.dids.as_slice(),
-            self.outs.as_slice(),
-            channel,
-        );
-        note_offers(&self.master, self.links.as_mut_slice(), steps);
-    }
-
-    /// Delivers a pulled frame to the master of this connection. The offers that its cycle changed are noted before it,
-    /// and its answer is pushed.
-    fn deliver_to_master<C: Channel>(
-        &mut self,
-        link: u16,
-        frame: &FrameBuf,
-        steps: &mut Vec<JournalStep>,
-        channel: &mut C,
-    )
-        requires link { multi.IsNumber (vec_len self.old.links) link }
-        requires ready { IsReady self.old steps.old }
-        requires room { vec_len steps.old + 1 + vec_len self.old.links ≤ vec_capacity steps.old }
-        ensures delivers { let seen = sees A.rule A.holds A.guards in Delivers (seen self.old steps.old) (record { to = record { link = link; end = side.Master }; frame = frame.now }) (seen self.new steps.new) (C.told channel.old) (C.told channel.new) }
-        ensures ready { IsReady self.new steps.new }
-        ensures few { vec_len steps.new ≤ vec_len steps.old + 1 + vec_len self.old.links }
-        ensures capacity { vec_capacity steps.old ≤ vec_capacity steps.new }
-    {
-        self.master
-            .deliver_into(link, frame.bytes(), &mut self.heard, &mut self.sent);
-        note_offers(&self.master, self.links.as_mut_slice(), steps);
-        let to = Place {
-            link,
-            end: End::Master,
-        };
-        note_pulled(to, frame, steps);
-        let watchdog = watchdog_in(self.master.terms(link));
-        self.links[usize::from(link) - 1].master_acted(
-            link,
-            false,
-            frame.bytes(),
-            &self.heard,
-            &self.sent,
-            watchdog,
-            channel,
-        );
-    }
-
-    /// Delivers a pulled frame to the slave of this connection, and pushes its answer.
-    fn deliver_to_slave<C: Channel>(
-        &mut self,
-        link: u16,
-        frame: &FrameBuf,
-        steps: &mut Vec<JournalStep>,
-        channel: &mut C,
-    )
-        requires link { multi.IsNumber (vec_len self.old.links) link }
-        requires ready { IsReady self.old steps.old }
-        requires room { vec_len steps.old + 1 + vec_len self.old.links ≤ vec_capacity steps.old }
-        ensures delivers { let seen = sees A.rule A.holds A.guards in Delivers (seen self.old steps.old) (record { to = record { link = link; end = side.Slave }; frame = frame.now }) (seen self.new steps.new) (C.told channel.old) (C.told channel.new) }
-        ensures ready { IsReady self.new steps.new }
-        ensures few { vec_len steps.new ≤ vec_len steps.old + 1 + vec_len self.old.links }
-        ensures capacity { vec_capacity steps.old ≤ vec_capacity steps.new }
-    {
-        let to = Place {
-            link,
-            end: End::Slave,
-        };
-        note_pulled(to, frame, steps);
-        self.links[usize::from(link) - 1].deliver(
-            link,
-            frame.bytes(),
-            channel,
-            &mut self.heard,
-            &mut self.sent,
-        );
-    }
-
-    /// Notes a pulled parcel, and delivers it to its end, if there is one.
+    /// Notes a pulled parcel, and delivers it to its end, if there is one, whose answer is pushed. The offers that a
+    /// cycle of the masters changed are noted before the parcel.
     fn deliver<C: Channel>(
         &mut self,
         to: Place,
@@ -194,13 +122,39 @@ impl<A: Application> Ends<A> {
         ensures few { vec_len steps.new ≤ vec_len steps.old + 1 + vec_len self.old.links }
         ensures capacity { vec_capacity steps.old ≤ vec_capacity steps.new }
     {
-        if to.link == 0 || usize::from(to.link) > self.links.len() {
+        let link = to.link;
+        if link == 0 || usize::from(link) > self.links.len() {
             note_pulled(to, frame, steps);
             return;
         }
         match to.end {
-            End::Master => self.deliver_to_master(to.link, frame, steps, channel),
-            End::Slave => self.deliver_to_slave(to.link, frame, steps, channel),
+            End::Master => {
+                self.master
+                    .deliver_into(link, frame.bytes(), &mut self.heard, &mut self.sent);
+                note_offers(&self.master, &mut self.links, steps);
+                note_pulled(to, frame, steps);
+                let watchdog = watchdog_in(self.master.terms(link));
+                self.links[usize::from(link) - 1].acted(
+                    End::Master,
+                    link,
+                    false,
+                    frame.bytes(),
+                    &self.heard,
+                    &self.sent,
+                    watchdog,
+                    channel,
+                );
+            }
+            End::Slave => {
+                note_pulled(to, frame, steps);
+                self.links[usize::from(link) - 1].deliver(
+                    link,
+                    frame.bytes(),
+                    channel,
+                    &mut self.heard,
+                    &mut self.sent,
+                );
+            }
         }
     }
 
@@ -220,64 +174,8 @@ impl<A: Application> Ends<A> {
         }
     }
 
-    /// An event of the script happens at the slave of this connection, and its frame is pushed.
-    fn happen_at_slave<C: Channel>(
-        &mut self,
-        event: &PlantEvent,
-        link: u16,
-        what: &Move,
-        steps: &mut Vec<JournalStep>,
-        channel: &mut C,
-    )
-        requires is { slave_move event.now ≡ Some (link, what.now) }
-        requires link { multi.IsNumber (vec_len self.old.links) link }
-        requires fits { Fits (lengths_kept self.old.links.items) event.now }
-        requires ready { IsReady self.old steps.old }
-        requires room { vec_len steps.old + 1 ≤ vec_capacity steps.old }
-        ensures goes { let seen = sees A.rule A.holds A.guards in GoesOn (seen self.old steps.old) (Happen (Event event.now) ∷ []) (seen self.new steps.new) (C.told channel.old) (C.told channel.new) }
-        ensures ready { IsReady self.new steps.new }
-    {
-        note_event(event, steps);
-        self.links[usize::from(link) - 1].happen(
-            link,
-            what,
-            channel,
-            &mut self.heard,
-            &mut self.sent,
-        );
-    }
-
-    /// Sets the session id with which the master of this connection begins its next session.
-    fn master_nonce(&mut self, link: u16, id: u16, steps: &mut Vec<JournalStep>)
-        requires link { multi.IsNumber (vec_len self.old.links) link }
-        requires ready { IsReady self.old steps.old }
-        requires room { vec_len steps.old + 1 ≤ vec_capacity steps.old }
-        ensures goes { let seen = sees A.rule A.holds A.guards in (told : Told) → GoesOn (seen self.old steps.old) (Happen (Event (event.Nonce link side.Master id)) ∷ []) (seen self.new steps.new) told told }
-        ensures ready { IsReady self.new steps.new }
-    {
-        let event = PlantEvent::Nonce {
-            link,
-            end: End::Master,
-            id,
-        };
-        note(steps, JournalStep::Script(event));
-        self.master.nonce(link, id);
-        self.links[usize::from(link) - 1].note_setting();
-    }
-
-    /// Cuts the connection, or joins it again.
-    fn cut(&mut self, link: u16, cut: bool, steps: &mut Vec<JournalStep>)
-        requires link { multi.IsNumber (vec_len self.old.links) link }
-        requires ready { IsReady self.old steps.old }
-        requires room { vec_len steps.old + 1 ≤ vec_capacity steps.old }
-        ensures goes { let seen = sees A.rule A.holds A.guards in (told : Told) → GoesOn (seen self.old steps.old) (Happen (Event (event.Cut link cut)) ∷ []) (seen self.new steps.new) told told }
-        ensures ready { IsReady self.new steps.new }
-    {
-        note(steps, JournalStep::Script(PlantEvent::Cut { link, cut }));
-        self.links[usize::from(link) - 1].set_cut(cut);
-    }
-
-    /// Does an event of the script; at a tick the channel brings what it does.
+    /// Does an event of the script. At a tick come the slaves, the masters with a cycle of the application, the offers
+    /// that it changed, and then what the channel gives.
     #[tactic(auto, using(crate::proofs::Pulling::one_act))]
     pub(crate) fn happen<C: Channel>(
         &mut self,
@@ -291,35 +189,36 @@ impl<A: Application> Ends<A> {
         ensures line { let seen = sees A.rule A.holds A.guards in DoesLine (seen self.old steps.old) (Event event.now) (seen self.new steps.new) (C.told channel.old) (C.told channel.new) }
         ensures ready { IsReady self.new steps.new }
     {
+        note_event(event, steps);
+        if let Some((link, what)) = slave_move(event) {
+            self.links[usize::from(link) - 1].happen(
+                link,
+                &what,
+                channel,
+                &mut self.heard,
+                &mut self.sent,
+            );
+            return;
+        }
         match event {
             PlantEvent::Tick => {
-                self.tick(steps, channel);
+                tick_slaves(&mut self.links, channel);
+                self.master
+                    .tick(self.outs.as_mut_slice(), self.dids.as_mut_slice());
+                masters_ticked(&mut self.links, &self.dids, &self.outs, channel);
+                note_offers(&self.master, &mut self.links, steps);
                 self.pull_all(steps, channel);
-            }
-            PlantEvent::Put { link, load } => {
-                let what = Move::Put(load.copy());
-                self.happen_at_slave(event, *link, &what, steps, channel);
-            }
-            PlantEvent::Hold { link, failsafe } => {
-                self.happen_at_slave(event, *link, &Move::Hold(*failsafe), steps, channel);
-            }
-            PlantEvent::Local { link } => {
-                self.happen_at_slave(event, *link, &Move::Local, steps, channel);
-            }
-            PlantEvent::Nonce {
-                link,
-                end: End::Slave,
-                id,
-            } => {
-                let what = Move::Nonce(u32::from(*id));
-                self.happen_at_slave(event, *link, &what, steps, channel);
             }
             PlantEvent::Nonce {
                 link,
                 end: End::Master,
                 id,
-            } => self.master_nonce(*link, *id, steps),
-            PlantEvent::Cut { link, cut } => self.cut(*link, *cut, steps),
+            } => {
+                self.master.nonce(*link, *id);
+                self.links[usize::from(*link) - 1].note_setting();
+            }
+            PlantEvent::Cut { link, cut } => self.links[usize::from(*link) - 1].set_cut(*cut),
+            _ => {}
         }
     }
 
@@ -332,7 +231,7 @@ impl<A: Application> Ends<A> {
         ensures ready { IsReady self.new steps.new }
     {
         self.master.first_cycle();
-        note_offers(&self.master, self.links.as_mut_slice(), steps);
+        note_offers(&self.master, &mut self.links, steps);
     }
 
     /// Changes to another application, and notes the offers that its first cycle changed.
@@ -345,7 +244,7 @@ impl<A: Application> Ends<A> {
     {
         note(steps, JournalStep::App);
         self.master.change_app(app);
-        note_offers(&self.master, self.links.as_mut_slice(), steps);
+        note_offers(&self.master, &mut self.links, steps);
     }
 }
 

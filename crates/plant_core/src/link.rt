@@ -8,12 +8,12 @@ ghost use Rattle.end_model.specs.Setup.{OfSlave};
 ghost use Rattle.end_model.specs.Runs.{IsProper};
 ghost use Rattle.end_model.specs.Outputs as looking_back;
 ghost use Rattle.param_load.specs.declared.entry.Entry.{Entry};
+ghost use Rattle.exchange_model.specs.Ends.{peer};
 ghost use Rattle.exchange_model.specs.Honest.{is_tick};
-ghost use Rattle.exchange_model.specs.Monitor.{view_of, NotesParts};
+ghost use Rattle.exchange_model.specs.Monitor.{view_of};
 ghost use Rattle.exchange_model.specs.Other.{first_other};
 ghost use Rattle.fsoe_base.specs.declared.command.End.TheVariants as side;
 ghost use Rattle.fsoe_base.specs.declared.lengths.TheConstants.{MOST_DATA};
-ghost use Rattle.plant_core.specs.Link.{NotesSlave, ages_in, monitor_in};
 ghost use Rattle.plant_model.specs.Gifts.{place_of, sent_uses};
 ghost use Rattle.plant_model.specs.Uses.{Trace};
 ghost use Rattle.reaction_bound.specs.Age.{told_age, worst_of};
@@ -57,20 +57,6 @@ pub(crate) fn watchdog_in(terms: Option<&Terms>) -> Option<u16>
     }
 }
 
-/// Notes an entry of a slave, by whether it is a tick, the bytes that came, what the slave did and the frame that it
-/// sent.
-#[inline(always)]
-fn note_slave(slave: &Slave, watch: &mut Watch, tick: bool, came: &[u8], did: &Did, sent: &FrameBuf)
-    requires few { (monitor_in watch.old).noted + 1 < 2 ^ 64 }
-    ensures noted { NotesParts (monitor_in watch.old) side.Slave came.now did.now sent.now (monitor_in watch.new) }
-    ensures ages { NotesSlave slave.now (ages_in watch.old) tick came.now did.now sent.now (ages_in watch.new) }
-    ensures count { (monitor_in watch.new).noted ≡ (monitor_in watch.old).noted + 1 }
-    ensures aged { is_some (ages_in watch.new) ≡ is_some (ages_in watch.old) }
-{
-    let watchdog = watchdog_in(slave.terms());
-    watch.note_parts(End::Slave, tick, came, did, sent, watchdog);
-}
-
 /// Whether an event is a tick.
 fn is_tick(what: &Move) -> bool
     ensures { result ≡ is_tick what.now }
@@ -99,22 +85,19 @@ fn act(slave: &mut Slave, what: &Move, did: &mut Did, out: &mut FrameBuf)
     }
 }
 
-/// Pushes a frame for this end of a connection, if there is one and the connection isn't cut.
-fn push_sent<C: Channel>(channel: &mut C, link: u16, end: End, frame: &FrameBuf, cut: bool)
-    ensures { Trace (sent_uses (place_of link end) frame.now cut) (C.told channel.old) (C.told channel.new) }
+/// The other end of a connection.
+fn peer(at: End) -> End
+    ensures { result ≡ peer at }
 {
-    if cut {
-        return;
+    match at {
+        End::Master => End::Slave,
+        End::Slave => End::Master,
     }
-    if frame.is_empty() {
-        return;
-    }
-    channel.push(Place { link, end }, frame.bytes());
 }
 
 impl Link {
     ghost use Rattle.plant_core.specs.Doing.{SlaveActs};
-    ghost use Rattle.plant_core.specs.Link.{new_link, MasterNoted, NotesOne};
+    ghost use Rattle.plant_core.specs.Link.{new_link, IsNoted};
 
     /// Creates the slave of this connection, which isn't cut. With `aged` the ages of the outputs are counted.
     #[tactic(auto, using(crate::proofs::Linked::is_new))]
@@ -128,12 +111,12 @@ impl Link {
         }
     }
 
-    /// Lets this event happen at the slave of connection `number`, and notes it. Writes what it did and the frame that
-    /// it sent, which is pushed.
-    #[tactic(auto, using(crate::proofs::Linked::slave_acts, crate::proofs::Linked::notes_one))]
+    /// Lets this event happen at the slave of this connection, and notes it. Writes what it did and the frame that it
+    /// sent, which is pushed.
+    #[tactic(auto, using(crate::proofs::Linked::slave_acts))]
     pub(crate) fn happen<C: Channel>(
         &mut self,
-        number: u16,
+        link: u16,
         what: &Move,
         channel: &mut C,
         did: &mut Did,
@@ -141,41 +124,57 @@ impl Link {
     )
         requires few { self.old.monitor.noted + 1 < 2 ^ 64 }
         requires proper { IsProper (OfSlave self.old.slave.kit.settings) what.now }
-        ensures acts { SlaveActs number what.now self.old self.new (C.told channel.old) (C.told channel.new) }
-        ensures notes { NotesOne self.old self.new }
+        ensures { SlaveActs link what.now self.old self.new (C.told channel.old) (C.told channel.new) }
     {
         act(&mut self.slave, what, did, out);
-        let tick = is_tick(what);
-        let came = delivered(what);
-        note_slave(&self.slave, &mut self.watch, tick, came, did, out);
-        push_sent(channel, number, End::Master, out, self.cut);
+        let watchdog = watchdog_in(self.slave.terms());
+        let (tick, came) = (is_tick(what), delivered(what));
+        self.acted(End::Slave, link, tick, came, did, out, watchdog, channel);
     }
 
     /// Does the same with this frame that comes, and copies nothing.
-    #[tactic(auto, using(crate::proofs::Linked::slave_acts, crate::proofs::Linked::notes_one))]
+    #[tactic(auto, using(crate::proofs::Linked::slave_acts))]
     pub(crate) fn deliver<C: Channel>(
         &mut self,
-        number: u16,
+        link: u16,
         frame: &[u8],
         channel: &mut C,
         did: &mut Did,
         out: &mut FrameBuf,
     )
         requires few { self.old.monitor.noted + 1 < 2 ^ 64 }
-        ensures acts { SlaveActs number (event.Deliver frame.now) self.old self.new (C.told channel.old) (C.told channel.new) }
-        ensures notes { NotesOne self.old self.new }
+        ensures { SlaveActs link (event.Deliver frame.now) self.old self.new (C.told channel.old) (C.told channel.new) }
     {
         self.slave.deliver_into(frame, did, out);
-        note_slave(&self.slave, &mut self.watch, false, frame, did, out);
-        push_sent(channel, number, End::Master, out, self.cut);
+        let watchdog = watchdog_in(self.slave.terms());
+        self.acted(End::Slave, link, false, frame, did, out, watchdog, channel);
     }
 
-    /// Notes what the master of connection `number` did, by whether it was in a tick, the bytes that came, and the
-    /// watchdog in its terms, which is used only if it took ProcessData. Pushes its frame.
-    #[tactic(auto, using(crate::proofs::Linked::master_noted, crate::proofs::Linked::notes_one))]
-    pub(crate) fn master_acted<C: Channel>(
+    /// Does the same at a tick.
+    #[tactic(auto, using(crate::proofs::Linked::slave_acts))]
+    pub(crate) fn tick<C: Channel>(
         &mut self,
-        number: u16,
+        link: u16,
+        channel: &mut C,
+        did: &mut Did,
+        out: &mut FrameBuf,
+    )
+        requires few { self.old.monitor.noted + 1 < 2 ^ 64 }
+        ensures { SlaveActs link event.Tick self.old self.new (C.told channel.old) (C.told channel.new) }
+    {
+        self.slave.tick_into(did, out);
+        let watchdog = watchdog_in(self.slave.terms());
+        self.acted(End::Slave, link, true, &[], did, out, watchdog, channel);
+    }
+
+    /// Notes what an end of this connection did, by whether it was a tick, the bytes that came, and the watchdog in its
+    /// terms, which is used only if it took ProcessData. Pushes its frame if there is one and the connection isn't cut.
+    #[tactic(auto, using(crate::proofs::Linked::notes_one))]
+    #[inline(always)]
+    pub(crate) fn acted<C: Channel>(
+        &mut self,
+        at: End,
+        link: u16,
         tick: bool,
         came: &[u8],
         did: &Did,
@@ -184,22 +183,25 @@ impl Link {
         channel: &mut C,
     )
         requires few { self.old.monitor.noted + 1 < 2 ^ 64 }
-        ensures noted { MasterNoted self.old tick came.now did.now sent.now watchdog self.new }
-        ensures pushed { Trace (sent_uses (place_of number side.Slave) sent.now self.old.cut) (C.told channel.old) (C.told channel.new) }
-        ensures notes { NotesOne self.old self.new }
+        ensures noted { IsNoted at tick came.now did.now sent.now watchdog self.old self.new }
+        ensures pushed { Trace (sent_uses (place_of link (peer at)) sent.now self.old.cut) (C.told channel.old) (C.told channel.new) }
     {
-        self.watch
-            .note_parts(End::Master, tick, came, did, sent, watchdog);
-        push_sent(channel, number, End::Slave, sent, self.cut);
+        self.watch.note_parts(at, tick, came, did, sent, watchdog);
+        if !self.cut && !sent.is_empty() {
+            let to = Place {
+                link,
+                end: peer(at),
+            };
+            channel.push(to, sent.bytes());
+        }
     }
 
     /// Notes that the master was set, at which nothing came and nothing was sent.
-    #[tactic(auto, using(crate::proofs::Linked::master_noted, crate::proofs::Linked::notes_one))]
+    #[tactic(auto, using(crate::proofs::Linked::notes_one))]
     #[inline(always)]
     pub(crate) fn note_setting(&mut self)
         requires few { self.old.monitor.noted + 1 < 2 ^ 64 }
-        ensures noted { MasterNoted self.old false [] nothing [] None self.new }
-        ensures notes { NotesOne self.old self.new }
+        ensures { IsNoted side.Master false [] nothing [] None self.old self.new }
     {
         let (did, sent) = (Did::nothing(), FrameBuf::new());
         self.watch

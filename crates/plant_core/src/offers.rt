@@ -5,7 +5,8 @@ ghost use Rattle.multi_master.specs.Standing as multi;
 ghost use Rattle.plant_model.specs.declared.journal.JournalStep.TheVariants as step;
 ghost use Rattle.plant_core.specs.Doing.{OffersNoted};
 ghost use Rattle.plant_core.specs.Standing.{AreNoted};
-ghost use Rattle.plant_core.specs.Link.{MasterNoted, NotesOne};
+ghost use Rattle.fsoe_base.specs.declared.command.End.TheVariants as side;
+ghost use Rattle.plant_core.specs.Link.{IsNoted};
 
 use crate::journal::note;
 use crate::link::Link;
@@ -22,8 +23,7 @@ fn note_offer(number: u16, load: &[u8], link: &mut Link, steps: &mut Vec<Journal
     ensures steps { steps.new.items ≡ steps.old.items ++ step.Offer number load.now ∷ [] }
     ensures count { vec_len steps.new ≡ vec_len steps.old + 1 }
     ensures capacity { vec_capacity steps.old ≤ vec_capacity steps.new }
-    ensures noted { MasterNoted link.old false [] nothing [] None link.new }
-    ensures notes { NotesOne link.old link.new }
+    ensures noted { IsNoted side.Master false [] nothing [] None link.old link.new }
 {
     let mut offer = Image::new();
     offer.set(load);
@@ -40,15 +40,16 @@ fn note_offer(number: u16, load: &[u8], link: &mut Link, steps: &mut Vec<Journal
 /// Notes the offers that the last call of the master changed, in the order of the connections.
 pub(crate) fn note_offers<A: Application>(
     master: &MultiMaster<A>,
-    links: &mut [Link],
+    links: &mut Vec<Link>,
     steps: &mut Vec<JournalStep>,
 )
-    requires count { length links.old ≡ multi.links master.now }
-    requires room { vec_len steps.old + length links.old ≤ vec_capacity steps.old }
-    requires noted { AreNoted (2 * vec_len steps.old) links.old }
-    ensures offers { OffersNoted (multi.seen A.rule A.holds A.guards master.now) links.old links.new steps.old.items steps.new.items }
-    ensures noted { AreNoted (2 * vec_len steps.new) links.new }
-    ensures room { vec_len steps.new ≤ vec_len steps.old + length links.old }
+    requires count { vec_len links.old ≡ multi.links master.now }
+    requires room { vec_len steps.old + vec_len links.old ≤ vec_capacity steps.old }
+    requires noted { AreNoted (2 * vec_len steps.old) links.old.items }
+    ensures offers { OffersNoted (multi.seen A.rule A.holds A.guards master.now) links.old.items links.new.items steps.old.items steps.new.items }
+    ensures count { vec_len links.new ≡ vec_len links.old }
+    ensures noted { AreNoted (2 * vec_len steps.new) links.new.items }
+    ensures room { vec_len steps.new ≤ vec_len steps.old + vec_len links.old }
     ensures capacity { vec_capacity steps.old ≤ vec_capacity steps.new }
 {
     let changed = master.changed();

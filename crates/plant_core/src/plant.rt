@@ -194,10 +194,10 @@ impl<A: Application> Plant<A> {
     pub fn is_still(&self, bound: BoundSpec) -> bool
         ensures { TellsStill (seen A.rule A.holds A.guards self.now) bound result }
     {
-        if bound.estop.link > 0 && bound.estop.link <= self.links() {
-            self.quiet(bound.estop, bound.drive)
-        } else {
-            self.ends.master.guards(bound.drive, bound.estop)
+        let (inp, out) = (bound.estop, bound.drive);
+        match self.link(inp.link) {
+            Some(link) => !link.offers(inp.bit) && self.ends.master.guards(out, inp),
+            None => self.ends.master.guards(out, inp),
         }
     }
 
@@ -254,8 +254,11 @@ impl<A: Application> Plant<A> {
         requires { HasLink self.now inp.link }
         ensures { TellsStill (seen A.rule A.holds A.guards self.now) (record { estop = inp; drive = out }) result }
     {
-        !self.ends.links[usize::from(inp.link) - 1].offers(inp.bit)
-            && self.ends.master.guards(out, inp)
+        let bound = BoundSpec {
+            estop: inp,
+            drive: out,
+        };
+        self.is_still(bound)
     }
 }
 
@@ -295,10 +298,9 @@ impl<H: Application> Plant<KindOf<H>> {
 }
 
 /// The lowest of these connections whose pair has an `other` entry.
-#[tactic(auto, using(crate::proofs::Others::all_left))]
 fn lowest_other(links: &[Link]) -> Option<u16>
     requires { length links.now ≤ 64 }
-    ensures { (confs : List LinkConf) (steps : List JournalStep) → AllNoted 1 confs links.now steps → result ≡ lowest_other 1 confs steps }
+    ensures { (confs : List LinkConf) (steps : List JournalStep) → AllNoted confs links.now steps → result ≡ lowest_other 1 confs steps }
 {
     for i in 0..links.len() {
         if links[i].has_other() {

@@ -1,41 +1,53 @@
 //! What all slaves do in a tick, and what is noted of all masters then.
-ghost use Rattle.std.specs.Prelude.{◌≡◌, ◌≤◌, ◌-◌, ◌^◌, length};
-ghost use Rattle.fsoe_base.specs.declared.command.End.TheVariants as side;
+ghost use Rattle.std.specs.Prelude.{◌≡◌, ◌≤◌, ◌-◌, ◌^◌, length, vec_len};
 ghost use Rattle.plant_core.specs.Doing.{EachActs, MasterTicked, SlaveTicks};
 ghost use Rattle.plant_core.specs.Standing.{AreNoted};
 
 use crate::link::Link;
 use black_channel::Channel;
-use fsoe_base::{Did, FrameBuf};
-use param_load::Move;
+use fsoe_base::{Did, End, FrameBuf};
 
 /// The slaves of all connections tick, in their order, and their frames are pushed.
-pub(crate) fn tick_slaves<C: Channel>(links: &mut [Link], channel: &mut C)
-    requires most { length links.old ≤ 64 }
-    requires few { AreNoted (2 ^ 64 - 2) links.old }
-    ensures { EachActs side.Master SlaveTicks links.old links.new (C.told channel.old) (C.told channel.new) }
+#[tactic(auto, using(crate::proofs::Acting::each_begun, crate::proofs::Acting::each_acted))]
+pub(crate) fn tick_slaves<C: Channel>(links: &mut Vec<Link>, channel: &mut C)
+    requires most { vec_len links.old ≤ 64 }
+    requires few { AreNoted (2 ^ 64 - 2) links.old.items }
+    ensures acted { EachActs SlaveTicks 0 links.old.items links.new.items (C.told channel.old) (C.told channel.new) }
+    ensures count { vec_len links.new ≡ vec_len links.old }
 {
     let mut did = Did::nothing();
     let mut out = FrameBuf::new();
     for i in 0..links.len() {
-        links[i].happen(i as u16 + 1, &Move::Tick, channel, &mut did, &mut out);
+        links[i].tick(i as u16 + 1, channel, &mut did, &mut out);
     }
 }
 
 /// Notes what each master did in a tick, in the order of the connections, and pushes their frames.
+#[tactic(auto, using(crate::proofs::Acting::each_begun, crate::proofs::Acting::each_acted))]
 pub(crate) fn masters_ticked<C: Channel>(
-    links: &mut [Link],
+    links: &mut Vec<Link>,
     dids: &[Did],
     outs: &[FrameBuf],
     channel: &mut C,
 )
-    requires most { length links.old ≤ 64 }
-    requires few { AreNoted (2 ^ 64 - 2) links.old }
-    requires dids { length dids.now ≡ length links.old }
-    requires outs { length outs.now ≡ length links.old }
-    ensures { EachActs side.Slave (MasterTicked dids.now outs.now) links.old links.new (C.told channel.old) (C.told channel.new) }
+    requires most { vec_len links.old ≤ 64 }
+    requires few { AreNoted (2 ^ 64 - 2) links.old.items }
+    requires dids { length dids.now ≡ vec_len links.old }
+    requires outs { length outs.now ≡ vec_len links.old }
+    ensures acted { EachActs (MasterTicked dids.now outs.now) 0 links.old.items links.new.items (C.told channel.old) (C.told channel.new) }
+    ensures count { vec_len links.new ≡ vec_len links.old }
 {
     for i in 0..links.len() {
-        links[i].master_acted(i as u16 + 1, true, &[], &dids[i], &outs[i], None, channel);
+        let (did, out) = (&dids[i], &outs[i]);
+        links[i].acted(
+            End::Master,
+            i as u16 + 1,
+            true,
+            &[],
+            did,
+            out,
+            None,
+            channel,
+        );
     }
 }

@@ -1,22 +1,21 @@
-use Rattle.plant_core.proofs.Common.{slice_get-get_or, slice_get_read}
-use Rattle.std.proofs.Common.{refl, arith}
-use Rattle.plant_core.proofs.Acting.{each_begun, each_more, each_acted, master_one, next_few}
+use Rattle.plant_core.proofs.Common.{slice_get_read}
+use Rattle.std.proofs.Common.{◌≡◌, ◌+◌, suc, refl, arith}
+use Rattle.plant_core.proofs.Acting.{each_more, next_few}
 use Rattle.plant_core.proofs.ticking.masters_ticked.Goals as goal
 
-pub loop-i-init : goal.loop-i-init
-loop-i-init g c = each_begun _ _ _ _
-
-pub master_acted-requires : goal.master_acted-requires
-master_acted-requires g c = record {
-  few = next_few _ _ _ _ _ _ _ _ c.loop-i.invariant c.requires.few (slice_get-get_or c.loop-i.links c.loop-i.i c.index-links-i.result (omega arith));
-}
+pub acted-requires : goal.acted-requires
+acted-requires g c =
+    let at = slice_get_read c.loop-i.links.items c.loop-i.links.len c.loop-i.i c.index_mut.result.now c.loop-i.links.ok.0 (omega arith) c.index_mut.ensures.value in
+    record { few = next_few _ c.loop-i.i _ _ _ _ _ c.loop-i.invariant.acted c.requires.few at }
 
 pub loop-i-preserved : goal.loop-i-preserved
 loop-i-preserved g c =
+    let at = slice_get_read c.loop-i.links.items c.loop-i.links.len c.loop-i.i c.index_mut.result.now c.loop-i.links.ok.0 (omega arith) c.index_mut.ensures.value in
+    let number : c.loop-i.i + 1 ≡ suc c.loop-i.i = omega arith in
     let did_at = slice_get_read c.args.dids.now _ c.loop-i.i _ refl (omega arith) c.index-dids-i.is in
-    let out_at = slice_get_read c.args.outs.now _ c.loop-i.i _ refl (omega arith) c.index-outs-i.is in
-    each_more _ _ _ _ _ _ _ _ _ _ c.loop-i.invariant (slice_get-get_or c.loop-i.links c.loop-i.i c.index-links-i.result (omega arith))
-    (master_one c.loop-i.i _ c.args.dids.now c.args.outs.now _ _ _ _ _ _ did_at out_at c.master_acted.ensures.noted c.master_acted.ensures.pushed) c.master_acted.ensures.notes
-
-pub returns : goal.returns
-returns g c = each_acted _ _ _ _ _ _ _ (omega arith) c.loop-i.invariant
+    let sent_at = slice_get_read c.args.outs.now _ c.loop-i.i _ refl (omega arith) c.index-outs-i.is in
+    record {
+      acted = each_more _ c.loop-i.i _ _ _ _ _ _ _ c.loop-i.invariant.acted at
+          (record { did = c.index-dids-i.result; sent = c.index-outs-i.result; did_at = did_at; sent_at = sent_at; noted = c.acted.ensures.noted; pushed = rw number at c.acted.ensures.pushed });
+      count = c.loop-i.invariant.count;
+    }

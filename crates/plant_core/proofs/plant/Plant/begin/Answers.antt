@@ -15,4 +15,4 @@ returns-clause-starts g c =
     let steps = c.in_ok-take_room.ensures.steps ∙ c.journal.view_is ∙ c.new-journal.ensures in
     let offers = rw (links, steps) at c.start.ensures.offers in
     let begins = rw c.seed.ensures at c.begin.ensures.begins in
-    rw (← c.self.view_is, ← c.connect.ensures.app) (starts _ _ _ _ (search rules))
+    rw (← c.self.view_is, ← c.connect.ensures.app) (starts _ _ _ _ _ _ stands c.start.ensures.follows offers begins)
