@@ -10,7 +10,6 @@ pub use Rattle.file_run.specs.Reporting.{IsPrefix, Reporting, ReportsSoFar, inpu
 pub use Rattle.fsoe_base.specs.declared.lengths.Lengths.{Lengths}
 pub use Rattle.fsoe_io.specs.declared.status.Ended.{Ended}
 pub use Rattle.multi_master.specs.Calls.{AppView}
-pub use Rattle.plant_conf.specs.ConfView.{ConfView}
 pub use Rattle.plant_conf.specs.declared.conf.BoundSpec.{BoundSpec}
 pub use Rattle.plant_conf.specs.declared.conf.LinkConf.{LinkConf}
 pub use Rattle.plant_core.proofs.Acting.{same_count, trace_append}
@@ -18,7 +17,7 @@ pub use Rattle.plant_core.proofs.Made.{lengths_made, made_count}
 pub use Rattle.plant_core.specs.Making.{is_named, links_made}
 pub use Rattle.plant_core.specs.Standing.{Follows, IsAged, PlantStands, PlantView, Plays, ShowsOn, ShowsPair, Starts, TellsOther, TellsStill, fixed_in, lengths_kept, seen}
 pub use Rattle.plant_model.proofs.Lines.{line_said, no_lines_by, no_lines_pulled}
-pub use Rattle.plant_model.specs.Acts.{Act, App, Beginning, Event, Happen, PullFrom, Said, Start, journal, line_step, offers, uses}
+pub use Rattle.plant_model.specs.Acts.{Act, App, Beginning, Happen, PullFrom, Said, Start, journal, line_step, offers, uses}
 pub use Rattle.plant_model.specs.BoundLines.{bound_line, bound_lines, heard, heard_before, heard_of, is_driven, is_ticking, limit_of, line_by}
 pub use Rattle.plant_model.specs.Fits.{Fits, lengths_at, lengths_in}
 pub use Rattle.plant_model.specs.JournalLaws.{line_steps}
@@ -27,22 +26,23 @@ pub use Rattle.plant_model.specs.Past.{IsPast, Named, Taken, passed, said, said_
 pub use Rattle.plant_model.specs.PlantReport.{in_tick, is_line, last_lines, lines_due, lines_from, link_line, link_lines, report_end, report_text, tick_lines, ticks_text}
 pub use Rattle.plant_model.specs.declared.event.PlantLine.{PlantLine}
 pub use Rattle.plant_model.specs.declared.journal.JournalStep.{JournalStep}
-pub use Rattle.plant_run.specs.Given.{named, rest_in, waiting}
+pub use Rattle.plant_run.specs.Given.{named}
 pub use Rattle.plant_run.specs.Ran.{IsReportOf, RanPlant}
-pub use Rattle.plant_run.specs.Reporting.{PlantReports, Terms, journal_after, plant_reporting, run_stop}
-pub use Rattle.plant_run.specs.Running.{FieldsFit, LineFits, RunCloses, RunStands}
+pub use Rattle.plant_run.specs.Reporting.{PlantReports, Terms, plant_reporting, run_stop}
+pub use Rattle.plant_run.specs.Running.{LineFits, RunCloses, RunStands}
 pub use Rattle.plant_run.specs.Script.{Script, ScriptHeading, happening, script_format}
-pub use Rattle.plant_run.specs.Watching.{AreAged, CanHear, HasRoom, HearsLine, HearsOne, ShowsBound, bounds_waiting, lines_by, reactions_after, reactions_by}
+pub use Rattle.plant_run.specs.Watching.{AreAged, HasRoom, HearsOne, ShowsBound, lines_by, rest_in, watched_after, watched_by, watching}
+pub use Rattle.plant_run.specs.declared.watching.Watched.{Watched}
 pub use Rattle.plant_setup.specs.Names.{IsTaken, place_of}
 pub use Rattle.reaction_bound.specs.Kept.{Hears, ReactionView, view_of}
 pub use Rattle.reaction_bound.specs.Reaction.{Quiet, Tick, broken_of}
-pub use Rattle.schedule_file.specs.Field.{bytes_said, fields_of, is_space}
+pub use Rattle.schedule_file.specs.Field.{bytes_said, fields_of}
 pub use Rattle.schedule_file.specs.Fields.{next_field, no_field, number_16, one_field, value_or}
 pub use Rattle.std.proofs.lemmas.Bool.{eq-eqb, eqb-true}
 pub use Rattle.std.proofs.lemmas.Grind.{common_steps}
 pub use Rattle.std.proofs.lemmas.List.{append-nil, length-map, length_push, take_all}
-pub use Rattle.std.proofs.lemmas.List.Elements.{All-cons, All-head, All-nil, All-tail}
-pub use Rattle.std.proofs.lemmas.Option.{slice_get-get_or, slice_get-map, slice_get_past, slice_get_read, slice_get_within}
+pub use Rattle.std.proofs.lemmas.List.Elements.{All-map}
+pub use Rattle.std.proofs.lemmas.Option.{slice_get-get_or, slice_get_read, slice_get_within}
 pub use Rattle.std.proofs.lemmas.Result.{IfOk-at_ok, err_from_is_err_and}
-pub use Rattle.std.specs.List.{onto_first, position_from, remove}
+pub use Rattle.std.specs.List.{position_from, remove}
 pub use Rattle.std.specs.Prelude.{IfOk, IfSome, IsSome, IsSomeAnd, None, Ok, Option, Some, codes, decimal, option_map, string_bytes}

@@ -1,9 +1,67 @@
--- A plant that runs can tell the reactions of its bounds of a line more, and tells the ages of their connections.
-use Rattle.plant_run.proofs.Common.{Act, All-cons, All-nil, AreAged, Beginning, BoundSpec, CanHear, Happen, HasRoom, HearsLine, IfSome, IsAged, IsSome, LinkConf, Named, PlantLine, PlantStands, PlantView, PullFrom, ReactionView, RunStands, ScriptHeading, Start, Terms, Told, common_steps, eq-eqb, fixed_in, heard_before, heard_of, is_driven, is_named, is_tick, is_ticking, length-map, length_push, limit_of, line_step, links_made, option_map, reactions_after, reactions_by, said_in, slice_get-map, view_of}
-use Rattle.std.proofs.Common.{◌≡◌, ◌≤◌, ◌<◌, ◌+◌, ◌^◌, ◌==◌, ◌||◌, ℕ, zero, suc, Bool, true, false, List, [], ◌∷◌, All, length, slice_get, Option, Some, None, if◌then◌else◌, refl, sym, ap, subst, ◌∙◌, arith}
+-- The bounds of a plant that runs are told of each line of its script, and the ages of their connections are told.
+use Rattle.plant_run.proofs.Common.{Act, All-map, AreAged, Beginning, BoundSpec, HasRoom, Happen, Hears, HearsOne, IfSome, IsAged, IsSome, JournalStep, LinkConf, Named, PlantLine, PlantStands, PlantView, PullFrom, Quiet, ReactionView, RunStands, ScriptHeading, ShowsOn, TellsStill, Terms, Tick, Told, Watched, eq-eqb, fixed_in, heard, heard_before, heard_of, is_driven, is_named, is_tick, is_ticking, length-map, length_push, limit_of, line_step, link_at, links_made, option_map, said_in, slice_get_read, take_all, view_of, watched_after, watched_by, watching}
+use Rattle.std.proofs.Common.{◌≡◌, ◌≤◌, ◌<◌, ◌+◌, ◌*◌, ◌^◌, ◌==◌, ◌||◌, ℕ, zero, suc, Bool, true, false, List, [], ◌∷◌, ◌++◌, All, get_or, length, take, slice_get, slice_index_or, slice_set, Some, None, if◌then◌else◌, refl, sym, ap, ap₂, ◌∙◌, arith}
+use Rattle.std.specs.List.{AllZip}
+use Rattle.std.specs.Option.{option_map_or}
 use Rattle.std.proofs.lemmas.Bool.{or_left, or_right}
+use Rattle.std.proofs.lemmas.List.{take_more_set}
+use Rattle.std.proofs.lemmas.List.Elements.{AllZip-push}
+use Rattle.std.proofs.lemmas.Option.{slice_get_within}
 use Rattle.reaction_bound.specs.Reaction as reaction
-use Rattle.plant_core.specs.Link.{Fixed, LinkView, fixed_of, new_link}
+use Rattle.multi_master.proofs.Looping.{Untouched, next_taken, untouched_more}
+use Rattle.plant_model.specs.Bound.{is_on}
+use Rattle.plant_core.specs.Link.{LinkView, fixed_of, new_link}
+
+-- the limit of a bound whose connections there are
+pub limit_both : (links : List LinkConf) (bound : BoundSpec) (m n : ℕ) → Some m ≡ option_map (λ l. l.master.watchdog) (link_at links bound.estop.link) → Some n ≡ option_map (λ l. l.master.watchdog) (link_at links bound.drive.link)
+    → 2 * m + 2 * n ≡ limit_of links bound
+limit_both links bound m n h k = grind arith
+
+-- that of one without its e-stop's connection, and of one without its drive's
+pub limit_none : (links : List LinkConf) (bound : BoundSpec) → None ≡ option_map (λ l. l.master.watchdog) (link_at links bound.estop.link) → 0 ≡ limit_of links bound
+limit_none links bound h = grind arith
+
+pub limit_less : (links : List LinkConf) (bound : BoundSpec) → None ≡ option_map (λ l. l.master.watchdog) (link_at links bound.drive.link) → 0 ≡ limit_of links bound
+limit_less links bound h = grind arith
+
+pub tick_heard : (v : PlantView) (tick : Bool) (old new : Watched) (mid : ReactionView) (on still : Bool) → ShowsOn v old.bound.drive on → Hears old.reaction (Tick on) mid → TellsStill v old.bound still → Hears mid (Quiet still) new.reaction
+    → new ≡ record old { reaction = new.reaction } → tick ≡ true → HearsOne v tick old new
+tick_heard v tick old new mid on still h k l m e is = record {
+  same = e;
+  hears = λ b acts before s was.
+      let driven : on ≡ is_driven b old.bound acts = h.shows b acts s ∙ ap (λ (j : List JournalStep). option_map_or (λ drive. is_on old.bound drive j) (link_at b.links old.bound.drive.link) false) s.has_done.journal_is in
+      let told = m.hears (limit_of b.links old.bound) (Tick on ∷ before) (k.hears (limit_of b.links old.bound) before was) in
+      rw is (told ∙ ap₂ (λ (q d : Bool). view_of (limit_of b.links old.bound) (Quiet q ∷ Tick d ∷ before)) (l.tells b acts s) driven);
+}
+
+pub other_heard : (v : PlantView) (tick : Bool) (old new : Watched) (still : Bool) → TellsStill v old.bound still → Hears old.reaction (Quiet still) new.reaction → new ≡ record old { reaction = new.reaction } → tick ≡ false → HearsOne v tick old new
+other_heard v tick old new still h k e is = record {
+  same = e;
+  hears = λ b acts before s was. rw is (k.hears (limit_of b.links old.bound) before was ∙ ap (λ (q : Bool). view_of (limit_of b.links old.bound) (Quiet q ∷ before)) (h.tells b acts s));
+}
+
+-- the first bounds were told of a line
+pub record HeardTo (R : Watched → Watched → Type 0) (i : ℕ) (initial now : List Watched) : Type 0 where
+  pub heard : AllZip R (take i initial) (take i now)
+  pub rest : Untouched i initial now
+
+pub heard_more : (R : Watched → Watched → Type 0) (i : ℕ) (initial now : List Watched) (old new : Watched) → HeardTo R i initial now → slice_get now i ≡ Some old → R old new → HeardTo R (i + 1) initial (slice_set now i new)
+heard_more R i initial now old new inv at hears =
+    let before : take (i + 1) initial ≡ take i initial ++ old ∷ [] = next_taken initial i old (sym (inv.rest i (omega arith)) ∙ at) in
+    let after : take (i + 1) (slice_set now i new) ≡ take i now ++ new ∷ [] = take_more_set now i new (slice_get_within now i old at) in
+    record { heard = rw (before, after) (AllZip-push R (take i initial) (take i now) old new inv.heard hears); rest = untouched_more i initial now (slice_set now i new) new inv.rest refl }
+
+pub heard_all : (R : Watched → Watched → Type 0) (i : ℕ) (initial now : List Watched) → length initial ≤ i → length now ≤ i → HeardTo R i initial now → AllZip R initial now
+heard_all R i initial now most few inv = rw (← take_all i initial most, ← take_all i now few) inv.heard
+
+-- what was heard of bounds that had heard this before
+pub all_heard : (b : Beginning) (acts : List Act) (v : PlantView) (tick : Bool) (before : BoundSpec → List reaction.Heard) (bounds : List BoundSpec) (new : List Watched) → PlantStands b v acts
+    → AllZip (HearsOne v tick) (watched_by b.links before bounds) new → new ≡ watched_by b.links (λ bound. heard b bound tick acts (before bound)) bounds
+all_heard b acts v tick before [] [] k h = refl
+all_heard b acts v tick before (bound ∷ bounds) (w ∷ new) k h =
+    let told = h.0.hears b acts (before bound) k refl in
+    ap₂ (λ (x : Watched) (xs : List Watched). x ∷ xs) (h.0.same ∙ ap (λ (r : ReactionView). record { bound = bound; limit = limit_of b.links bound; reaction = r }) told) (all_heard b acts v tick before bounds new k h.1)
+all_heard b acts v tick before _ _ k h = absurd h
 
 if_ticks : (tick on : Bool) (before : List reaction.Heard) → reaction.ticks (if tick then reaction.Tick on ∷ before else before) ≤ suc (reaction.ticks before)
 if_ticks tick on before = grind arith
@@ -17,69 +75,65 @@ said_ticks b bound (Happen said ∷ acts) on =
 said_ticks b bound (PullFrom gift ∷ acts) on = said_ticks b bound acts on
 said_ticks b bound _ on = omega arith
 
-pub rooms : (b : Beginning) (acts : List Act) (bounds : List BoundSpec) → length (said_in acts) + 1 < 2 ^ 64 → All HasRoom (reactions_after b acts bounds)
-rooms b acts [] h = All-nil HasRoom
-rooms b acts (bound ∷ bounds) h =
-    let few = said_ticks b bound acts (is_driven b bound acts) in
-    All-cons HasRoom (view_of (limit_of b.links bound) (heard_of b bound acts)) (reactions_after b acts bounds) (omega (arith, few, h)) (rooms b acts bounds h)
+-- a plant that runs can tell its bounds of a line more
+rooms : (b : Beginning) (acts : List Act) (bounds : List BoundSpec) → length (said_in acts) + 1 < 2 ^ 64 → All HasRoom (watched_after b acts bounds)
+rooms b acts bounds h =
+    All-map HasRoom (λ bound. watching b.links bound (heard_of b bound acts)) bounds
+    (λ k d below. let few = said_ticks b (get_or bounds k d) acts (is_driven b (get_or bounds k d) acts) in omega (arith, few, h))
 
--- a plant that runs can tell its reactions of a line more
-pub can_hear : (t : Terms) (v : PlantView) (reactions : List ReactionView) (left : List Named) (before after : Told) (count : ℕ) (h : ScriptHeading) (log : List PlantLine) (text : List ℕ) (bounds : List BoundSpec) → RunStands t v reactions left before after count h log text
-    → length log + 1 < 2 ^ 64 → t.bounds ≡ bounds → CanHear reactions bounds
-can_hear t v reactions left before after count h log text bounds k l m = grind (arith, common_steps, rooms)
+pub can_hear : (t : Terms) (v : PlantView) (watched : List Watched) (left : List Named) (before after : Told) (count : ℕ) (h : ScriptHeading) (log : List PlantLine) (text : List ℕ) → RunStands t v watched left before after count h log text
+    → length log + 1 < 2 ^ 64 → All HasRoom watched
+can_hear t v watched left before after count h log text k few = rw k.watched_are (rooms t.begins k.acts t.bounds (omega (arith, k.whole, few)))
+
+-- bounds to which nothing was said can be told of a line
+pub fresh_rooms : (links : List LinkConf) (bounds : List BoundSpec) (made : List Watched) → made ≡ watched_by links (λ bound. []) bounds → All HasRoom made
+fresh_rooms links bounds made e = rw e (All-map HasRoom (λ bound. watching links bound []) bounds (λ k d below. omega arith))
 
 -- a bound names its connections
-named_by : (k : ℕ) (bounds : List BoundSpec) (place : ℕ) (bound : BoundSpec) → slice_get bounds place ≡ Some bound → (bound.estop.link == k || bound.drive.link == k) ≡ true → is_named bounds k ≡ true
-named_by k [] place bound e named = absurd (cc e)
-named_by k (first ∷ bounds) zero bound e named =
+named_by : (bounds : List BoundSpec) (place : ℕ) (bound : BoundSpec) → slice_get bounds place ≡ Some bound → (is_named bounds bound.estop.link ≡ true) × (is_named bounds bound.drive.link ≡ true)
+named_by [] place bound e = absurd (cc e)
+named_by (first ∷ bounds) zero bound e =
     let same : first ≡ bound = cc in
-    or_left (first.estop.link == k || first.drive.link == k) (is_named bounds k) (ap (λ (z : BoundSpec). z.estop.link == k || z.drive.link == k) same ∙ named)
-named_by k (first ∷ bounds) (suc place) bound e named =
-    or_right (first.estop.link == k || first.drive.link == k) (is_named bounds k) (named_by k bounds place bound e named)
+    let i : ℕ = bound.estop.link in
+    let o : ℕ = bound.drive.link in
+    rw same (or_left (i == i || o == i) (is_named bounds i) (or_left (i == i) (o == i) (eq-eqb i i refl)), or_left (i == o || o == o) (is_named bounds o) (or_right (i == o) (o == o) (eq-eqb o o refl)))
+named_by (first ∷ bounds) (suc place) bound e =
+    let rest = named_by bounds place bound e in
+    (or_right (first.estop.link == bound.estop.link || first.drive.link == bound.estop.link) _ rest.0, or_right (first.estop.link == bound.drive.link || first.drive.link == bound.drive.link) _ rest.1)
 
 -- the ages of a connection are told that a bound names
-aged_new : (aged : Bool) (link : LinkConf) → aged ≡ true → (fixed_of (new_link aged link)).aged ≡ true
-aged_new aged link h = grind arith
+aged_one : (aged : Bool) (link : LinkConf) (v : LinkView) → fixed_of v ≡ fixed_of (new_link aged link) → aged ≡ true → IsSome v.ages
+aged_one aged link v e is = grind arith
 
-aged_made : (k place : ℕ) (bounds : List BoundSpec) (links : List LinkConf) → is_named bounds (k + place) ≡ true → IfSome (slice_get (fixed_in (links_made k bounds links)) place) (λ f. f.aged ≡ true)
-aged_made k place bounds [] h = tt
-aged_made k zero bounds (link ∷ links) h =
-    let number : k + 0 ≡ k = omega arith in
-    aged_new (is_named bounds k) link (ap (is_named bounds) (sym number) ∙ h)
-aged_made k (suc place) bounds (link ∷ links) h =
-    let number : suc k + place ≡ k + suc place = omega arith in
-    aged_made (suc k) place bounds links (ap (is_named bounds) number ∙ h)
+aged_from : (k place n : ℕ) (bounds : List BoundSpec) (links : List LinkConf) (vs : List LinkView) → n ≡ k + place → fixed_in vs ≡ fixed_in (links_made k bounds links) → is_named bounds n ≡ true → IfSome (slice_get vs place) (λ v. IsSome v.ages)
+aged_from k place n bounds links [] m e named = tt
+aged_from k place n bounds [] (v ∷ vs) m e named = absurd (cc e)
+aged_from k zero n bounds (link ∷ links) (v ∷ vs) m e named =
+    let number : n ≡ k = omega arith in
+    aged_one (is_named bounds k) link v (cc e) (ap (is_named bounds) (sym number) ∙ named)
+aged_from k (suc place) n bounds (link ∷ links) (v ∷ vs) m e named = aged_from (suc k) place n bounds links vs (omega arith) (cc e) named
 
-some_aged : (o : Option LinkView) → IfSome (option_map fixed_of o) (λ f. f.aged ≡ true) → IfSome o (λ v. IsSome v.ages)
-some_aged None h = tt
-some_aged (Some v) h = h
-
-aged_at : (bounds : List BoundSpec) (links : List LinkConf) (vs : List LinkView) (k : ℕ) → fixed_in vs ≡ fixed_in (links_made 1 bounds links) → is_named bounds k ≡ true → IsAged vs k
+aged_at : (bounds : List BoundSpec) (links : List LinkConf) (vs : List LinkView) (n : ℕ) → fixed_in vs ≡ fixed_in (links_made 1 bounds links) → is_named bounds n ≡ true → IsAged vs n
 aged_at bounds links vs zero e named = tt
-aged_at bounds links vs (suc place) e named =
-    let number : suc place ≡ 1 + place = omega arith in
-    some_aged (slice_get vs place)
-    (subst (λ (o : Option Fixed). IfSome o (λ f. f.aged ≡ true)) (ap (λ (fs : List Fixed). slice_get fs place) (sym e) ∙ slice_get-map fixed_of vs place)
-    (aged_made 1 place bounds links (ap (is_named bounds) (sym number) ∙ named)))
+aged_at bounds links vs (suc place) e named = aged_from 1 place (suc place) bounds links vs (omega arith) e named
 
-pub are_aged : (bounds : List BoundSpec) (links : List LinkConf) (vs : List LinkView) (place : ℕ) (bound : BoundSpec) → fixed_in vs ≡ fixed_in (links_made 1 bounds links) → slice_get bounds place ≡ Some bound → AreAged vs bound
-are_aged bounds links vs place bound e at = record {
-  estop = aged_at bounds links vs bound.estop.link e (named_by bound.estop.link bounds place bound at (or_left (bound.estop.link == bound.estop.link) (bound.drive.link == bound.estop.link) (eq-eqb bound.estop.link bound.estop.link refl)));
-  drive = aged_at bounds links vs bound.drive.link e (named_by bound.drive.link bounds place bound at (or_right (bound.estop.link == bound.drive.link) (bound.drive.link == bound.drive.link) (eq-eqb bound.drive.link bound.drive.link refl)));
-}
+-- what is watched at a place is a bound
+pub bound_at : (links : List LinkConf) (before : BoundSpec → List reaction.Heard) (bounds : List BoundSpec) (place : ℕ) (w : Watched) → slice_get (watched_by links before bounds) place ≡ Some w
+    → (slice_get bounds place ≡ Some w.bound) × (w ≡ watching links w.bound (before w.bound))
+bound_at links before [] place w e = absurd (cc e)
+bound_at links before (bound ∷ bounds) zero w e = let same : watching links bound (before bound) ≡ w = cc in rw (← same) (refl, refl)
+bound_at links before (bound ∷ bounds) (suc place) w e = bound_at links before bounds place w e
 
--- what is heard of bounds is heard of the same ones
-pub heard_same : (v : PlantView) (these those : List BoundSpec) (tick : Bool) (old new : List ReactionView) → these ≡ those → HearsLine v these tick old new → HearsLine v those tick old new
-heard_same v these those tick old new e h = subst (λ (z : List BoundSpec). HearsLine v z tick old new) e h
+-- what is watched at a place that there is
+pub watched_at : (t : Terms) (v : PlantView) (watched : List Watched) (left : List Named) (before after : Told) (count : ℕ) (h : ScriptHeading) (log : List PlantLine) (text : List ℕ) (bounds : List BoundSpec) (place : ℕ) (w : Watched) → RunStands t v watched left before after count h log text
+    → bounds ≡ t.bounds → place < length bounds → w ≡ slice_index_or watched place w → slice_get watched place ≡ Some w
+watched_at t v watched left before after count h log text bounds place w k same within read =
+    let long = ap length k.watched_are ∙ length-map t.bounds (λ bound. watching t.begins.links bound (heard_of t.begins bound k.acts)) ∙ sym (ap length same) in
+    slice_get_read watched (length watched) place w refl (omega (arith, long, within)) read
 
--- reactions to which nothing was said can be told of a line
-fresh_rooms : (links : List LinkConf) (bounds : List BoundSpec) → All HasRoom (reactions_by links (λ bound. []) bounds)
-fresh_rooms links [] = All-nil HasRoom
-fresh_rooms links (bound ∷ bounds) = All-cons HasRoom (view_of (limit_of links bound) []) (reactions_by links (λ bound. []) bounds) (omega arith) (fresh_rooms links bounds)
-
-pub fresh_hear : (links : List LinkConf) (bounds : List BoundSpec) (rs : List ReactionView) → rs ≡ reactions_by links (λ bound. []) bounds → CanHear rs bounds
-fresh_hear links bounds rs e = rw e (record { count = length-map bounds (λ bound. view_of (limit_of links bound) []); room = fresh_rooms links bounds })
-
--- the start of a plant is heard first
-pub first_heard : (b : Beginning) (v : PlantView) (bounds : List BoundSpec) (old new : List ReactionView) → PlantStands b v (Start ∷ []) → HearsLine v bounds false old new → old ≡ reactions_by b.links (λ bound. []) bounds → new ≡ reactions_after b (Start ∷ []) bounds
-first_heard b v bounds old new h heard is = heard.hears b (Start ∷ []) (λ bound. []) h is
+pub are_aged : (t : Terms) (v : PlantView) (watched : List Watched) (left : List Named) (before after : Told) (count : ℕ) (h : ScriptHeading) (log : List PlantLine) (text : List ℕ) (place : ℕ) (w : Watched) → RunStands t v watched left before after count h log text
+    → slice_get watched place ≡ Some w → AreAged v.links w.bound
+are_aged t v watched left before after count h log text place w k at =
+    let there = (bound_at t.begins.links (λ bound. heard_of t.begins bound k.acts) t.bounds place w (ap (λ (ws : List Watched). slice_get ws place) (sym k.watched_are) ∙ at)).0 in
+    let named = named_by t.bounds place w.bound there in
+    record { estop = aged_at t.bounds t.begins.links v.links w.bound.estop.link k.fixed named.0; drive = aged_at t.bounds t.begins.links v.links w.bound.drive.link k.fixed named.1 }

@@ -1,12 +1,9 @@
-mod BoundParts
 mod Hearing
-mod LinkLines
-mod Names
 mod NextLine
 mod RanPlant
 mod ScriptFits
 mod Scripted
 mod TakenApps
 mod TicksText
-mod Watched
+mod Waiting
 pub mod Common

@@ -1,5 +1,5 @@
 -- What a run over a script leaves is what a plant did.
-use Rattle.plant_run.proofs.Common.{Act, Ended, IfSome, IsReportOf, LinkConf, Named, PlantLine, PlantView, RanOver, RanPlant, ReactionView, Reporting, RunStands, ScriptHeading, Terms, Told, append-nil, journal, link_at, plant_reporting, reactions_after, said, said_in}
+use Rattle.plant_run.proofs.Common.{Ended, IfSome, LinkConf, Named, PlantLine, PlantView, RanOver, RanPlant, Reporting, RunCloses, RunStands, ScriptHeading, Terms, Told, Watched, append-nil, link_at, plant_reporting, said, said_in}
 use Rattle.std.proofs.Common.{◌≡◌, ℕ, List, [], Option, Some, None, refl, sym, ap, subst, ◌∙◌, inl, inr, arith}
 use Rattle.std.specs.List.{IsDistinct}
 use Rattle.fsoe_io.specs.declared.status.Status.{Status}
@@ -8,18 +8,15 @@ use Rattle.file_run.specs.Left.{Done, LeavesAs}
 use Rattle.file_run.specs.Running.{Leaves}
 use Rattle.file_run.specs.Outside.{Outside}
 use Rattle.plant_model.specs.FairPairs.{PairsAreFair}
+use Rattle.plant_run.proofs.NextLine.{reported}
 use Rattle.plant_core.proofs.Worlds.{broken_by_other, plants_are_fair, reacts, sound}
 
 -- a relation of a header, its events, their text and an end
 abbrev Closing : Type 1
 Closing = ScriptHeading → List PlantLine → List ℕ → Ended → Type 0
 
--- each closing is of the second kind too
-abbrev Closer : Closing → Closing → Type 0
-Closer one two = (h : ScriptHeading) (log : List PlantLine) (text : List ℕ) (e : Ended) → one h log text e → two h log text e
-
 -- what a run leaves by one closing it leaves by the other
-leaves_as : (t : Terms) (one two : Closing) → Closer one two → (d : Done ScriptHeading PlantLine) (s : Status) (ended : Ended) (o : Outside) → LeavesAs (plant_reporting t) one d s ended o → LeavesAs (plant_reporting t) two d s ended o
+leaves_as : (t : Terms) (one two : Closing) → ((h : ScriptHeading) (log : List PlantLine) (text : List ℕ) (e : Ended) → one h log text e → two h log text e) → (d : Done ScriptHeading PlantLine) (s : Status) (ended : Ended) (o : Outside) → LeavesAs (plant_reporting t) one d s ended o → LeavesAs (plant_reporting t) two d s ended o
 leaves_as t one two h d s ended o k = grind arith
 
 -- nothing happened to any connection in no steps
@@ -31,10 +28,10 @@ fair_if_none (Some link) = record { from_awaited = tt; master_once = tt; slave_o
 none_is_fair : (links : List LinkConf) → PairsAreFair links []
 none_is_fair links = λ k. fair_if_none (link_at links k)
 
-pub ran_plant : (t : Terms) (v : PlantView) (ended : Ended) (o : Outside) (before after : Told) (reactions : List ReactionView) (left : List Named) (unbegun : Type 0) (stands : ScriptHeading → List PlantLine → List ℕ → Type 0) (closes : Closing) → RanOver (plant_reporting t) ended o
-    → Leaves unbegun (plant_reporting t) stands closes ended o → (unbegun → (after ≡ before) × (v.journal ≡ [])) → ((h : ScriptHeading) (log : List PlantLine) (text : List ℕ) → stands h log text → (count : ℕ) × RunStands t v reactions left before after count h log text)
-    → ((acts : List Act) → v.journal ≡ journal t.begins acts → reactions ≡ reactions_after t.begins acts t.bounds → Closer closes (IsReportOf t acts v.journal)) → RanPlant t ended o before after v.journal
-ran_plant t v ended o before after reactions left unbegun stands closes ran leaves nothing stood closed =
+pub ran_plant : (t : Terms) (v : PlantView) (ended : Ended) (o : Outside) (before after : Told) (watched : List Watched) (left : List Named) (unbegun : Type 0) (stands : ScriptHeading → List PlantLine → List ℕ → Type 0) → RanOver (plant_reporting t) ended o
+    → Leaves unbegun (plant_reporting t) stands (RunCloses t v watched left before after) ended o → (unbegun → (after ≡ before) × (v.journal ≡ []))
+    → ((h : ScriptHeading) (log : List PlantLine) (text : List ℕ) → stands h log text → (count : ℕ) × RunStands t v watched left before after count h log text) → RanPlant t ended o before after v.journal
+ran_plant t v ended o before after watched left unbegun stands ran leaves nothing stood =
     elim leaves [
       | inl none ↦
           let was = nothing none.0 in
@@ -55,7 +52,7 @@ ran_plant t v ended o before after reactions left unbegun stands closes ran leav
               broken = broken_by_other t.begins v s.acts s.stands s.same_lengths;
               text_is = s.text_is;
               begun = did.begun;
-              ends = leaves_as t closes (IsReportOf t s.acts v.journal) (closed s.acts s.stands.has_done.journal_is s.watched) d ended.status ended o did.ends;
+              ends = leaves_as t _ _ (λ h log text e c. reported t v watched left before after h log text e s.acts s.stands.has_done.journal_is s.watched_are c) d ended.status ended o did.ends;
             });
             journal_is = s.stands.has_done.journal_is;
             channel = s.channel;

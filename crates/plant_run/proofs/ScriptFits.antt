@@ -1,14 +1,18 @@
 -- The event of a script's line fits the connections.
-use Rattle.plant_run.proofs.Common.{IfOk, IfOk-at_ok, IsSome, IsSomeAnd, Lengths, LineFits, None, Ok, Option, PlantLine, Some, bytes_said, eqb-true, fields_of, lengths_at, next_field, no_field, number_16, one_field, value_or}
-use Rattle.std.proofs.Common.{◌≡◌, ℕ, ◌≤◌, List, [], ◌∷◌, length, sym, subst, arith}
+use Rattle.plant_run.proofs.Common.{IfOk, IsSome, IsSomeAnd, Lengths, LineFits, None, Ok, Option, Some, bytes_said, eqb-true, fields_of, lengths_at, next_field, no_field, number_16, one_field, value_or}
+use Rattle.std.proofs.Common.{◌≡◌, ℕ, ◌≤◌, List, [], ◌∷◌, ◌++◌, length, sym, ap, subst, ◌∙◌, arith, length-append}
+use Rattle.std.specs.List.{join_with_byte}
 use Rattle.std.specs.Prelude.{◌==◌}
+use Rattle.std.proofs.lemmas.List.Splits.{join_with_byte-slice_split}
 use Rattle.fsoe_base.specs.LengthsOf.{length_of}
 use Rattle.fsoe_base.specs.declared.command.End.TheVariants as side
 use Rattle.fsoe_base.specs.declared.lengths.TheConstants.{MOST_DATA}
 use Rattle.schedule_file.specs.EventLine.{switch_of}
+use Rattle.schedule_file.specs.Fields.{by_word}
+use Rattle.schedule_file.specs.declared.line_buf.TheConstants.{MAX_LINE}
 use Rattle.schedule_file.specs.declared.line_cause.LineCause.TheVariants as cause
 use Rattle.schedule_file.proofs.Sound.{each, known, ok_if, IfOk-every, IfOk-map}
-use Rattle.plant_run.specs.ScriptLine.{end_of_letter, existing, link_and_switch, local_line, nonce_line, plant_line, plant_said, plant_said_by, plant_word_of, put_line}
+use Rattle.plant_run.specs.ScriptLine.{end_of_letter, existing, link_and_switch, local_line, nonce_line, plant_line, plant_said, plant_word_of, put_line}
 use Rattle.plant_run.specs.declared.script_line.PlantWord.{PlantWord}
 use Rattle.plant_run.specs.declared.script_line.PlantWord.TheVariants as word
 
@@ -54,9 +58,17 @@ said_fits lengths (Some word.Cut) fields = IfOk-map (link_and_switch lengths fie
 said_fits lengths (Some word.App) fields = IfOk-map (one_field fields) _ _ (IfOk-every (one_field fields) _ (λ name. tt))
 said_fits lengths (Some word.End) fields = IfOk-map (no_field fields) _ _ (IfOk-every (no_field fields) _ (λ none. tt))
 
-by_fields : (lengths : List Lengths) (fields : List (List ℕ)) → IfOk (plant_said_by lengths fields) (LineFits lengths)
+by_fields : (lengths : List Lengths) (fields : List (List ℕ)) → IfOk (by_word cause.Word (λ word. plant_said lengths (plant_word_of word)) fields) (LineFits lengths)
 by_fields lengths [] = tt
 by_fields lengths (first ∷ fields) = said_fits lengths (plant_word_of first) fields
 
-pub line_fits : (lengths : List Lengths) (text : List ℕ) (said : PlantLine) → plant_line lengths text ≡ Ok said → LineFits lengths said
-line_fits lengths text said e = IfOk-at_ok (LineFits lengths) e (by_fields lengths (fields_of text))
+pub all_fit : (lengths : List Lengths) (text : List ℕ) → IfOk (plant_line lengths text) (LineFits lengths)
+all_fit lengths text = by_fields lengths (fields_of text)
+
+-- the name of an application is no longer than its line
+pub name_fits : (line first name : List ℕ) (rest : List (List ℕ)) → length line ≤ MAX_LINE → fields_of line ≡ first ∷ rest → one_field rest ≡ Ok name → length name ≤ MAX_LINE
+name_fits line first name (field ∷ []) most e is =
+    let same : field ≡ name = cc in
+    let whole : first ++ 32 ∷ field ≡ line = ap (join_with_byte 32) (sym e) ∙ join_with_byte-slice_split 32 line in
+    omega (arith, most, ap (length {A = ℕ}) same, ap (length {A = ℕ}) whole, length-append first (32 ∷ field))
+name_fits line first name _ most e is = absurd (cc is)

@@ -1,6 +1,6 @@
 -- What a line of a plant's script says that stands after its first line. The causes come in their order: the word, the
 -- number of fields, a number, the connection, the hexadecimal bytes, a length.
-use Rattle.std.specs.Prelude.{ℕ, ◌==◌, length, Bool, List, [], ◌∷◌, codes, Option, Some, None, Result, Ok, Err, if◌then◌else◌}
+use Rattle.std.specs.Prelude.{ℕ, ◌==◌, length, Bool, List, codes, Option, Some, None, Result, Ok, Err, if◌then◌else◌}
 use Rattle.std.specs.Str.{bytes_eq}
 use Rattle.fsoe_base.specs.LengthsOf.{length_of}
 use Rattle.fsoe_base.specs.declared.command.End.{End}
@@ -9,7 +9,7 @@ use Rattle.fsoe_base.specs.declared.lengths.Lengths.{Lengths}
 use Rattle.fsoe_base.specs.Lengths.{most_data}
 use Rattle.schedule_file.specs.EventLine.{switch_of}
 use Rattle.schedule_file.specs.Field.{fields_of, bytes_said}
-use Rattle.schedule_file.specs.Fields.{◌>>=◌, map_ok, value_or, next_field, no_field, one_field, number_16}
+use Rattle.schedule_file.specs.Fields.{◌>>=◌, map_ok, value_or, by_word, next_field, no_field, one_field, number_16}
 use Rattle.schedule_file.specs.declared.line_cause.LineCause.{LineCause}
 use Rattle.schedule_file.specs.declared.line_cause.LineCause.TheVariants as cause
 use Rattle.plant_model.specs.declared.event.PlantEvent.TheVariants as event
@@ -63,14 +63,6 @@ link_and_switch lengths fields = do
   ends ← existing lengths number
   Ok (number, on)
 
--- fail-safe data of a slave, on or off
-abbrev pub hold_line : List Lengths → List (List ℕ) → Result PlantLine LineCause
-hold_line lengths fields = map_ok (λ said. line.Step (event.Hold said.0 said.1)) (link_and_switch lengths fields)
-
--- whether a connection is cut
-abbrev pub cut_line : List Lengths → List (List ℕ) → Result PlantLine LineCause
-cut_line lengths fields = map_ok (λ said. line.Step (event.Cut said.0 said.1)) (link_and_switch lengths fields)
-
 -- a reset of a slave's own
 abbrev pub local_line : List Lengths → List (List ℕ) → Result PlantLine LineCause
 local_line lengths fields = do
@@ -91,31 +83,18 @@ nonce_line lengths fields = do
   ends ← existing lengths number
   Ok (line.Step (event.Nonce number end id))
 
--- a word says this by itself
-abbrev pub bare_line : PlantLine → List (List ℕ) → Result PlantLine LineCause
-bare_line says fields = map_ok (λ none. says) (no_field fields)
-
--- the name of an application
-abbrev pub app_line : List (List ℕ) → Result PlantLine LineCause
-app_line fields = map_ok line.App (one_field fields)
-
 -- what a word says with its fields, where the connections have these lengths
 abbrev pub plant_said : List Lengths → Option PlantWord → List (List ℕ) → Result PlantLine LineCause
 plant_said lengths None fields = Err cause.Word
-plant_said lengths (Some word.Tick) fields = bare_line (line.Step event.Tick) fields
+plant_said lengths (Some word.Tick) fields = map_ok (λ none. line.Step event.Tick) (no_field fields)
 plant_said lengths (Some word.Put) fields = put_line lengths fields
-plant_said lengths (Some word.Hold) fields = hold_line lengths fields
+plant_said lengths (Some word.Hold) fields = map_ok (λ said. line.Step (event.Hold said.0 said.1)) (link_and_switch lengths fields)
 plant_said lengths (Some word.Local) fields = local_line lengths fields
 plant_said lengths (Some word.Nonce) fields = nonce_line lengths fields
-plant_said lengths (Some word.Cut) fields = cut_line lengths fields
-plant_said lengths (Some word.App) fields = app_line fields
-plant_said lengths (Some word.End) fields = bare_line line.End fields
-
--- what the fields of a line say, of which the first is its word
-abbrev pub plant_said_by : List Lengths → List (List ℕ) → Result PlantLine LineCause
-plant_said_by lengths [] = Err cause.Word
-plant_said_by lengths (first ∷ fields) = plant_said lengths (plant_word_of first) fields
+plant_said lengths (Some word.Cut) fields = map_ok (λ said. line.Step (event.Cut said.0 said.1)) (link_and_switch lengths fields)
+plant_said lengths (Some word.App) fields = map_ok line.App (one_field fields)
+plant_said lengths (Some word.End) fields = map_ok (λ none. line.End) (no_field fields)
 
 -- what a line says in the script of a plant whose connections have these lengths
 abbrev pub plant_line : List Lengths → List ℕ → Result PlantLine LineCause
-plant_line lengths text = plant_said_by lengths (fields_of text)
+plant_line lengths text = by_word cause.Word (λ word. plant_said lengths (plant_word_of word)) (fields_of text)

@@ -1,15 +1,14 @@
 -- Worked scripts of the worked plant: what they say, and how they stop.
-use Rattle.std.specs.Prelude.{◌≡◌, ℕ, true, List, [], ◌∷◌, ◌++◌, codes, length, map, Some}
+use Rattle.std.specs.Prelude.{◌≡◌, ℕ, true, List, [], ◌∷◌, ◌++◌, codes, length, map, replicate, Some}
 use Rattle.schedule_file.specs.Input.{AtEnd, Line, NoApp, NoLine, NoNewline, Refused, Stop, input_read}
 use Rattle.schedule_file.specs.declared.line_cause.LineCause.TheVariants as cause
 use Rattle.plant_model.specs.Fits.{lengths_in}
 use Rattle.plant_run.specs.Reporting.{run_stop}
 use Rattle.plant_run.specs.Script.{Script, script_format}
-use Rattle.plant_model.specs.Past.{Named, said}
+use Rattle.plant_model.specs.Past.{said}
 use Rattle.plant_model.specs.WorkedActs.{driving}
 use Rattle.plant_model.specs.WorkedPlant.{both_links}
 use Rattle.plant_model.specs.declared.event.PlantEvent.TheVariants as event
-use Rattle.plant_model.specs.declared.event.PlantLine.{PlantLine}
 use Rattle.plant_model.specs.declared.event.PlantLine.TheVariants as line
 
 -- what bytes say to the worked plant
@@ -20,17 +19,9 @@ script_of bytes = input_read (script_format (map lengths_in both_links)) bytes
 abbrev pub script_with : List ℕ → Script
 script_with text = script_of (codes "fsoe 1 plant\n" ++ text)
 
--- one application is handed in
-abbrev pub zeros : Named
-zeros = record { name = codes "zeros"; app = driving }
-
--- how a run of it stops
+-- how a run of it stops, to which one application is handed in
 abbrev pub stop_with : List ℕ → Stop
-stop_with text = run_stop (length (said (zeros ∷ []) (script_with text).events)) (script_with text)
-
--- a tick
-abbrev pub tick_line : PlantLine
-tick_line = line.Step event.Tick
+stop_with text = run_stop (length (said (record { name = codes "zeros"; app = driving } ∷ []) (script_with text).events)) (script_with text)
 
 -- seven ticks, in which the emergency stop is released, and pressed again while its connection is cut
 unfoldable pub SevenTicksScript : Type 0
@@ -39,17 +30,12 @@ SevenTicksScript =
     ≡ record {
       heading = Some (record { lengths = map lengths_in both_links; titled = true });
       lines = 1;
-      events = tick_line
+      events = line.Step event.Tick
           ∷ line.Step (event.Put 1 (3 ∷ 0 ∷ []))
-          ∷ tick_line
+          ∷ line.Step event.Tick
           ∷ line.Step (event.Put 1 (0 ∷ 0 ∷ []))
           ∷ line.Step (event.Cut 1 true)
-          ∷ tick_line
-          ∷ tick_line
-          ∷ tick_line
-          ∷ tick_line
-          ∷ tick_line
-          ∷ [];
+          ∷ replicate 5 (line.Step event.Tick);
       stop = AtEnd;
     }
 

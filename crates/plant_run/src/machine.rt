@@ -5,7 +5,8 @@ ghost use Rattle.fsoe_base.specs.Command.{state_name};
 ghost use Rattle.fsoe_base.specs.declared.lengths.TheConstants.{MOST_DATA};
 ghost use Rattle.multi_master.specs.Standing.{app_view};
 ghost use Rattle.plant_model.specs.Pair.{is_tick};
-ghost use Rattle.plant_run.specs.Given.{named, rest_in, rest_left, terms_of};
+ghost use Rattle.plant_run.specs.Given.{named, terms_of};
+ghost use Rattle.plant_run.specs.Watching.{rest_in, rest_left};
 ghost use Rattle.plant_run.specs.Running.{RunCloses, RunStands};
 ghost use Rattle.plant_model.specs.PlantReport.{link_line};
 ghost use Rattle.plant_run.specs.Reporting.{plant_reporting};
@@ -13,7 +14,7 @@ ghost use Rattle.plant_core.specs.Standing.{HasLink, ShowsPair, TellsOther, seen
 ghost use Rattle.plant_model.specs.declared.journal.JournalStep.TheVariants as step;
 
 use crate::script::{ScriptFormat, ScriptHeader};
-use crate::watching::{hear, limit_of, reactions_made, write_bound};
+use crate::watching::{Watched, hear, watched_made, write_bound};
 use black_channel::Channel;
 use failsafe_io::Application;
 use fb_net::{EntryOf, KindOf};
@@ -23,7 +24,6 @@ use fsoe_io::{Ended, LineText};
 use plant_conf::PlantConf;
 use plant_core::Plant;
 use plant_model::{PlantEvent, PlantLine};
-use reaction_bound::Reaction;
 use std::alloc::Global;
 use std::marker::PhantomData;
 
@@ -31,7 +31,7 @@ use std::marker::PhantomData;
 pub const MAX_SCRIPT: u64 = 2_000;
 
 /// What a plant is run with: the applications that its script may take, in their order, and the plant, which begins at
-/// the script's first line, with a reaction for each bound of its configuration. What a run owns is borrowed for a
+/// the script's first line, as do the bounds of its configuration to be watched. What a run owns is borrowed for a
 /// lifetime of its own.
 #[derive(Drop)]
 pub(crate) struct PlantRun<'a, 'o, H: Application, C> {
@@ -40,14 +40,14 @@ pub(crate) struct PlantRun<'a, 'o, H: Application, C> {
     pub channel: &'a mut C,
     pub spare: &'o mut Vec<EntryOf<H>>,
     pub plant: &'o mut Plant<KindOf<H>>,
-    pub reactions: &'o mut Vec<Reaction>,
+    pub watched: &'o mut Vec<Watched>,
 }
 
 /// The lines of a report that come next.
 #[derive(Clone, Copy)]
 enum Rest {
     Nothing,
-    /// Those of the connections, from this number on.
+    /// Those of the connections, from this place on.
     Links(u16),
     /// Those of the bounds, from this place on.
     Bounds(usize),
@@ -126,14 +126,14 @@ impl<'a, 'o, H: Application, C: Channel> Machine for Telling<'a, 'o, H, C> {
 
     ghost stands = { λ first v now h log text. let K = ⟦<KindOf<H> as Application>⟧ in let view = app_view K.rule K.holds K.guards in
         ((now.channel.ghost_name ≡ first.channel.ghost_name) × (now.plant.ghost_name ≡ first.plant.ghost_name)) × (now.conf ≡ first.conf)
-        × RunStands (terms_of view first.conf.now first.plant.now.master.app first.spare.now.items) (seen K.rule K.holds K.guards now.plant.now) now.reactions.now.items (map (named view) now.spare.now.items) (C.told first.channel.now) (C.told now.channel.now) v.ticks h log text };
+        × RunStands (terms_of view first.conf.now first.plant.now.master.app first.spare.now.items) (seen K.rule K.holds K.guards now.plant.now) now.watched.now.items (map (named view) now.spare.now.items) (C.told first.channel.now) (C.told now.channel.now) v.ticks h log text };
 
-    ghost waits = { λ v now. rest_in v.rest now.conf.now now.plant.now.journal now.reactions.now.items };
+    ghost waits = { λ v now. rest_in v.rest now.conf.now now.plant.now.journal now.watched.now.items };
 
     ghost parts = { λ v now. rest_left v.rest };
 
     ghost closes = { λ first now h log text ended. let K = ⟦<KindOf<H> as Application>⟧ in let view = app_view K.rule K.holds K.guards in
-        RunCloses (terms_of view first.conf.now first.plant.now.master.app first.spare.now.items) (seen K.rule K.holds K.guards now.plant.now) now.reactions.now.items (map (named view) now.spare.now.items) (C.told first.channel.now) (C.told now.channel.now) h log text ended };
+        RunCloses (terms_of view first.conf.now first.plant.now.master.app first.spare.now.items) (seen K.rule K.holds K.guards now.plant.now) now.watched.now.items (map (named view) now.spare.now.items) (C.told first.channel.now) (C.told now.channel.now) h log text ended };
 
     fn laws() {}
 
@@ -145,11 +145,10 @@ impl<'a, 'o, H: Application, C: Channel> Machine for Telling<'a, 'o, H, C> {
         _: &ScriptHeader,
         given: &mut PlantRun<'a, 'o, H, C>,
     ) -> Result<Telling<'a, 'o, H, C>, Memory> {
-        let bounds = given.conf.bounds();
-        let mut reactions = reactions_made(given.alloc, given.conf.links(), bounds)?;
+        let mut watched = watched_made(given.alloc, given.conf.links(), given.conf.bounds())?;
         given.plant.begin(given.alloc, given.conf, given.channel)?;
-        hear(&*given.plant, bounds, false, &mut reactions);
-        *given.reactions = reactions;
+        hear(&*given.plant, false, &mut watched);
+        *given.watched = watched;
         Ok(Telling {
             ticks: 0,
             rest: Rest::Nothing,
@@ -170,14 +169,14 @@ impl<'a, 'o, H: Application, C: Channel> Machine for Telling<'a, 'o, H, C> {
     ) -> Result<(), Stopped> {
         text.clear();
         self.rest = Rest::Nothing;
-        let bounds = given.conf.bounds();
         match event {
             PlantLine::Step(event) => match given.plant.step(event, given.channel) {
                 Ok(()) => {
-                    hear(&*given.plant, bounds, is_tick(event), given.reactions);
-                    if let PlantEvent::Tick = event {
+                    let tick = is_tick(event);
+                    hear(&*given.plant, tick, given.watched);
+                    if tick {
                         self.ticks += 1;
-                        self.rest = Rest::Links(1);
+                        self.rest = Rest::Links(0);
                         write_count("tick", self.ticks, text);
                     }
                     Ok(())
@@ -186,7 +185,7 @@ impl<'a, 'o, H: Application, C: Channel> Machine for Telling<'a, 'o, H, C> {
             },
             PlantLine::App(name) => {
                 given.plant.take_spare(name.bytes(), given.spare)?;
-                hear(&*given.plant, bounds, false, given.reactions);
+                hear(&*given.plant, false, given.watched);
                 Ok(())
             }
             PlantLine::End => unreachable!(),
@@ -204,15 +203,14 @@ impl<'a, 'o, H: Application, C: Channel> Machine for Telling<'a, 'o, H, C> {
     fn more(&mut self, given: &PlantRun<'a, 'o, H, C>, text: &mut LineText) {
         text.clear();
         match self.rest {
-            Rest::Links(link) if link > 0 && link <= given.plant.links() => {
-                write_link(&*given.plant, link, text);
-                self.rest = Rest::Links(link + 1);
+            Rest::Links(place) if place < given.plant.links() => {
+                write_link(&*given.plant, place + 1, text);
+                self.rest = Rest::Links(place + 1);
             }
             Rest::Bounds(place) if place < given.conf.bounds().len() => {
-                let bound = given.conf.bounds()[place];
-                let limit = limit_of(given.conf.links(), bound);
-                let broken = given.reactions[place].broken();
-                write_bound(&*given.plant, bound, limit, broken, text);
+                let watched = &given.watched[place];
+                let broken = watched.reaction.broken();
+                write_bound(&*given.plant, watched.bound, watched.limit, broken, text);
                 self.rest = Rest::Bounds(place + 1);
             }
             _ => {}

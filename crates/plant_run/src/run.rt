@@ -67,14 +67,14 @@ pub fn run_plant<H: Application, C: Channel, S: Source, K: Sink>(
 {
     let mut spare = spare;
     let mut plant = Plant::unbegun(alloc, app);
-    let mut reactions = Vec::new(alloc);
+    let mut watched = Vec::new(alloc);
     let mut given = PlantRun {
         alloc,
         conf,
         channel,
         spare: &mut spare,
         plant: &mut plant,
-        reactions: &mut reactions,
+        watched: &mut watched,
     };
     let ended = run_given(&mut given, source, sink);
     *journal = plant.into_journal();

@@ -2,8 +2,8 @@
 ghost use Rattle.std.specs.Prelude.{◌≡◌, ◌≤◌, length, IfOk};
 ghost use Rattle.schedule_file.specs.declared.line_buf.TheConstants.{MAX_LINE};
 ghost use Rattle.schedule_file.specs.FieldsRead.{fields_after};
-ghost use Rattle.plant_run.specs.ScriptLine.{plant_word_of, end_of_letter, existing, bare_line, app_line, put_line, link_and_switch, hold_line, cut_line, local_line, nonce_line, plant_line};
-ghost use Rattle.plant_run.specs.Running.{FieldsFit, LineFits};
+ghost use Rattle.plant_run.specs.ScriptLine.{plant_word_of, end_of_letter, existing, put_line, link_and_switch, local_line, nonce_line, plant_line};
+ghost use Rattle.plant_run.specs.Running.{LineFits};
 
 use fsoe_base::{End, Image, Lengths, MOST_DATA};
 use plant_model::{PlantEvent, PlantLine};
@@ -87,7 +87,7 @@ fn read_put(fields: Option<&[u8]>, lengths: &[Lengths]) -> Result<PlantLine, Lin
     Ok(PlantLine::Step(PlantEvent::Put { link, load }))
 }
 
-/// `<connection> 0` or `<connection> 1`: off or on.
+/// `<connection> 0` or `<connection> 1`: fail-safe data of a slave off or on, or whether a connection is cut.
 fn read_link_and_switch(
     fields: Option<&[u8]>,
     lengths: &[Lengths],
@@ -100,22 +100,6 @@ fn read_link_and_switch(
     let on = read_switch(switch).ok_or(LineCause::Number)?;
     existing(lengths, link)?;
     Ok((link, on))
-}
-
-/// The same: fail-safe data of a slave, off or on.
-fn read_hold(fields: Option<&[u8]>, lengths: &[Lengths]) -> Result<PlantLine, LineCause>
-    ensures { result ≡ hold_line lengths.now (fields_after fields.entry) }
-{
-    let (link, failsafe) = read_link_and_switch(fields, lengths)?;
-    Ok(PlantLine::Step(PlantEvent::Hold { link, failsafe }))
-}
-
-/// The same: whether a connection is cut.
-fn read_cut(fields: Option<&[u8]>, lengths: &[Lengths]) -> Result<PlantLine, LineCause>
-    ensures { result ≡ cut_line lengths.now (fields_after fields.entry) }
-{
-    let (link, cut) = read_link_and_switch(fields, lengths)?;
-    Ok(PlantLine::Step(PlantEvent::Cut { link, cut }))
 }
 
 /// `<connection>`: a local reset of its slave.
@@ -142,33 +126,13 @@ fn read_nonce(fields: Option<&[u8]>, lengths: &[Lengths]) -> Result<PlantLine, L
     Ok(PlantLine::Step(PlantEvent::Nonce { link, end, id }))
 }
 
-/// No field: a word means this by itself.
-fn read_bare(fields: Option<&[u8]>, says: PlantLine) -> Result<PlantLine, LineCause>
-    ensures { result ≡ bare_line says (fields_after fields.entry) }
-{
-    no_field(fields)?;
-    Ok(says)
-}
-
-/// `<name>`: the name of an application.
-#[tactic(auto, using(crate::proofs::Names::one_fits))]
-fn read_app(fields: Option<&[u8]>) -> Result<PlantLine, LineCause>
-    requires { FieldsFit (fields_after fields) }
-    ensures { result ≡ app_line (fields_after fields.entry) }
-{
-    let field = one_field(fields)?;
-    let mut name = LineBuf::new();
-    name.push_all(field);
-    Ok(PlantLine::App(name))
-}
-
 /// Parses a line of a script without its newline; the connections have these lengths. An error is the first cause that
 /// applies of `Word`, `Fields`, `Number`, `NoLink`, `Hex`, `Length`. The lines:
 /// - `t`: a tick; `z <k>`: a local reset of slave `k`; `cut <k> 1`, `cut <k> 0`, `app <name>`, and `end`;
 /// - `p <k> <hex>`: data of slave `k`, exactly as many bytes as it sends; `h <k> 0`, `h <k> 1`: its fail-safe data off,
 ///   on;
 /// - `n <k> m <id>`, `n <k> s <id>`: a session id of 16 bits of the master or the slave of connection `k`.
-#[tactic(auto, using(crate::proofs::Names::fields_fit, crate::proofs::ScriptFits::put_fits, crate::proofs::ScriptFits::nonce_fits))]
+#[tactic(auto, using(crate::proofs::ScriptFits::put_fits, crate::proofs::ScriptFits::nonce_fits, crate::proofs::ScriptFits::name_fits))]
 pub fn read_plant_event(line: &[u8], lengths: &[Lengths]) -> Result<PlantLine, LineCause>
     requires most { length line.now ≤ MAX_LINE }
     ensures value { result ≡ plant_line lengths.now line.now }
@@ -176,14 +140,30 @@ pub fn read_plant_event(line: &[u8], lengths: &[Lengths]) -> Result<PlantLine, L
 {
     let (first, fields) = cut(line);
     match read_plant_word(first) {
-        Some(PlantWord::Tick) => read_bare(fields, PlantLine::Step(PlantEvent::Tick)),
+        Some(PlantWord::Tick) => {
+            no_field(fields)?;
+            Ok(PlantLine::Step(PlantEvent::Tick))
+        }
         Some(PlantWord::Put) => read_put(fields, lengths),
-        Some(PlantWord::Hold) => read_hold(fields, lengths),
+        Some(PlantWord::Hold) => {
+            let (link, failsafe) = read_link_and_switch(fields, lengths)?;
+            Ok(PlantLine::Step(PlantEvent::Hold { link, failsafe }))
+        }
         Some(PlantWord::Local) => read_local(fields, lengths),
         Some(PlantWord::Nonce) => read_nonce(fields, lengths),
-        Some(PlantWord::Cut) => read_cut(fields, lengths),
-        Some(PlantWord::App) => read_app(fields),
-        Some(PlantWord::End) => read_bare(fields, PlantLine::End),
+        Some(PlantWord::Cut) => {
+            let (link, cut) = read_link_and_switch(fields, lengths)?;
+            Ok(PlantLine::Step(PlantEvent::Cut { link, cut }))
+        }
+        Some(PlantWord::App) => {
+            let mut name = LineBuf::new();
+            name.push_all(one_field(fields)?);
+            Ok(PlantLine::App(name))
+        }
+        Some(PlantWord::End) => {
+            no_field(fields)?;
+            Ok(PlantLine::End)
+        }
         None => Err(LineCause::Word),
     }
 }

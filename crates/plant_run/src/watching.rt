@@ -1,9 +1,10 @@
 //! The bounds that a plant's run watches.
-ghost use Rattle.std.specs.Prelude.{◌≡◌, ◌≤◌, ◌+◌, ◌++◌, [], IfOk, length, option_map};
+ghost use Rattle.std.specs.Prelude.{◌≡◌, ◌≢◌, ◌≤◌, ◌+◌, ◌++◌, [], All, IfOk, length, option_map};
+ghost use Rattle.std.specs.List.{AllZip};
 ghost use Rattle.plant_model.specs.BoundLines.{age_text, bit_text, broken_text, limit_of};
 ghost use Rattle.plant_model.specs.Pair.{link_at};
 ghost use Rattle.plant_core.specs.Standing.{seen};
-ghost use Rattle.plant_run.specs.Watching.{AreAged, CanHear, HasRoom, HearsLine, HearsOne, ShowsBound, reactions_by};
+ghost use Rattle.plant_run.specs.Watching.{AreAged, HasRoom, HearsOne, ShowsBound, watched_by};
 
 use failsafe_io::{Application, Bit};
 use fsoe_base::{End, Memory};
@@ -27,8 +28,8 @@ fn watchdog_at(links: &[LinkConf], link: u16) -> Option<u16>
 }
 
 /// The limit of a bound in ticks: twice both master watchdogs, or 0 if one of the connections doesn't exist.
-#[tactic(auto, using(crate::proofs::Watched::limit_both, crate::proofs::Watched::limit_none, crate::proofs::Watched::limit_less))]
-pub(crate) fn limit_of(links: &[LinkConf], bound: BoundSpec) -> u32
+#[tactic(auto, using(crate::proofs::Hearing::limit_both, crate::proofs::Hearing::limit_none, crate::proofs::Hearing::limit_less))]
+fn limit_of(links: &[LinkConf], bound: BoundSpec) -> u32
     ensures { result ≡ limit_of links.now bound }
 {
     let estop = watchdog_at(links, bound.estop.link);
@@ -39,22 +40,35 @@ pub(crate) fn limit_of(links: &[LinkConf], bound: BoundSpec) -> u32
     }
 }
 
-/// Creates a reaction for each of these bounds, which has observed nothing.
-pub(crate) fn reactions_made(
+/// A bound that a plant's run watches, with its limit and its reaction.
+#[derive(Drop)]
+pub(crate) struct Watched {
+    pub(crate) bound: BoundSpec,
+    pub(crate) limit: u32,
+    pub(crate) reaction: Reaction,
+}
+
+/// Watches these bounds, with reactions that have observed nothing.
+pub(crate) fn watched_made(
     alloc: Global,
     links: &[LinkConf],
     bounds: &[BoundSpec],
-) -> Result<Vec<Reaction>, Memory>
-    ensures { IfOk result (λ made. made.items ≡ reactions_by links.now (λ bound. []) bounds.now) }
+) -> Result<Vec<Watched>, Memory>
+    ensures { IfOk result (λ made. made.items ≡ watched_by links.now (λ bound. []) bounds.now) }
 {
     let Ok(mut made) = Vec::with_capacity(alloc, bounds.len()) else {
         return Err(Memory);
     };
     for i in 0..bounds.len() {
-        if made
-            .push(Reaction::new(limit_of(links, bounds[i])))
-            .is_err()
-        {
+        let bound = bounds[i];
+        let limit = limit_of(links, bound);
+        let reaction = Reaction::new(limit);
+        let watched = Watched {
+            bound,
+            limit,
+            reaction,
+        };
+        if made.push(watched).is_err() {
             return Err(Memory);
         }
     }
@@ -63,38 +77,29 @@ pub(crate) fn reactions_made(
 
 /// Updates a reaction after a line of the script, by whether the stop is active, and after a tick by whether the drive
 /// is on.
-#[tactic(auto, using(crate::proofs::Watched::tick_heard, crate::proofs::Watched::other_heard))]
-fn hear_one<A: Application>(
-    plant: &Plant<A>,
-    bound: &BoundSpec,
-    tick: bool,
-    reaction: &mut Reaction,
-)
-    requires { HasRoom reaction.old }
-    ensures { HearsOne (seen A.rule A.holds A.guards plant.now) bound.now tick reaction.old reaction.new }
+#[tactic(auto, using(crate::proofs::Hearing::tick_heard, crate::proofs::Hearing::other_heard))]
+fn hear_one<A: Application>(plant: &Plant<A>, tick: bool, watched: &mut Watched)
+    requires { HasRoom watched.old }
+    ensures { HearsOne (seen A.rule A.holds A.guards plant.now) tick watched.old watched.new }
 {
-    let still = plant.is_still(*bound);
+    let still = plant.is_still(watched.bound);
     if tick {
-        reaction.tick(plant.is_on(bound.drive));
-        reaction.quiet(still);
+        watched.reaction.tick(plant.is_on(watched.bound.drive));
+        watched.reaction.quiet(still);
     } else {
-        reaction.quiet(still);
+        watched.reaction.quiet(still);
     }
 }
 
-/// Updates the reactions of these bounds after a line of the script, which may be a tick. The plant did it.
-pub(crate) fn hear<A: Application>(
-    plant: &Plant<A>,
-    bounds: &[BoundSpec],
-    tick: bool,
-    reactions: &mut Vec<Reaction>,
-)
-    requires { CanHear reactions.old.items bounds.now }
-    ensures { HearsLine (seen A.rule A.holds A.guards plant.now) bounds.now tick reactions.old.items reactions.new.items }
+/// Updates the reactions of the bounds that are watched after a line of the script, which may be a tick. The plant did
+/// it.
+pub(crate) fn hear<A: Application>(plant: &Plant<A>, tick: bool, watched: &mut Vec<Watched>)
+    requires { All HasRoom watched.old.items }
+    ensures { AllZip (HearsOne (seen A.rule A.holds A.guards plant.now) tick) watched.old.items watched.new.items }
 {
-    let told = reactions.as_mut_slice();
-    for i in 0..bounds.len() {
-        hear_one(plant, &bounds[i], tick, &mut told[i]);
+    let all = watched.as_mut_slice();
+    for i in 0..all.len() {
+        hear_one(plant, tick, &mut all[i]);
     }
 }
 
@@ -145,7 +150,8 @@ pub(crate) fn write_bound<A: Application>(
     text: &mut LineText,
 )
     requires { AreAged plant.now.links bound }
-    ensures { ShowsBound (seen A.rule A.holds A.guards plant.now) bound limit broken text.new }
+    ensures shown { ShowsBound (seen A.rule A.holds A.guards plant.now) bound limit broken text.new }
+    ensures some { text.new ≢ [] }
 {
     text.clear();
     text.push_str("bound i");

@@ -1,5 +1,5 @@
 use Rattle.std.proofs.Common.{refl}
-use Rattle.plant_run.proofs.LinkLines.{line_shown}
+use Rattle.plant_run.proofs.Waiting.{line_shown}
 use Rattle.plant_run.proofs.machine.write_link.Goals as goal
 
 pub returns : goal.returns

@@ -1,6 +1,5 @@
 use Rattle.std.proofs.Common.{ap, ◌∙◌}
 use Rattle.plant_run.proofs.RanPlant.{left_so, ran_plant}
-use Rattle.plant_run.proofs.NextLine.{reported}
 use Rattle.plant_run.proofs.run.run_given.Goals as goal
 
 pub returns-clause-channel_stays : goal.returns-clause-channel_stays
@@ -11,7 +10,5 @@ returns-clause-plant_stays g c = left_so _ _ _ _ _ _ c.run_over.ensures.leaves (
 
 pub returns-clause-ran : goal.returns-clause-ran
 returns-clause-ran g c =
-    ran_plant _ _ c.run_over.result _ _ _ _ _ _ _ _ c.run_over.ensures.ran c.run_over.ensures.leaves
-    (λ same. (ap (λ given. g.C.Channel.told given.channel.now) same, ap (λ given. given.plant.now.journal) same ∙ c.requires))
-    (λ h log text stands. (_, stands.1.2))
-    (λ acts journal_is watched h log text ended closes. reported _ _ _ _ _ _ h log text ended acts journal_is watched closes)
+    ran_plant _ _ c.run_over.result _ _ _ _ _ _ _ c.run_over.ensures.ran c.run_over.ensures.leaves
+    (λ same. (ap (λ given. g.C.Channel.told given.channel.now) same, ap (λ given. given.plant.now.journal) same ∙ c.requires)) (λ h log text stands. (_, stands.1.2))

@@ -8,6 +8,5 @@ returns-clause-ends g c = λ first h log lines stands. rw c.ended_with.ensures (
 
 pub returns-clause-closes : goal.returns-clause-closes
 returns-clause-closes g c = λ first h log lines n stands.
-    closed _ _ _ _ _ _ c.args.self.now.ticks h log lines c.other_of-other.result _ c.args.given.now.conf.now _ stands.2 c.other_of-other.ensures
-    (c.push_other.ensures.text ∙ ap (λ (z : List ℕ). z ++ other_line c.other_of-other.result) c.write_count.ensures.text) (ap (λ conf. conf.now.links) stands.1)
-    (ap (λ conf. conf.now.bounds) stands.1) c.ended_with.ensures
+    closed _ _ _ _ _ _ c.args.self.now.ticks h log lines c.other_of-other.result _ _ _ stands.2 c.other_of-other.ensures
+    (c.push_other.ensures.text ∙ ap (λ (z : List ℕ). z ++ other_line c.other_of-other.result) c.write_count.ensures.text) (ap (λ conf. conf.now.links) stands.1) c.ended_with.ensures

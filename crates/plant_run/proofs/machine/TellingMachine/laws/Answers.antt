@@ -1,10 +1,10 @@
 use Rattle.plant_run.proofs.Common.{Start}
 use Rattle.std.proofs.Common.{[], ◌∷◌, refl}
-use Rattle.plant_run.proofs.Scripted.{plant_ends, plant_so_far, some_plant_report}
+use Rattle.plant_run.proofs.Scripted.{plant_ends, plant_so_far, some_report}
 use Rattle.plant_run.proofs.machine.TellingMachine.laws.Goals as goal
 
 pub returns-clause-some : goal.returns-clause-some
-returns-clause-some g c = λ given bytes. some_plant_report (record { begins = record { links = given.conf.now.links; app = _; seed = given.conf.now.seed }; bounds = given.conf.now.bounds; spare = _ }) bytes
+returns-clause-some g c = λ given bytes. some_report (record { begins = record { links = given.conf.now.links; app = _; seed = given.conf.now.seed }; bounds = given.conf.now.bounds; spare = _ }) _
 
 pub returns-clause-headless : goal.returns-clause-headless
 returns-clause-headless g c = λ handed number why. (Start ∷ [], refl, refl, refl, refl)

@@ -1,43 +1,44 @@
-use Rattle.plant_run.proofs.Common.{err_from_is_err_and, waiting}
-use Rattle.std.proofs.Common.{◌++◌, ap, ap₂, arith, refl, sym, ◌∙◌}
+use Rattle.plant_run.proofs.Common.{err_from_is_err_and, link_lines}
+use Rattle.std.proofs.Common.{List, [], ℕ, ◌++◌, ap, ap₂, arith, refl, sym, ◌∙◌}
 use Rattle.fb_net.specs.contracts.kind_of.KindOfApplication.TheImpl.{ghosts, no_dict}
 use Rattle.multi_master.specs.Standing.{app_view}
 use Rattle.plant_model.specs.declared.event.PlantLine.TheVariants as line
-use Rattle.plant_model.specs.declared.event.PlantEvent.TheVariants as event
-use Rattle.plant_run.proofs.Hearing.{can_hear, heard_same}
-use Rattle.plant_run.proofs.NextLine.{app_stopped, goes_on, nothing_at, nothing_written, same_count, says_app, step_fits}
+use Rattle.plant_run.proofs.Hearing.{can_hear}
+use Rattle.plant_run.proofs.NextLine.{app_stopped, goes_on, says_app, step_fits}
 use Rattle.plant_run.proofs.machine.TellingMachine.report.Goals as goal
 
 pub step-requires : goal.step-requires
 step-requires g c = record { fits = step_fits _ _ _ _ _ _ _ _ _ _ c.in-Step.event c.requires.1.stands.2 (rw c.in-Step.is at c.requires.1.said) }
 
 pub hear-requires : goal.hear-requires
-hear-requires g c = can_hear _ _ _ _ _ _ _ _ _ _ _ c.requires.1.stands.2 (omega (arith, c.requires.1.number_is, c.requires.1.few)) (sym (c.bounds-bounds.ensures.value ∙ ap (λ conf. conf.now.bounds) c.requires.1.stands.1))
+hear-requires g c = can_hear _ _ _ _ _ _ _ _ _ _ c.requires.1.stands.2 (omega (arith, c.requires.1.number_is, c.requires.1.few))
 
 pub hear-requires-in-App : goal.hear-requires-in-App
-hear-requires-in-App g c = can_hear _ _ _ _ _ _ _ _ _ _ _ c.requires.1.stands.2 (omega (arith, c.requires.1.number_is, c.requires.1.few)) (sym (c.bounds-bounds.ensures.value ∙ ap (λ conf. conf.now.bounds) c.requires.1.stands.1))
+hear-requires-in-App g c = can_hear _ _ _ _ _ _ _ _ _ _ c.requires.1.stands.2 (omega (arith, c.requires.1.number_is, c.requires.1.few))
 
-pub returns-in-Tick-clause-takes_event : goal.returns-in-Tick-clause-takes_event
-returns-in-Tick-clause-takes_event g c = λ first. record {
-  takes = λ h log text number stands. (
-    stands.0,
-    stands.1,
-    goes_on _ _ _ _ _ _ _ _ _ _ _ _ h log text _ c.args.event.now (line.Step event.Tick) _ (c.in-Step.is ∙ ap line.Step c.in-Tick.is) stands.2 (rw c.in-Tick.is at c.in-Ok.ensures.follows) c.step.ensures.fixed
-        (heard_same _ _ _ _ _ _ (c.bounds-bounds.ensures.value ∙ ap (λ conf. conf.now.bounds) stands.1) (rw (c.is_tick.ensures, c.in-Tick.is) at c.hear.ensures)) (λ more. refl) refl
-        (ap₂ (λ text links. text ++ waiting 1 links c.step.new.self.journal) c.write_count.ensures.text (ap (λ conf. conf.now.links) stands.1)),
-  );
-}
+pub returns-then-tick-clause-takes_event : goal.returns-then-tick-clause-takes_event
+returns-then-tick-clause-takes_event g c =
+    let ticks = rw c.is_tick-tick.ensures at c.if-tick.true in
+    λ first. record {
+      takes = λ h log text number stands. (
+        stands.0,
+        stands.1,
+        goes_on _ _ _ _ _ _ _ _ _ _ _ _ h log text _ c.args.event.now (line.Step c.in-Step.event) _ c.in-Step.is stands.2 c.in-Ok.ensures.follows c.step.ensures.fixed (rw c.is_tick-tick.ensures at c.hear.ensures) (λ more. refl) (rw ticks refl)
+            (rw ticks (ap₂ (λ text links. text ++ link_lines 1 links c.step.new.self.journal) c.write_count.ensures.text (ap (λ conf. conf.now.links) stands.1))),
+      );
+    }
 
-pub returns-in_default-clause-takes_event : goal.returns-in_default-clause-takes_event
-returns-in_default-clause-takes_event g c = λ first. record {
-  takes = λ h log text number stands. (
-    stands.0,
-    stands.1,
-    goes_on _ _ _ _ _ _ _ _ _ _ _ _ h log text _ c.args.event.now (line.Step c.in-Step.event) _ c.in-Step.is stands.2 c.in-Ok.ensures.follows c.step.ensures.fixed
-        (heard_same _ _ _ _ _ _ (c.bounds-bounds.ensures.value ∙ ap (λ conf. conf.now.bounds) stands.1) (rw c.is_tick.ensures at c.hear.ensures)) (λ more. refl) (same_count c.in-Step.event c.args.self.now.ticks c.in_default.not-Tick)
-        (nothing_at c.in-Step.event c.args.self.now.ticks _ c.step.new.self.journal c.clear.new.self c.in_default.not-Tick c.clear.ensures),
-  );
-}
+pub returns-else-tick-clause-takes_event : goal.returns-else-tick-clause-takes_event
+returns-else-tick-clause-takes_event g c =
+    let quiet = rw c.is_tick-tick.ensures at c.if-tick.false in
+    λ first. record {
+      takes = λ h log text number stands. (
+        stands.0,
+        stands.1,
+        goes_on _ _ _ _ _ _ _ _ _ _ _ _ h log text _ c.args.event.now (line.Step c.in-Step.event) _ c.in-Step.is stands.2 c.in-Ok.ensures.follows c.step.ensures.fixed (rw c.is_tick-tick.ensures at c.hear.ensures) (λ more. refl) (rw quiet (omega arith))
+            (rw quiet (ap (λ (z : List ℕ). z ++ []) c.clear.ensures)),
+      );
+    }
 
 pub returns-in_ok-take_spare-in-App-clause-takes_event : goal.returns-in_ok-take_spare-in-App-clause-takes_event
 returns-in_ok-take_spare-in-App-clause-takes_event g c =
@@ -47,8 +48,8 @@ returns-in_ok-take_spare-in-App-clause-takes_event g c =
       takes = λ h log text number stands. (
         stands.0,
         stands.1,
-        goes_on _ _ _ _ _ _ _ _ _ _ _ _ h log text _ c.args.event.now (line.App c.bytes.result.now) _ (c.in-App.is ∙ ap line.App (sym c.bytes.ensures.value)) stands.2 (taken.2 _) c.take_spare.ensures.fixed
-            (heard_same _ _ _ _ _ _ (c.bounds-bounds.ensures.value ∙ ap (λ conf. conf.now.bounds) stands.1) c.hear-in-App.ensures) (says_app (app_view K.rule K.holds K.guards) c.bytes.result.now _ _ taken.0 taken.1) (omega arith) (nothing_written c.clear.new.self c.clear.ensures),
+        goes_on _ _ _ _ _ _ _ _ _ _ _ _ h log text _ c.args.event.now (line.App c.bytes.result.now) _ (c.in-App.is ∙ ap line.App (sym c.bytes.ensures.value)) stands.2 (taken.2 _) c.take_spare.ensures.fixed c.hear-in-App.ensures
+            (says_app (app_view K.rule K.holds K.guards) c.bytes.result.now _ _ taken.0 taken.1) (omega arith) (ap (λ (z : List ℕ). z ++ []) c.clear.ensures),
       );
     }
 
