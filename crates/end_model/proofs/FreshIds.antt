@@ -1,6 +1,6 @@
 -- What a fresh session id excludes for certain, at a slave and at a master.
 use Rattle.end_model.proofs.Common.{Command, Deed, DifferInFront, EndsByCrcs, Frame, IsRun, IsValid, Link, MasterSettings, NotByStep, OfMaster, OfSlave, Profile, Setup, SlaveSettings, Valid, allowed, command_of, crc_0, first_of, fits, frame_of, has_conn, id_front, id_len, kept, length-take, nat_tests, newest_crc, nonce, own, parts, piece_len, receives, sends, session_id, since, slave_allows, state_of, step_in_last, taken, taken_link, verdict, whole}
-use Rattle.std.proofs.Common.{◌≡◌, ◌≢◌, ℕ, ◌<◌, ◌≤◌, nat_le, List, [], ◌∷◌, length, take, bit_xor, true, false, Option, Some, None, IsTrue, unwrap_or, sym, ap, ◌∙◌, arith, rules}
+use Rattle.std.proofs.Common.{◌≡◌, ◌≢◌, ℕ, ◌<◌, ◌≤◌, nat_le, List, [], ◌∷◌, length, take, bit_xor, Bool, true, false, Option, Some, None, IsTrue, unwrap_or, sym, ap, ◌∙◌, arith, rules}
 use Rattle.fsoe_base.specs.declared.command.State.TheVariants as state
 use Rattle.fsoe_base.specs.declared.command.Command.TheVariants as command
 use Rattle.fsoe_frame.proofs.Places as places
@@ -83,6 +83,12 @@ first_len ss e first id t =
 allowed_by_len : (ss : SlaveSettings) (e : List Deed) (first : List ℕ) (id : ℕ) (c : Command) → TookFirst ss e first id → allowed (OfSlave ss) e c ≡ slave_allows state.Session (nat_le (id_len ss.profile) (piece_len (OfSlave ss))) c
 allowed_by_len ss e first id c t = slave_allowed ss e first id c t ∙ ap (λ n. slave_allows state.Session (nat_le (id_len ss.profile) n) c) (first_len ss e first id t)
 
+next_allowed : (ss : SlaveSettings) (e : List Deed) (first bytes load : List ℕ) (c : Command) (whole : Bool) → IsRun (OfSlave ss) e → taken (since e) ≡ first ∷ [] → nat_le (id_len ss.profile) (piece_len (OfSlave ss)) ≡ whole
+    → c ≢ command.Reset → verdict (OfSlave ss) e bytes ≡ Valid c load → slave_allows state.Session whole c ≡ true
+next_allowed ss e first bytes load c whole r h is n v =
+    let t : (id : ℕ) × TookFirst ss e first id = took_first ss e first r h in
+    ap (λ b. slave_allows state.Session b c) (sym is) ∙ sym (allowed_by_len ss e first t.0 c t.1) ∙ (valid_is (OfSlave ss) e bytes c load n v).is_allowed
+
 after_whole : (c : Command) → slave_allows state.Session true c ≡ true → c ≡ command.Connection
 after_whole c h = grind arith
 
@@ -91,19 +97,11 @@ after_part c h = grind arith
 
 pub connection_next : (ss : SlaveSettings) (e : List Deed) (first bytes load : List ℕ) (c : Command) → IsRun (OfSlave ss) e → taken (since e) ≡ first ∷ [] → id_len ss.profile ≤ piece_len (OfSlave ss)
     → c ≢ command.Reset → verdict (OfSlave ss) e bytes ≡ Valid c load → c ≡ command.Connection
-connection_next ss e first bytes load c r h room n v =
-    let t : (id : ℕ) × TookFirst ss e first id = took_first ss e first r h in
-    let valid : IsValid (OfSlave ss) e bytes c load = valid_is (OfSlave ss) e bytes c load n v in
-    let done : nat_le (id_len ss.profile) (piece_len (OfSlave ss)) ≡ true = grind (arith, nat_tests) in
-    after_whole c (ap (λ b. slave_allows state.Session b c) (sym done) ∙ sym (allowed_by_len ss e first t.0 c t.1) ∙ valid.is_allowed)
+connection_next ss e first bytes load c r h room n v = after_whole c (next_allowed ss e first bytes load c true r h (grind (arith, nat_tests)) n v)
 
 pub session_next : (ss : SlaveSettings) (e : List Deed) (first bytes load : List ℕ) (c : Command) → IsRun (OfSlave ss) e → taken (since e) ≡ first ∷ [] → piece_len (OfSlave ss) < id_len ss.profile
     → c ≢ command.Reset → verdict (OfSlave ss) e bytes ≡ Valid c load → c ≡ command.Session
-session_next ss e first bytes load c r h short n v =
-    let t : (id : ℕ) × TookFirst ss e first id = took_first ss e first r h in
-    let valid : IsValid (OfSlave ss) e bytes c load = valid_is (OfSlave ss) e bytes c load n v in
-    let part : nat_le (id_len ss.profile) (piece_len (OfSlave ss)) ≡ false = grind (arith, nat_tests) in
-    after_part c (ap (λ b. slave_allows state.Session b c) (sym part) ∙ sym (allowed_by_len ss e first t.0 c t.1) ∙ valid.is_allowed)
+session_next ss e first bytes load c r h short n v = after_part c (next_allowed ss e first bytes load c false r h (grind (arith, nat_tests)) n v)
 
 -- the Reset frame that a master keeps isn't an answer
 not_kept : (ms : MasterSettings) (e : List Deed) (bytes : List ℕ) (id : ℕ) (c : Command) → SentFirst ms e id → c ≢ command.Reset → command_of (parts (OfMaster ms) bytes).cmd ≡ Some c → kept (since e) ≢ Some bytes

@@ -1,5 +1,5 @@
 -- A block of a net that is stepped.
-use Rattle.fb_net.proofs.Common.{BlockFollows, BlockGives, BlockSpec, BlockStands, BlockView, Cycle, IsReady, follows_by, given, gives_by, next_block, next_held, stepped, takes, told, wire_value}
+use Rattle.fb_net.proofs.Common.{BlockFollows, BlockGives, BlockSpec, BlockStands, BlockView, Cycle, IsReady, follows_by, given, gives_by, next_block, next_held, stepped, told, wire_value}
 use Rattle.std.proofs.Common.{◌≡◌, ℕ, ◌<◌, Bool, List, ◌∷◌, map, refl, sym, ◌∙◌, rules}
 
 -- a block that stands for some cycles is stepped as its contract says

@@ -1,6 +1,6 @@
 -- The lines of a header that were read.
-use Rattle.file_run.proofs.Common.{Consumes, Err, FindsHeading, Goes, Halt, HaltsHeader, IfSome, InputCause, InputFormat, IsHeaderCutOff, IsLine, IsTrue, IsWholeHeader, NoLine, Ok, Option, Refused, Result, Stop, WholeHeaderOf, append-nil, common_steps, consumes_then, first_line, header_in, header_read, header_step, heading_by, input_cause, lines_of}
-use Rattle.std.proofs.Common.{◌≡◌, ℕ, ◌+◌, Bool, true, false, List, [], ◌∷◌, ◌++◌, refl, ap, ◌∙◌, sym, subst, arith}
+use Rattle.file_run.proofs.Common.{Consumes, Err, FindsHeading, Goes, Halt, HaltsHeader, IfSome, InputCause, InputFormat, IsHeaderCutOff, IsLine, IsTrue, IsWholeHeader, NoLine, Ok, Option, Refused, Result, append-nil, common_steps, consumes_then, first_line, header_in, header_read, heading_by, input_cause, lines_of}
+use Rattle.std.proofs.Common.{◌≡◌, ℕ, ◌+◌, Bool, true, false, List, [], ◌∷◌, ◌++◌, ap, ◌∙◌, sym, subst, arith, if◌then◌else◌}
 use Rattle.file_run.specs.declared.halt.Halt.TheVariants as halt
 use Rattle.file_run.proofs.Lines.{lines_whole}
 
@@ -14,44 +14,28 @@ pub record HeaderSeen {H L E : Type 0} (f : InputFormat H L E) (h : H) (lines : 
 pub header_none : {H L E : Type 0} (f : InputFormat H L E) (h : H) (left : Option (List ℕ)) → h ≡ f.start → HeaderSeen f h 0 left left
 header_none f h left k = grind arith
 
-said : {H L E : Type 0} (f : InputFormat H L E) (h : H) (lines : ℕ) (taken text more : List ℕ) → ((more : List ℕ) → header_read f (taken ++ more) ≡ header_in f (lines + 1) h (lines_of more)) → IsLine text
-    → header_read f ((taken ++ (text ++ 10 ∷ [])) ++ more)
-    ≡ header_step f.is_whole (lines + 1) (lines_of more) (λ next. header_in f (lines + 1 + 1) next (lines_of more)) (f.header_line h text)
-said f h lines taken text more k l = grind (arith, common_steps, lines_whole)
-
-step_on : {H : Type 0} (is_whole : H → Bool) (number : ℕ) (rest : List (Result (List ℕ) InputCause)) (go_on : H → Result (WholeHeaderOf H) Stop) (next : H) → is_whole next ≡ false → header_step is_whole number rest go_on (Ok next) ≡ go_on next
-step_on is_whole number rest go_on next e = rw e refl
-
-step_done : {H : Type 0} (is_whole : H → Bool) (number : ℕ) (rest : List (Result (List ℕ) InputCause)) (go_on : H → Result (WholeHeaderOf H) Stop) (next : H) → is_whole next ≡ true
-    → header_step is_whole number rest go_on (Ok next) ≡ Ok (record { heading = next; lines = number; rest = rest })
-step_done is_whole number rest go_on next e = rw e refl
+-- what is read where a line more is taken: the header is whole, or goes on
+said : {H L E : Type 0} (f : InputFormat H L E) (h next : H) (lines now : ℕ) (taken text more : List ℕ) (whole : Bool) → ((more : List ℕ) → header_read f (taken ++ more) ≡ header_in f (lines + 1) h (lines_of more)) → IsLine text
+    → f.header_line h text ≡ Ok next → f.is_whole next ≡ whole → now ≡ lines + 1
+    → header_read f ((taken ++ (text ++ 10 ∷ [])) ++ more) ≡ (if whole then Ok (record { heading = next; lines = now; rest = lines_of more }) else header_in f (now + 1) next (lines_of more))
+said f h next lines now taken text more whole k l e is count = grind (arith, common_steps, lines_whole)
 
 -- a line more, after which the header goes on
 pub header_line : {H L E : Type 0} (f : InputFormat H L E) (h next : H) (lines now : ℕ) (a b c : Option (List ℕ)) (text : List ℕ) → HeaderSeen f h lines a b → IsLine text → Consumes b c (text ++ 10 ∷ [])
     → f.header_line h text ≡ Ok next → f.is_whole next ≡ false → now ≡ lines + 1 → HeaderSeen f next now a c
-header_line {H = H} f h next lines now a b c text seen is goes e open_ count = record {
+header_line f h next lines now a b c text seen is goes e open_ count = record {
   taken = seen.taken ++ (text ++ 10 ∷ []);
   goes = consumes_then a b c seen.taken (text ++ 10 ∷ []) seen.goes goes;
-  says = λ more.
-      let go_on : H → Result (WholeHeaderOf H) Stop = λ x. header_in f (lines + 1 + 1) x (lines_of more) in
-      said f h lines seen.taken text more seen.says is
-      ∙ ap (header_step f.is_whole (lines + 1) (lines_of more) go_on) e
-      ∙ step_on f.is_whole (lines + 1) (lines_of more) go_on next open_
-      ∙ ap (λ (k : ℕ). header_in f (k + 1) next (lines_of more)) (sym count);
+  says = λ more. said f h next lines now seen.taken text more false seen.says is e open_ count;
 }
 
 -- the last line, which ends the header
 pub header_done : {H L E : Type 0} (f : InputFormat H L E) (h next : H) (lines now : ℕ) (a b c : Option (List ℕ)) (text : List ℕ) → HeaderSeen f h lines a b → IsLine text → Consumes b c (text ++ 10 ∷ [])
     → f.header_line h text ≡ Ok next → f.is_whole next ≡ true → now ≡ lines + 1 → IsWholeHeader f next now a c
-header_done {H = H} f h next lines now a b c text seen is goes e done count = record {
+header_done f h next lines now a b c text seen is goes e done count = record {
   taken = seen.taken ++ (text ++ 10 ∷ []);
   goes = consumes_then a b c seen.taken (text ++ 10 ∷ []) seen.goes goes;
-  says = λ more.
-      let go_on : H → Result (WholeHeaderOf H) Stop = λ x. header_in f (lines + 1 + 1) x (lines_of more) in
-      said f h lines seen.taken text more seen.says is
-      ∙ ap (header_step f.is_whole (lines + 1) (lines_of more) go_on) e
-      ∙ step_done f.is_whole (lines + 1) (lines_of more) go_on next done
-      ∙ ap (λ (k : ℕ). Ok (record { heading = next; lines = k; rest = lines_of more })) (sym count);
+  says = λ more. said f h next lines now seen.taken text more true seen.says is e done count;
 }
 
 -- a line of the header is refused

@@ -49,11 +49,12 @@ pub use Rattle.schedule_file.specs.NodeHeader.{is_end_line, kind_after, may_end,
 pub use Rattle.schedule_file.specs.declared.line_cause.LineCause.{LineCause}
 pub use Rattle.std.proofs.lemmas.Bool.Decides.{nat_tests}
 pub use Rattle.std.proofs.lemmas.Grind.{common_steps}
-pub use Rattle.std.proofs.lemmas.List.{append-nil, length-append, length-replicate, length-set, length-take, length-take-le, reverse-append, take_more}
-pub use Rattle.std.proofs.lemmas.List.Elements.{All-cons, All-head, All-nil, All-push, All-tail}
-pub use Rattle.std.proofs.lemmas.Option.{slice_get-get_or, slice_get_read}
-pub use Rattle.std.proofs.lemmas.Slice.Zip.{AllZip-long, all_zipped_more}
+pub use Rattle.std.proofs.lemmas.List.{append-nil, length-append, length-replicate, length-set, length-take, length-take-le, reverse-append, take_all, take_more}
+pub use Rattle.std.proofs.lemmas.List.Elements.{All-cons, All-get_or, All-head, All-nil, All-push, All-tail}
+pub use Rattle.std.proofs.lemmas.Option.{get_or_from_slice_get, slice_get-get_or, slice_get-map, slice_get_read, slice_get_within}
+pub use Rattle.std.proofs.lemmas.Slice.Zip.{AllZip-long, AllZip-right, all_zipped_more}
+pub use Rattle.std.proofs.Math.Seq.{map-set_same}
 pub use Rattle.std.specs.Cmp.Lexicographic.{pointwise, same_text}
 pub use Rattle.std.specs.List.{AllZip, list_any}
-pub use Rattle.std.specs.Prelude.{All, Err, IfOk, IsTrue, None, Ok, Option, Result, Some, codes, nat_le, not, option_map, slice_index}
+pub use Rattle.std.specs.Prelude.{All, Err, IfOk, IsSomeAnd, IsTrue, None, Ok, Option, Result, Some, codes, nat_le, not, option_map, slice_index}
 pub use Rattle.std.specs.Str.{bytes_eq}

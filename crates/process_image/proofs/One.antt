@@ -1,15 +1,14 @@
 -- A call that is a move of one slot, or of none.
-use Rattle.process_image.proofs.Common.{All-head, All-tail, AllZip, AreNumbered, Core, Did, Follows, ImageEvent, ImagesView, IsAtRest, IsSeatOf, IsSeatStep, IsSoundSeat, Move, Place, Seat, SeatStep, after_steps, contents, if_named, input, move_in, nat_tests, nothing, sampled, setup_of, with_bytes, with_sent}
-use Rattle.std.proofs.Common.{◌≡◌, ◌<◌, ℕ, zero, suc, ◌+◌, ◌==◌, List, [], ◌∷◌, map, slice_get, slice_set, All, Some, None, Bool, true, false, if◌then◌else◌, refl, sym, ap, subst, ◌∙◌, arith}
+use Rattle.process_image.proofs.Common.{All-head, All-tail, AllZip, AreNumbered, Core, Did, Follows, ImageEvent, ImagesView, IsAtRest, IsSeatOf, IsSeatStep, IsSoundSeat, Move, Place, Seat, SeatStep, after_steps, contents, if_named, input, move_in, nat_tests, sampled, setup_of, with_bytes, with_sent}
+use Rattle.std.proofs.Common.{◌≡◌, ◌<◌, ℕ, zero, suc, ◌+◌, ◌==◌, List, [], ◌∷◌, map, slice_get, slice_set, All, Some, None, true, false, if◌then◌else◌, refl, sym, ap, subst, ◌∙◌, arith}
 use Rattle.param_load.specs.declared.entry.Move.TheVariants as move
 use Rattle.end_core.specs.Standing as end_core
 use Rattle.process_image.specs.declared.event.ImageEvent.TheVariants as event
 use Rattle.process_image.proofs.Following.{IsPart, stands_more}
 use Rattle.process_image.proofs.Seats.{stays, still}
-use Rattle.process_image.proofs.Zips.{all_at}
 
 -- a call after which the slots have seen what they saw before
-abbrev Unsampled : ℕ → List ImageEvent → ImageEvent → Type 0
+abbrev pub Unsampled : ℕ → List ImageEvent → ImageEvent → Type 0
 Unsampled size calls call = sampled size (call ∷ calls) ≡ sampled size calls
 
 still-part : (size si so : ℕ) (calls : List ImageEvent) (call : ImageEvent) (p : Place) (seat : Seat) → IsSeatOf size calls p seat → IsSoundSeat si so seat → move_in size p calls call ≡ None
@@ -56,7 +55,7 @@ one_moves zero (seat ∷ seats) x = x ∷ map still seats
 one_moves (suc k) (seat ∷ seats) x = still seat ∷ one_moves k seats x
 
 -- a call that names a slot
-abbrev Names : ImageEvent → ℕ → Move → Type 0
+abbrev pub Names : ImageEvent → ℕ → Move → Type 0
 Names call slot what = (size : ℕ) (p : Place) (calls : List ImageEvent) → move_in size p calls call ≡ if_named slot p what
 
 other : (slot : ℕ) (p : Place) (what : Move) (n : ℕ) → p.number ≡ n → slot < n → if_named slot p what ≡ None
@@ -122,10 +121,10 @@ one-out si so (suc k) (seat ∷ seats) x image s at =
     ∙ ap (after_steps (one_moves k seats x)) (stays si so seat image (All-head (IsSoundSeat si so) seat seats s))
 
 -- one slot moves, and the input image stays
-one-follows : (si so k slot : ℕ) (what : Move) (call : ImageEvent) (old new : ImagesView) (x : SeatStep) → All (IsSoundSeat si so) old.seats → slot ≡ 1 + k → slice_get old.seats k ≡ Some x.old
+pub one_follows : (si so k slot : ℕ) (what : Move) (call : ImageEvent) (old new : ImagesView) (x : SeatStep) → All (IsSoundSeat si so) old.seats → slot ≡ 1 + k → slice_get old.seats k ≡ Some x.old
     → IsNamedStep what x → Names call slot what → ((size : ℕ) (calls : List ImageEvent) → Unsampled size calls call) → ((size : ℕ) (calls : List ImageEvent) → input size (call ∷ calls) ≡ input size calls)
     → new.seats ≡ slice_set old.seats k x.new → new.input ≡ old.input → new.output ≡ with_sent x.old x.sent old.output → Follows old call new
-one-follows si so k slot what call old new x s e at x-is names same unwritten seats now out = record {
+one_follows si so k slot what call old new x s e at x-is names same unwritten seats now out = record {
   stands = λ plan calls h.
       stands_more plan old new calls call (one_moves k old.seats x) h
       (one-parts plan.size_in si so 1 k slot what calls call plan.places old.seats x h.slots s h.made.numbers e at x-is names (same plan.size_in calls))
@@ -142,34 +141,16 @@ pub record Moved (what : Move) (old : Seat) (end : Core) (did : Did) (sent : Lis
 abbrev pub step_to : Move → Seat → Core → Did → List ℕ → SeatStep
 step_to what old end did sent = record { old = old; what = Some what; did = did; sent = sent; new = record old { core = end } }
 
-named-step : (what : Move) (old : Seat) (end : Core) (did : Did) (sent : List ℕ) → Moved what old end did sent → IsNamedStep what (step_to what old end did sent)
-named-step what old end did sent m = record {
+pub named_step : (what : Move) (old : Seat) (end : Core) (did : Did) (sent : List ℕ) → Moved what old end did sent → IsNamedStep what (step_to what old end did sent)
+named_step what old end did sent m = record {
   is = record { makes = (m.follows, m.answers); at_in_is = refl; at_out_is = refl; len_out_is = refl; seen_len = refl; setup = m.setup; rest = m.rest };
   what_is = refl;
   seen_is = refl;
 }
 
-pub put_follows : (si so k slot : ℕ) (load : List ℕ) (old new : ImagesView) (seat : Seat) (end : Core) → All (IsSoundSeat si so) old.seats → slot ≡ 1 + k → slice_get old.seats k ≡ Some seat
-    → Moved (move.Put load) seat end nothing [] → new.seats ≡ slice_set old.seats k (record seat { core = end }) → new.input ≡ old.input → new.output ≡ old.output → Follows old (event.Put slot load) new
-put_follows si so k slot load old new seat end s e at m seats now out =
-    one-follows si so k slot (move.Put load) (event.Put slot load) old new (step_to (move.Put load) seat end nothing []) s e at (named-step (move.Put load) seat end nothing [] m)
-    (λ size p calls. refl) (λ size calls. refl) (λ size calls. refl) seats now (out ∙ stays si so seat old.output (all_at (IsSoundSeat si so) old.seats k seat s at))
-
-pub hold_follows : (si so k slot : ℕ) (failsafe : Bool) (old new : ImagesView) (seat : Seat) (end : Core) → All (IsSoundSeat si so) old.seats → slot ≡ 1 + k → slice_get old.seats k ≡ Some seat
-    → Moved (move.Hold failsafe) seat end nothing [] → new.seats ≡ slice_set old.seats k (record seat { core = end }) → new.input ≡ old.input → new.output ≡ old.output → Follows old (event.Hold slot failsafe) new
-hold_follows si so k slot failsafe old new seat end s e at m seats now out =
-    one-follows si so k slot (move.Hold failsafe) (event.Hold slot failsafe) old new (step_to (move.Hold failsafe) seat end nothing []) s e at (named-step (move.Hold failsafe) seat end nothing [] m)
-    (λ size p calls. refl) (λ size calls. refl) (λ size calls. refl) seats now (out ∙ stays si so seat old.output (all_at (IsSoundSeat si so) old.seats k seat s at))
-
-pub nonce_follows : (si so k slot : ℕ) (id : ℕ) (old new : ImagesView) (seat : Seat) (end : Core) → All (IsSoundSeat si so) old.seats → slot ≡ 1 + k → slice_get old.seats k ≡ Some seat
-    → Moved (move.Nonce id) seat end nothing [] → new.seats ≡ slice_set old.seats k (record seat { core = end }) → new.input ≡ old.input → new.output ≡ old.output → Follows old (event.Nonce slot id) new
-nonce_follows si so k slot id old new seat end s e at m seats now out =
-    one-follows si so k slot (move.Nonce id) (event.Nonce slot id) old new (step_to (move.Nonce id) seat end nothing []) s e at (named-step (move.Nonce id) seat end nothing [] m)
-    (λ size p calls. refl) (λ size calls. refl) (λ size calls. refl) seats now (out ∙ stays si so seat old.output (all_at (IsSoundSeat si so) old.seats k seat s at))
-
 pub reset_follows : (si so k slot : ℕ) (old new : ImagesView) (seat : Seat) (end : Core) (did : Did) (sent : List ℕ) → All (IsSoundSeat si so) old.seats → slot ≡ 1 + k
     → slice_get old.seats k ≡ Some seat → Moved move.Local seat end did sent → new.seats ≡ slice_set old.seats k (record seat { core = end }) → new.input ≡ old.input
     → new.output ≡ with_sent seat sent old.output → Follows old (event.Reset slot) new
 reset_follows si so k slot old new seat end did sent s e at m seats now out =
-    one-follows si so k slot move.Local (event.Reset slot) old new (step_to move.Local seat end did sent) s e at (named-step move.Local seat end did sent m)
+    one_follows si so k slot move.Local (event.Reset slot) old new (step_to move.Local seat end did sent) s e at (named_step move.Local seat end did sent m)
     (λ size p calls. refl) (λ size calls. refl) (λ size calls. refl) seats now out

@@ -1,9 +1,10 @@
 -- What is shown of one slot.
 use Rattle.process_image.proofs.Common.{AnswersReset, Deed, Did, ImagesView, IsSeatOf, IsSoundSeat, Place, Seat, Setup, ShowsAt, bytes_at, deeds, entry_told, frame_len, frame_of, last_frame, numbered, output, sends, setup_is, setup_of, setups_of, told_line}
-use Rattle.std.proofs.Common.{◌≡◌, ◌-◌, ℕ, zero, suc, arith, Bool, true, false, List, [], ◌∷◌, map, slice_get, Option, Some, IfSome, option_map, sym, ap, ◌∙◌}
+use Rattle.std.proofs.Common.{◌≡◌, ℕ, suc, arith, Bool, true, false, List, [], slice_get, Option, Some, IfSome, option_map, sym, ap, subst, ◌∙◌}
 use Rattle.std.specs.Prelude.{if◌then◌else◌}
 use Rattle.param_load.specs.declared.entry.Move.TheVariants as move
 use Rattle.end_core.specs.Standing as end_core
+use Rattle.process_image.proofs.Counts.{at_setup}
 use Rattle.process_image.proofs.Frames.{holds_frames}
 use Rattle.process_image.proofs.Giving.{len_at}
 use Rattle.process_image.proofs.Zips.{all_at, at_place}
@@ -27,13 +28,8 @@ reset_answers v slot place seat did sent n at a = record {
 }
 
 -- what is known of the setup of the end of a slot
-named-setup : (seats : List Seat) (k : ℕ) (seat : Seat) (P : Setup → Type 0) → slice_get seats k ≡ Some seat → P (setup_of seat.core) → IfSome (slice_get (map (λ s. setup_of s.core) seats) k) P
-named-setup [] k seat P at h = absurd (cc at)
-named-setup (x ∷ seats) zero seat P at h = let i : x ≡ seat = cc in rw i h
-named-setup (x ∷ seats) (suc k) seat P at h = named-setup seats k seat P at h
-
 pub named_at : (v : ImagesView) (slot place : ℕ) (seat : Seat) (P : Setup → Type 0) → slot ≡ suc place → slice_get v.seats place ≡ Some seat → P (setup_of seat.core) → IfSome (numbered slot (setups_of v)) P
-named_at v slot place seat P n at h = rw n (named-setup v.seats place seat P at h)
+named_at v slot place seat P n at h = rw n (subst (λ o. IfSome o P) (sym (at_setup v.seats place seat at)) h)
 
 -- the last frame of a slot is what stands in its place
 pub frame_shown : (v : ImagesView) (si so slot place : ℕ) (seat : Seat) (shown : List ℕ) → IsSoundSeat si so seat → slot ≡ suc place → slice_get v.seats place ≡ Some seat → shown ≡ bytes_at seat.at_out seat.len_out v.output

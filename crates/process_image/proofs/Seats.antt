@@ -1,7 +1,7 @@
 -- One slot at a sample and at a tick.
 use Rattle.process_image.proofs.Common.{AddsLine, Answers, Core, Did, Does, IsAtRest, IsLineOf, IsSampleStep, IsSoundSeat, IsTickStep, Move, Seat, SeatStep, Shows, Tells, answer_in, append-nil, bytes_at, common_steps, delivery, did_in, entry_told, frame_len, nothing, pointwise, same_text, seat_contents, sends, setup_of, told_by, with_bytes, with_sent}
 use Rattle.end_core.specs.Standing.{Follows}
-use Rattle.std.proofs.Common.{◌≡◌, ℕ, ◌+◌, ◌-◌, ◌==◌, ◌≤◌, List, [], length, Option, Some, None, option_map, true, false, if◌then◌else◌, nat_eq, refl, sym, ap, subst, ◌∙◌, arith, rules}
+use Rattle.std.proofs.Common.{◌≡◌, ℕ, ◌+◌, ◌==◌, ◌≤◌, List, [], length, Option, Some, None, option_map, true, false, if◌then◌else◌, nat_eq, refl, sym, ap, subst, ◌∙◌, arith, rules}
 use Rattle.param_load.specs.declared.entry.Move.TheVariants as move
 
 pub some_frame : (l : ℕ) → (0 == frame_len l) ≡ false
@@ -73,19 +73,17 @@ delivers size_out input old before after core did sent seen now s e h same f a s
 pub delivered : (input : List ℕ) (x : SeatStep) → IsSampleStep input x → pointwise nat_eq x.old.seen (seat_contents x.old input) ≡ false → x.what ≡ Some (move.Deliver (seat_contents x.old input))
 delivered input x q h = q.what_is ∙ ap (λ b. if b then None else Some (move.Deliver (seat_contents x.old input))) h
 
+-- the same step, of which something else is told
+retold : {T U : Type 0} {Q : SeatStep → Type 0} {tell : SeatStep → T} {tell' : SeatStep → U} {old new : Seat} {before after : List ℕ} {told : T} (d : Does Q tell old before new after told) (told' : U) → told' ≡ tell' d.step
+    → Does Q tell' old before new after told'
+retold d told' is = record { step = d.step; is = d.is; old_is = d.old_is; new_is = d.new_is; told_is = is; output_is = d.output_is }
+
 -- so a sample tells of it
 pub samples_some : (input : List ℕ) (old new : Seat) (before after : List ℕ) (did : Did) (sent : List ℕ) → Does (IsSampleStep input) answer_in old before new after (did, sent)
     → pointwise nat_eq old.seen (seat_contents old input) ≡ false → Does (IsSampleStep input) told_by old before new after (Some did)
 samples_some input old new before after did sent d h =
     let what : d.step.what ≡ Some (move.Deliver (seat_contents d.step.old input)) = delivered input d.step d.is (rw d.old_is h) in
-    record {
-      step = d.step;
-      is = d.is;
-      old_is = d.old_is;
-      new_is = d.new_is;
-      told_is = ap (λ (a : Did × List ℕ). Some a.0) d.told_is ∙ sym (ap (option_map (λ (what : Move). d.step.did)) what);
-      output_is = d.output_is;
-    }
+    retold d (Some did) (ap (λ (a : Did × List ℕ). Some a.0) d.told_is ∙ sym (ap (option_map (λ (what : Move). d.step.did)) what))
 
 -- a tick
 pub ticks : (old : Seat) (before after : List ℕ) (core : Core) (did : Did) (sent : List ℕ) → Follows old.core move.Tick core → Answers old.core move.Tick did sent
@@ -112,48 +110,34 @@ ticks old before after core did sent f a setup rest out = record {
 
 -- of which what the end did is told alone
 pub did_alone : (old new : Seat) (before after : List ℕ) (did : Did) (sent : List ℕ) → Does IsTickStep answer_in old before new after (did, sent) → Does IsTickStep did_in old before new after did
-did_alone old new before after did sent d = record {
-  step = d.step;
-  is = d.is;
-  old_is = d.old_is;
-  new_is = d.new_is;
-  told_is = ap (λ (a : Did × List ℕ). a.0) d.told_is;
-  output_is = d.output_is;
-}
+did_alone old new before after did sent d = retold d did (ap (λ (a : Did × List ℕ). a.0) d.told_is)
 
 -- a line that shows the end of a slot after a step
 shown-line : (number slot : ℕ) (new : Seat) (did : Did) (sent : List ℕ) (x : SeatStep) (line : List ℕ) → x.new ≡ new → (did, sent) ≡ answer_in x → Shows new.core line (entry_told number slot did sent)
     → Shows x.new.core line (entry_told number slot x.did x.sent)
 shown-line number slot new did sent x line h k l = grind arith
 
--- a line that shows what was done tells of the slot
-pub tells_sample : (input : List ℕ) (number slot : ℕ) (old new : Seat) (before after text text' : List ℕ) (did : Did) (sent : List ℕ) → Does (IsSampleStep input) answer_in old before new after (did, sent)
-    → pointwise nat_eq old.seen (seat_contents old input) ≡ false → AddsLine new.core (entry_told number slot did sent) text text' → Tells (IsSampleStep input) number slot old before text new after text'
-tells_sample input number slot old new before after text text' did sent d h a =
-    let what : d.step.what ≡ Some (move.Deliver (seat_contents d.step.old input)) = delivered input d.step d.is (rw d.old_is h) in
-    record {
-      step = d.step;
-      is = d.is;
-      old_is = d.old_is;
-      new_is = d.new_is;
-      output_is = d.output_is;
-      line = a.line;
-      line_is = subst (λ (o : Option Move). IsLineOf o number slot d.step a.line) (sym what) (shown-line number slot new did sent d.step a.line d.new_is d.told_is a.shows);
-      text_is = a.text_is;
-    }
-
-pub tells_tick : (number slot : ℕ) (old new : Seat) (before after text text' : List ℕ) (did : Did) (sent : List ℕ) → Does IsTickStep answer_in old before new after (did, sent)
-    → AddsLine new.core (entry_told number slot did sent) text text' → Tells IsTickStep number slot old before text new after text'
-tells_tick number slot old new before after text text' did sent d a = record {
+-- a line that shows what was done in a move tells of the slot
+tells : {Q : SeatStep → Type 0} (number slot : ℕ) (old new : Seat) (before after text text' : List ℕ) (did : Did) (sent : List ℕ) (what : Move) (d : Does Q answer_in old before new after (did, sent))
+    → d.step.what ≡ Some what → AddsLine new.core (entry_told number slot did sent) text text' → Tells Q number slot old before text new after text'
+tells number slot old new before after text text' did sent what d is a = record {
   step = d.step;
   is = d.is;
   old_is = d.old_is;
   new_is = d.new_is;
   output_is = d.output_is;
   line = a.line;
-  line_is = subst (λ (o : Option Move). IsLineOf o number slot d.step a.line) (sym d.is.what_is) (shown-line number slot new did sent d.step a.line d.new_is d.told_is a.shows);
+  line_is = subst (λ (o : Option Move). IsLineOf o number slot d.step a.line) (sym is) (shown-line number slot new did sent d.step a.line d.new_is d.told_is a.shows);
   text_is = a.text_is;
 }
+
+pub tells_sample : (input : List ℕ) (number slot : ℕ) (old new : Seat) (before after text text' : List ℕ) (did : Did) (sent : List ℕ) → Does (IsSampleStep input) answer_in old before new after (did, sent)
+    → pointwise nat_eq old.seen (seat_contents old input) ≡ false → AddsLine new.core (entry_told number slot did sent) text text' → Tells (IsSampleStep input) number slot old before text new after text'
+tells_sample input number slot old new before after text text' did sent d h a = tells number slot old new before after text text' did sent _ d (delivered input d.step d.is (rw d.old_is h)) a
+
+pub tells_tick : (number slot : ℕ) (old new : Seat) (before after text text' : List ℕ) (did : Did) (sent : List ℕ) → Does IsTickStep answer_in old before new after (did, sent)
+    → AddsLine new.core (entry_told number slot did sent) text text' → Tells IsTickStep number slot old before text new after text'
+tells_tick number slot old new before after text text' did sent d a = tells number slot old new before after text text' did sent move.Tick d d.is.what_is a
 
 -- contents that were seen aren't told of
 pub tells_none : (size_in size_out : ℕ) (input : List ℕ) (number slot : ℕ) (seat : Seat) (image text : List ℕ) → IsSoundSeat size_in size_out seat → pointwise nat_eq seat.seen (seat_contents seat input) ≡ true

@@ -1,26 +1,23 @@
 -- Images at which the end of one slot was called.
-use Rattle.process_image.proofs.Common.{Core, ImagesView, IsAtRest, IsSetting, IsSound, IsSoundSeat, Move, Seat, Setup, frame_len, length-set, nothing, numbered, receives, sends, set_answers, setup_of, setups_of}
-use Rattle.std.proofs.Common.{◌≡◌, ◌≤◌, ℕ, zero, suc, List, [], ◌∷◌, map, length, slice_get, slice_set, Some, IfSome, sym, ap, subst, ◌∙◌, rules}
+use Rattle.process_image.proofs.Common.{Core, Follows, HasSlot, ImageEvent, ImagesView, IsAtRest, IsSetting, IsSound, IsSoundSeat, Move, Seat, Setup, frame_len, input, length-set, nothing, numbered, receives, sends, set_answers, setup_of, setups_of}
+use Rattle.std.proofs.Common.{◌≡◌, ◌≤◌, ◌-◌, ℕ, suc, List, [], ◌∷◌, map, length, get_or, slice_get, slice_set, Some, IfSome, sym, ap, subst, ◌∙◌, arith, rules}
 use Rattle.end_core.specs.Standing as end_core
-use Rattle.process_image.proofs.One.{Moved}
+use Rattle.process_image.proofs.Counts.{at_setup, seat_there}
+use Rattle.process_image.proofs.One.{Moved, Names, Unsampled, named_step, one_follows, step_to}
+use Rattle.process_image.proofs.Seats.{stays}
 use Rattle.process_image.proofs.Zips.{all_at, all_set, map_set}
 
 -- a seat with another end in it
 abbrev pub with_end : Core → Seat → Seat
 with_end end seat = record seat { core = end }
 
--- a put, a hold and a nonce do nothing else and send nothing
-pub set_moved : (what : Move) (seat : Seat) (end : Core) → IsSetting what → end_core.Follows seat.core what end → setup_of end ≡ setup_of seat.core → IsAtRest end → Moved what seat end nothing []
-set_moved what seat end k f setup rest = record { follows = f; answers = set_answers seat.core what k; setup = setup; rest = rest }
+-- what is known of what a slot's end is set to, where the slot is named
+named-setup : (v : ImagesView) (slot k : ℕ) (seat : Seat) (P : Setup → Type 0) → slot ≡ suc k → slice_get v.seats k ≡ Some seat → IfSome (numbered slot (setups_of v)) P → P (setup_of seat.core)
+named-setup v slot k seat P h l m = search (rules, at_setup)
 
--- what a slot's end is set to, where it is named
-at-setup : (seats : List Seat) (k : ℕ) (seat : Seat) → slice_get seats k ≡ Some seat → slice_get (map (λ s. setup_of s.core) seats) k ≡ Some (setup_of seat.core)
-at-setup [] k seat h = absurd (cc h)
-at-setup (x ∷ seats) zero seat h = let i : x ≡ seat = cc in ap (λ (s : Seat). Some (setup_of s.core)) i
-at-setup (x ∷ seats) (suc k) seat h = at-setup seats k seat h
-
-pub named_setup : (v : ImagesView) (slot k : ℕ) (seat : Seat) (P : Setup → Type 0) → slot ≡ suc k → slice_get v.seats k ≡ Some seat → IfSome (numbered slot (setups_of v)) P → P (setup_of seat.core)
-named_setup v slot k seat P h l m = search (rules, at-setup)
+pub own_setup : (v w : ImagesView) (slot place : ℕ) (seat : Seat) (P : Setup → Type 0) → v ≡ w → place ≡ slot - 1 → HasSlot w slot → seat ≡ get_or v.seats place seat → IfSome (numbered slot (setups_of w)) P → P (setup_of seat.core)
+own_setup v w slot place seat P same at has is holds =
+    named-setup v slot place seat P (omega arith) (seat_there v w slot place seat same at has is) (subst (λ (v : ImagesView). IfSome (numbered slot (setups_of v)) P) (sym same) holds)
 
 -- a seat stays sound with an end that is set alike
 sound-end : (si so : ℕ) (seat : Seat) (end : Core) → IsSoundSeat si so seat → setup_of end ≡ setup_of seat.core → IsAtRest end → IsSoundSeat si so (with_end end seat)
@@ -50,3 +47,16 @@ set_setups v k seat end at setup = map_set (λ (s : Seat). setup_of s.core) v.se
 pub reset_sound : (v : ImagesView) (k : ℕ) (seat : Seat) (end : Core) (after : List ℕ) → IsSound v → slice_get v.seats k ≡ Some seat → setup_of end ≡ setup_of seat.core → IsAtRest end → length after ≡ length v.output
     → IsSound (record { seats = slice_set v.seats k (with_end end seat); input = v.input; output = after })
 reset_sound v k seat end after h l m n o = search (rules, set_sound)
+
+-- an end goes on by a put, a hold or a nonce, and does and sends nothing
+pub set_follows : (v w new : ImagesView) (slot place : ℕ) (what : Move) (call : ImageEvent) (seat : Seat) (end : Core) → v ≡ w → IsSound v → place ≡ slot - 1 → HasSlot w slot → seat ≡ get_or v.seats place seat → IsSetting what
+    → Names call slot what → ((size : ℕ) (calls : List ImageEvent) → Unsampled size calls call) → ((size : ℕ) (calls : List ImageEvent) → input size (call ∷ calls) ≡ input size calls)
+    → end_core.Follows seat.core what end → setup_of end ≡ setup_of seat.core → IsAtRest end → new.seats ≡ slice_set v.seats place (with_end end seat) → new.input ≡ v.input → new.output ≡ v.output → Follows w call new
+set_follows v w new slot place what call seat end same s n has read setting names unsampled unwritten follows setup rest seats now out =
+    let si : ℕ = length v.input in
+    let so : ℕ = length v.output in
+    let at : slice_get v.seats place ≡ Some seat = seat_there v w slot place seat same n has read in
+    let moved : Moved what seat end nothing [] = record { follows = follows; answers = set_answers seat.core what setting; setup = setup; rest = rest } in
+    subst (λ (old : ImagesView). Follows old call new) same
+    (one_follows si so place slot what call v new (step_to what seat end nothing []) s.seats (omega arith) at (named_step what seat end nothing [] moved) names unsampled unwritten seats now
+    (out ∙ stays si so seat v.output (all_at (IsSoundSeat si so) v.seats place seat s.seats at)))

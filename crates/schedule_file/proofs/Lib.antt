@@ -3,7 +3,7 @@ pub mod LinesLeft
 pub mod Making
 pub mod OneField
 pub mod Ranges
-pub mod Space
+pub mod Cuts
 pub mod HexDigits
 pub mod ReadBack
 pub mod FewEvents

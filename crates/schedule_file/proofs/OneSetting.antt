@@ -5,7 +5,7 @@ use Rattle.std.proofs.Math.Bool.{Bool-set}
 use Rattle.std.proofs.Math.Bridge.{le_prop}
 use mathlib.Core.HLevel.{is_prop→PathP}
 
-same_lengths : (a b : Lengths) → a.master ≡ b.master → a.slave ≡ b.slave → a ≡ b
+pub same_lengths : (a b : Lengths) → a.master ≡ b.master → a.slave ≡ b.slave → a ≡ b
 same_lengths a b master slave = λ i. record {
   master = master i;
   slave = slave i;
@@ -13,7 +13,7 @@ same_lengths a b master slave = λ i. record {
   valid_slave = is_prop→PathP (λ j. IsTrue (is_length (slave j))) (λ j. Bool-set _ _) a.valid_slave b.valid_slave i;
 }
 
-same_slave : (a b : SlaveSettings) → a.lengths ≡ b.lengths → a.address ≡ b.address → a.hand ≡ b.hand → a.most ≡ b.most → a.rule ≡ b.rule → a.nonce ≡ b.nonce → a.profile ≡ b.profile → a ≡ b
+pub same_slave : (a b : SlaveSettings) → a.lengths ≡ b.lengths → a.address ≡ b.address → a.hand ≡ b.hand → a.most ≡ b.most → a.rule ≡ b.rule → a.nonce ≡ b.nonce → a.profile ≡ b.profile → a ≡ b
 same_slave a b lengths address hand most rule nonce profile = λ i. record {
   lengths = lengths i;
   address = address i;

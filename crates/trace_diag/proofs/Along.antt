@@ -44,7 +44,7 @@ session-sent ms r events w at s no-reset =
 
 -- what one more frame brings: it is the next one, and the trace tells more with it
 pub record Brought (ms : MasterSettings) (r : Partner ms) (t : List Noted) (at : End) (g : List ℕ) (w : List Entry) : Type 0 where
-  pub next : NextFrame ms t g (taken (since (deeds end_name.Slave w))) at
+  pub next : NextFrame ms r t g (taken (since (deeds end_name.Slave w))) at
   pub tells : Tells ms (record { from = at; frame = g } ∷ t) (peer at) (both ms r w)
 
 -- where the master has its turn, the slave is in the phase of the master's newest frame, and had a delivery

@@ -1,6 +1,6 @@
 -- What follows where no row of the table applies to an answer of the slave: it carries what an answer does in its turn.
-use Rattle.trace_diag.proofs.Common.{Before, Command, Frame, MasterSettings, Profile, Replies, State, all_zero, cases_lt, command_byte, conn_holds, connection_payload, eqb-true, ext_get_or, first_failing, get_or-drop, id_holds, is_guarded, is_padded, is_reset, le-ltb, length-drop, length-replicate, length-take, lt-ltb, padded, padded_len, padded_twice, parameter_payload, payload_holds, piece, piece_holds, piece_short, session_long, session_payload, width, wrong_byte, wrong_in_echo, zeros_all}
-use Rattle.std.proofs.Common.{◌≡◌, ℕ, suc, ◌+◌, ◌-◌, ◌*◌, ◌<◌, ◌≤◌, ◌==◌, nat_lt, min, List, ◌++◌, length, take, drop, replicate, Bool, true, false, ◌||◌, None, refl, sym, ap, ap₂, ◌∙◌, arith, inl, inr, if◌then◌else◌, rules}
+use Rattle.trace_diag.proofs.Common.{Before, Command, Frame, MasterSettings, Profile, Replies, State, all_zero, cases_lt, command_byte, conn_holds, connection_payload, eqb-true, ext_get_or, first_failing, get_or-drop, id_holds, is_guarded, is_padded, is_reset, le-ltb, length-drop, length-replicate, lt-ltb, padded, padded_len, padded_twice, parameter_payload, payload_holds, piece, piece_holds, piece_short, session_payload, width, wrong_byte, wrong_in_echo, zeros_all}
+use Rattle.std.proofs.Common.{◌≡◌, ℕ, suc, ◌+◌, ◌-◌, ◌*◌, ◌<◌, ◌≤◌, ◌==◌, nat_lt, List, ◌++◌, length, take, drop, replicate, Bool, true, false, ◌||◌, None, refl, sym, ap, ap₂, ◌∙◌, arith, inl, inr, if◌then◌else◌, rules}
 use Rattle.fsoe_base.specs.declared.command.Command.TheVariants as command
 use Rattle.fsoe_base.specs.declared.command.End.TheVariants as end_name
 use Rattle.fsoe_base.specs.declared.command.State.TheVariants as state
@@ -11,7 +11,7 @@ use Rattle.trace_diag.proofs.NoneApplies.{AllHold, none_fails}
 use Rattle.trace_diag.proofs.PieceBack.{echo_back, hold_at}
 use Rattle.trace_diag.proofs.PieceRows.{at, at_zeros}
 use Rattle.trace_diag.proofs.RowsBack.{failsafe_zeros}
-use Rattle.trace_diag.proofs.SlaveRows.{IsDueBack}
+use Rattle.trace_diag.proofs.SlaveRows.{IsDueBack, id_piece_long}
 
 -- bytes of which each from a place on is 0
 zeros-after : (n : ℕ) (load : List ℕ) → ((i : ℕ) → n ≤ i → i < length load → at load i ≡ 0) → all_zero (drop n load) ≡ true
@@ -29,19 +29,13 @@ id-padded id w n conn u load all = zeros-after (length q) load (λ i past h. byt
     q : List ℕ
     q = piece (session_payload id profile.One) w (suc n)
 
-    long : length q ≡ min w (2 - n * w)
-    long =
-        let back : suc n - 1 ≡ n = omega arith in
-        length-take w (drop ((suc n - 1) * w) (session_payload id profile.One))
-        ∙ ap (min w) (length-drop ((suc n - 1) * w) (session_payload id profile.One) ∙ ap₂ (λ (x y : ℕ). x - y * w) (session_long id profile.One) back)
-
     held : (i : ℕ) → i < length load → (if nat_lt i w then id_holds (n * w + i) (at load i) else at load i == 0) ≡ true
     held i h = let none : i ≡ 0 + i = omega arith in ap (λ (p : ℕ). piece_holds w (payload_holds state.Session conn u) (n * w) p (at load i)) none ∙ hold_at (piece_holds w (payload_holds state.Session conn u) (n * w)) 0 load i all h
 
     byte : (i : ℕ) → length q ≤ i → (if nat_lt i w then id_holds (n * w + i) (at load i) else at load i == 0) ≡ true → at load i ≡ 0
     byte i past e =
         elim (cases_lt i w) [
-          | inl within ↦ zero-else (nat_lt (n * w + i) 2) (at load i) (le-ltb (n * w + i) 2 (omega (arith, long, past, within))) (ap (λ (t : Bool). if t then id_holds (n * w + i) (at load i) else at load i == 0) (sym (lt-ltb i w within)) ∙ e)
+          | inl within ↦ zero-else (nat_lt (n * w + i) 2) (at load i) (le-ltb (n * w + i) 2 (omega (arith, id_piece_long id w n, past, within))) (ap (λ (t : Bool). if t then id_holds (n * w + i) (at load i) else at load i == 0) (sym (lt-ltb i w within)) ∙ e)
           | inr after ↦ eqb-true (at load i) 0 (ap (λ (t : Bool). if t then id_holds (n * w + i) (at load i) else at load i == 0) (sym (le-ltb i w after)) ∙ e)
         ]
 

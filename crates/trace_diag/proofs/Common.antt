@@ -20,7 +20,8 @@ pub use Rattle.exchange_model.proofs.Honest.ResetFrames.{is_reset_frame, zeros_a
 pub use Rattle.exchange_model.proofs.Honest.SlaveTurn.{Accepts, Carries, Replies, some_width}
 pub use Rattle.exchange_model.proofs.Honest.StageSteps.{AtStage, Enters, Goes, asked_delivered, down_delivered, replied_delivered, some_connection, up_delivered}
 pub use Rattle.exchange_model.proofs.Honest.Stages.{Asked, Both, Down, IsAsked, IsDown, IsReplied, IsUp, Replied, Stage, Up, both}
-pub use Rattle.exchange_model.proofs.Honest.Turns.{FirstConnection, FirstParameter, FirstValues, FirstZeros, MoreConnection, MoreParameter, MoreSession, Partner, Spot, Turn, conn_after, connection_pieces, master_of, more, parameter_pieces, partner, session_long, session_pieces, slave_of, width}
+pub use Rattle.exchange_model.proofs.Honest.Turns.{FirstConnection, FirstParameter, FirstValues, FirstZeros, MoreConnection, MoreParameter, MoreSession, Partner, Spot, Turn, as_partner, conn_after, connection_pieces, master_of, more, parameter_pieces, partner, session_long, session_pieces, slave_of, width}
+pub use Rattle.exchange_model.proofs.Offering.Offered.{same_itself}
 pub use Rattle.exchange_model.proofs.Worlds.Longer.{world_on}
 pub use Rattle.exchange_model.specs.Ends.{peer, same_end}
 pub use Rattle.exchange_model.specs.Schedules.{IsProperEvent, IsWorld}

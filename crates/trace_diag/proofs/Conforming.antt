@@ -1,5 +1,5 @@
 -- Where two ends send the frames of a trace, no row of the table applies to any of them.
-use Rattle.trace_diag.proofs.Common.{Accepts, Difference, End, Entry, Event, Field, Frame, MasterSettings, Noted, OfMaster, Partner, answer_events, append_assoc, before, chain_of, command_byte, command_in, common_steps, count_crcs, count_groups, entry_at, events_before, field_of, first_difference, first_of_both, frame_len, frame_of, going_on, halves, is_length, is_reset_frame, length-append, length-replicate, length_of, partner, read_schedule, reset_crcs, reset_frame, reset_load, same_end, sealed_by, sent_in, slave_of, turn, turned, whole, width, world, world_after, world_on}
+use Rattle.trace_diag.proofs.Common.{Accepts, Difference, End, Entry, Event, Field, Frame, MasterSettings, Noted, OfMaster, Partner, answer_events, append_assoc, before, chain_of, command_byte, command_in, common_steps, count_crcs, count_groups, entry_at, events_before, field_of, first_difference, first_of_both, frame_len, frame_of, going_on, halves, is_length, is_reset_frame, length-append, length-replicate, length_of, partner, read_schedule, reset_crcs, reset_frame, reset_load, same_end, same_itself, sealed_by, sent_in, slave_of, turn, turned, whole, width, world, world_after, world_on}
 use Rattle.std.proofs.Common.{◌≡◌, ℕ, ◌+◌, List, [], ◌∷◌, ◌++◌, length, drop, replicate, Bool, true, false, if◌then◌else◌, Option, None, IsTrue, refl, sym, ap, ap₂, subst, ◌∙◌, arith, rules}
 use Rattle.fsoe_base.specs.declared.command.End.TheVariants as end_name
 use Rattle.trace_diag.proofs.Anyway.{sends_anyway, SendsMore}
@@ -33,15 +33,12 @@ pub reset_long : (ms : MasterSettings) (r : Partner ms) (which : End) → length
 reset_long ms r end_name.Master = (is_reset_frame (slave_of ms r) [] ms.lengths.valid_master refl).is_read.has_length
 reset_long ms r end_name.Slave = (is_reset_frame (OfMaster ms) [] ms.lengths.valid_slave refl).is_read.has_length
 
-own-turn : (which : End) → same_end which which ≡ true
-own-turn which = grind arith
-
 -- no row applies to the frame that comes next
-pub next_none : (ms : MasterSettings) (r : Partner ms) (t : List Noted) (g : List ℕ) (taken : List (List ℕ)) (at : End) → IsPlain ms → turn t ≡ at → NextFrame ms t g taken at
+pub next_none : (ms : MasterSettings) (r : Partner ms) (t : List Noted) (g : List ℕ) (taken : List (List ℕ)) (at : End) → IsPlain ms → turn t ≡ at → NextFrame ms r t g taken at
     → field_of ms.lengths t (record { from = at; frame = g }) ≡ None
 next_none ms r t g taken at plain turned-to (ResetNext _ due is) =
     in_turn_none ms.lengths (before ms.lengths t) (record { from = at; frame = g }) (record {
-      turn = ap (same_end at) turned-to ∙ own-turn at;
+      turn = ap (same_end at) turned-to ∙ same_itself at;
       long = ap (length {A = ℕ}) is ∙ reset_long ms r at;
       right = subst (λ (f : Frame). IsRight (width ms) (before ms.lengths t) at f) (sym (ap (frame_of (length_of ms.lengths at)) is ∙ reset_parts (length_of ms.lengths at) (valid_of ms at)))
           (reset_right (width ms) (before ms.lengths t) at (reset_parts_of (length_of ms.lengths at)) (length_of ms.lengths at) due refl refl (load_zeros (length_of ms.lengths at)) refl);
@@ -51,15 +48,15 @@ next_none ms r t g taken at plain turned-to (MasterNext m) =
       turn = ap (same_end end_name.Master) turned-to;
       long = m.long;
       right = subst (λ (f : Frame). IsRight (width ms) (before ms.lengths t) end_name.Master f) (sym m.frame)
-          (master_right ms ms.nonce (before ms.lengths t) m.command m.a m.b m.d (sealed_by (chain_of ms.lengths t) m.conn (command_byte m.command) m.load) m.session plain m.due refl m.carries refl);
+          (master_right ms ms.nonce (before ms.lengths t) m.on.command m.on.a m.on.b m.on.d (sealed_by (chain_of ms.lengths t) m.on.conn (command_byte m.on.command) m.on.load) m.on.in_session plain m.due refl m.carries refl);
     })
 next_none ms r t g taken at plain turned-to (SlaveNext m) =
     in_turn_none ms.lengths (before ms.lengths t) (record { from = end_name.Slave; frame = g }) (record {
       turn = ap (same_end end_name.Slave) turned-to;
       long = m.long;
       right = subst (λ (f : Frame). IsRight (width ms) (before ms.lengths t) end_name.Slave f) (sym m.frame)
-          (slave_right ms m.id (before ms.lengths t) m.command m.a m.b m.d (sealed_by (turned (chain_of ms.lengths t)) m.conn (command_byte m.command) m.load) m.session plain m.due refl
-          (ap (λ (f : Frame). length f.load) (sym m.frame) ∙ (whole ms.lengths.slave g ms.lengths.valid_slave m.long).load) m.replies refl);
+          (slave_right ms m.on.id (before ms.lengths t) m.on.command m.on.a m.on.b m.on.d (sealed_by (turned (chain_of ms.lengths t)) m.on.conn (command_byte m.on.command) m.on.load) m.on.in_session plain m.due refl
+          (ap (λ (f : Frame). length f.load) (sym m.frame) ∙ (whole ms.lengths.slave g ms.lengths.valid_slave m.long).load) m.on.replies refl);
     })
 
 -- these frames are at the beginning of those

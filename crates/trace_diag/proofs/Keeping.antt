@@ -1,5 +1,5 @@
 -- What is kept of a trace is what looking back over it says, with one more frame that is as it must be too.
-use Rattle.trace_diag.proofs.Common.{Before, Chain, Command, End, Frame, Lengths, Noted, State, before, chain_after, chain_of, chain_with, command_byte, conn_in, conn_with, connection_from, connection_with, first_conn, frame_of, frames_from, fresh, goes_on, has_command, kept_from, length_of, newest_load, newest_piece, option_or, parameters_from, parameters_with, payload_from, peer, phase_due, phase_from, phase_of, phase_of_frame, phase_when, piece_asked, piece_len, piece_of, piece_place, place_when, same_end, same_phase, turn, whole}
+use Rattle.trace_diag.proofs.Common.{Before, Chain, Command, End, Frame, Lengths, Noted, State, before, chain_after, chain_of, chain_with, command_byte, conn_in, conn_with, connection_from, connection_with, first_conn, frame_of, frames_from, fresh, goes_on, has_command, kept_from, length_of, newest_load, newest_piece, option_or, parameters_from, parameters_with, payload_from, peer, phase_due, phase_from, phase_of, phase_of_frame, phase_when, piece_asked, piece_len, piece_of, piece_place, place_when, same_end, same_itself, same_phase, turn, whole}
 use Rattle.std.proofs.Common.{◌≡◌, ℕ, ◌+◌, ◌<◌, ◌≤◌, List, [], ◌∷◌, ◌++◌, length, take, drop, Bool, true, Option, refl, sym, ap, ap₂, ◌∙◌, arith, if◌then◌else◌, rules}
 use Rattle.fsoe_base.specs.declared.command.Command.TheVariants as command
 use Rattle.fsoe_base.specs.declared.command.End.TheVariants as end_name
@@ -7,7 +7,7 @@ use Rattle.fsoe_base.specs.declared.command.State.TheVariants as state
 use Rattle.trace_diag.proofs.Heads.{head_of, HasHead}
 use Rattle.trace_diag.proofs.NoField.{IsInTurn}
 use Rattle.trace_diag.proofs.PayloadRows.{due_is, is_from, same_end_is, IsFrom}
-use Rattle.trace_diag.proofs.RowsHold.{own-end, piece_long, AllInTurn}
+use Rattle.trace_diag.proofs.RowsHold.{piece_long, AllInTurn}
 
 -- the phases in order
 abbrev rank : State → ℕ
@@ -33,7 +33,7 @@ no-later-more lengths t which x h k = search (rules, later-on, due_is)
 
 -- the end whose turn it was
 from-turn : (lengths : Lengths) (t : List Noted) (x : Noted) → IsInTurn lengths (before lengths t) x → IsFrom lengths t (turn t) x
-from-turn lengths t x h = is_from lengths t (turn t) x (ap (same_end (turn t)) (sym (same_end_is x.from (turn t) h.turn)) ∙ own-end (turn t)) h
+from-turn lengths t x h = is_from lengths t (turn t) x (ap (same_end (turn t)) (sym (same_end_is x.from (turn t) h.turn)) ∙ same_itself (turn t)) h
 
 pub no_later : (lengths : Lengths) (t : List Noted) → AllInTurn lengths t → NoLater lengths t
 no_later lengths [] h phase less = refl

@@ -1,6 +1,6 @@
 -- The frame that the end in turn sends after a trace: a Reset frame, or the next one of its session.
-use Rattle.trace_diag.proofs.Common.{Both, Carries, Chain, Chained, Command, End, IsDown, IsUp, MasterSettings, Noted, Partner, Replies, Spot, State, Turn, before, chain_of, command_byte, conn_after, connection_payload, connection_pieces, count_in, frame_len, frame_of, front, front_long, goes_on, is_reset, length_of, more, newest_crc, newest_piece, parameter_payload, parameter_pieces, payload_from, phase_due, phase_from, phase_of, phase_of_frame, phase_sent, piece_asked, piece_fits, piece_place, reset_frame, same_phase, sealed_by, session_payload, session_pieces, slave_of, some_connection, turn, turned, width}
-use Rattle.std.proofs.Common.{◌≡◌, ℕ, suc, ◌-◌, ◌*◌, ◌<◌, List, ◌∷◌, length, take, Bool, false, refl, sym, ap, ap₂, subst, ◌∙◌, arith, if◌then◌else◌, rules}
+use Rattle.trace_diag.proofs.Common.{Both, Carries, Chain, Chained, Command, End, IsDown, IsUp, MasterSettings, Noted, Partner, Spot, State, Turn, before, chain_of, command_byte, conn_after, connection_payload, connection_pieces, count_in, frame_len, frame_of, front, front_long, goes_on, length_of, more, newest_crc, newest_piece, parameter_payload, parameter_pieces, payload_from, phase_due, phase_from, phase_of, phase_of_frame, phase_sent, piece_asked, piece_fits, piece_place, reset_frame, same_phase, sealed_by, session_payload, session_pieces, slave_of, some_connection, turn, turned, width}
+use Rattle.std.proofs.Common.{◌≡◌, ℕ, suc, ◌-◌, ◌*◌, ◌<◌, List, ◌∷◌, length, take, Bool, refl, sym, ap, ap₂, subst, ◌∙◌, arith, if◌then◌else◌, rules}
 use Rattle.fsoe_base.specs.declared.command.Command.TheVariants as command
 use Rattle.fsoe_base.specs.declared.command.End.TheVariants as end_name
 use Rattle.fsoe_base.specs.declared.command.State.TheVariants as state
@@ -23,49 +23,35 @@ IsPast state.Parameter b = 0 < b
 IsPast state.Data b = 0 < b
 IsPast _ b = Unit {0}
 
--- the next frame of the master
-pub record FromMaster (ms : MasterSettings) (t : List Noted) (g : List ℕ) : Type 0 where
-  pub conn : ℕ
-  pub command : Command
-  pub load : List ℕ
-  pub a : ℕ
-  pub b : ℕ
-  pub d : ℕ
-  pub tail : List ℕ
-  pub session : is_reset command ≡ false
-  pub due : IsDue ms (before ms.lengths t) command a b d
-  pub come : HasCome ms t command a b d
-  pub past : IsPast (phase_of command) b
-  pub carries : Carries ms ms.nonce command a b d conn load
-  pub head : g ≡ command_byte command ∷ tail
-  pub frame : frame_of ms.lengths.master g ≡ sealed_by (chain_of ms.lengths t) conn (command_byte command) load
+-- the next frame of the master, which is on its way now
+pub record FromMaster (ms : MasterSettings) (r : Partner ms) (t : List Noted) (g : List ℕ) : Type 0 where
+  pub now : Both
+  pub on : IsDown ms r now
+  pub due : IsDue ms (before ms.lengths t) on.command on.a on.b on.d
+  pub come : HasCome ms t on.command on.a on.b on.d
+  pub past : IsPast (phase_of on.command) on.b
+  pub carries : Carries ms ms.nonce on.command on.a on.b on.d on.conn on.load
+  pub head : g ≡ command_byte on.command ∷ on.way.tail
+  pub frame : frame_of ms.lengths.master g ≡ sealed_by (chain_of ms.lengths t) on.conn (command_byte on.command) on.load
   pub long : length g ≡ frame_len ms.lengths.master
 
 -- the next answer of the slave, which took these frames in its session
-pub record FromSlave (ms : MasterSettings) (t : List Noted) (g : List ℕ) (taken : List (List ℕ)) : Type 0 where
-  pub id : ℕ
-  pub conn : ℕ
-  pub command : Command
-  pub load : List ℕ
-  pub a : ℕ
-  pub b : ℕ
-  pub d : ℕ
-  pub tail : List ℕ
-  pub session : is_reset command ≡ false
-  pub due : IsDueBack ms (before ms.lengths t) command a b d
-  pub replies : Replies ms id command a b d conn load
-  pub ids : count_in state.Session taken ≡ a
-  pub connected : phase_of command ≡ state.Connection → 0 < b
-  pub past : IsPast (phase_of command) b
-  pub head : g ≡ command_byte command ∷ tail
-  pub frame : frame_of ms.lengths.slave g ≡ sealed_by (turned (chain_of ms.lengths t)) conn (command_byte command) load
+pub record FromSlave (ms : MasterSettings) (r : Partner ms) (t : List Noted) (g : List ℕ) (taken : List (List ℕ)) : Type 0 where
+  pub now : Both
+  pub on : IsUp ms r now
+  pub due : IsDueBack ms (before ms.lengths t) on.command on.a on.b on.d
+  pub ids : count_in state.Session taken ≡ on.a
+  pub connected : phase_of on.command ≡ state.Connection → 0 < on.b
+  pub past : IsPast (phase_of on.command) on.b
+  pub head : g ≡ command_byte on.command ∷ on.way.tail
+  pub frame : frame_of ms.lengths.slave g ≡ sealed_by (turned (chain_of ms.lengths t)) on.conn (command_byte on.command) on.load
   pub long : length g ≡ frame_len ms.lengths.slave
 
 -- the frame that an end sends after a trace, where the slave took these frames in its session
-pub data NextFrame (ms : MasterSettings) (t : List Noted) (g : List ℕ) (taken : List (List ℕ)) : End → Type 0 where
-  ResetNext : (which : End) → phase_due ms.lengths t ≡ state.Reset → g ≡ reset_frame 0 (length_of ms.lengths which) → NextFrame ms t g taken which
-  MasterNext : FromMaster ms t g → NextFrame ms t g taken end_name.Master
-  SlaveNext : FromSlave ms t g taken → NextFrame ms t g taken end_name.Slave
+pub data NextFrame (ms : MasterSettings) (r : Partner ms) (t : List Noted) (g : List ℕ) (taken : List (List ℕ)) : End → Type 0 where
+  ResetNext : (which : End) → phase_due ms.lengths t ≡ state.Reset → g ≡ reset_frame 0 (length_of ms.lengths which) → NextFrame ms r t g taken which
+  MasterNext : FromMaster ms r t g → NextFrame ms r t g taken end_name.Master
+  SlaveNext : FromSlave ms r t g taken → NextFrame ms r t g taken end_name.Slave
 
 by-one : (b : Bool) (n m : ℕ) → (if b then suc n else n) ≡ (if b then suc m else m) → n ≡ m
 by-one b n m h = grind arith
@@ -81,16 +67,10 @@ spot-past n n' n'' p a b d m h k = grind arith
 
 -- the master's frame that is on its way is the next one
 pub from_down : (ms : MasterSettings) (r : Partner ms) (y : Noted) (t : List Noted) (x x' : Both) (h : IsDown ms r x') → IsPlain ms → h.id ≡ ms.nonce → turn (y ∷ t) ≡ end_name.Master → Tells ms (y ∷ t) end_name.Master x
-    → x'.master.sent ≡ h.frame ∷ x.master.sent → x'.slave ≡ x.slave → x'.phase ≡ phase_sent x.master.sent → FromMaster ms (y ∷ t) h.frame
+    → x'.master.sent ≡ h.frame ∷ x.master.sent → x'.slave ≡ x.slave → x'.phase ≡ phase_sent x.master.sent → FromMaster ms r (y ∷ t) h.frame
 from_down ms r y t x x' h plain id turned-to told more-sent same phase = record {
-  conn = h.conn;
-  command = h.command;
-  load = h.load;
-  a = h.a;
-  b = h.b;
-  d = h.d;
-  tail = h.way.tail;
-  session = h.in_session;
+  now = x';
+  on = h;
   due = record {
     due = due;
     place = subst (λ (place : ℕ). IsPlaced ms h.command h.a h.b h.d place) (sym (ap₂ (λ (p : State) (e : End). piece_place ms.lengths (y ∷ t) p e) due turned-to)) (placed-at ms (y ∷ t) h.command h.a h.b h.d (come h.command));
@@ -156,17 +136,10 @@ in-phase ms t c b d h = grind arith
 
 -- the slave's answer that is on its way is the next one
 pub from_up : (ms : MasterSettings) (r : Partner ms) (y : Noted) (t : List Noted) (x x' : Both) (h : IsUp ms r x') → turn (y ∷ t) ≡ end_name.Slave → Tells ms (y ∷ t) end_name.Slave x
-    → x'.master ≡ x.master → FromSlave ms (y ∷ t) h.frame x'.slave.taken
+    → x'.master ≡ x.master → FromSlave ms r (y ∷ t) h.frame x'.slave.taken
 from_up ms r y t x x' h turned-to told same = record {
-  id = h.id;
-  conn = h.conn;
-  command = h.command;
-  load = h.load;
-  a = h.a;
-  b = h.b;
-  d = h.d;
-  tail = h.way.tail;
-  session = h.in_session;
+  now = x';
+  on = h;
   due = record {
     due = due;
     before = h.a - 1;
@@ -180,7 +153,6 @@ from_up ms r y t x x' h turned-to told same = record {
         (subst (λ (p : State). RepeatsIn ms p (count_in state.Connection x.master.sent) (count_in state.Parameter x.master.sent) (newest_piece ms.lengths (y ∷ t))) phase-is told.newest.repeats))));
     fits = piece_fits (slave_of ms r);
   };
-  replies = h.replies;
   ids = h.slave.ids;
   connected = λ is. subst (λ (n : ℕ). 0 < n) b-is (some-connected x.master.sent (phase-is ∙ is));
   past = spot-past (session_pieces ms) (connection_pieces ms) (parameter_pieces ms) (phase_of h.command) h.a h.b h.d h.k (some_connection ms) h.spot;

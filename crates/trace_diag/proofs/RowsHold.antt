@@ -214,9 +214,6 @@ piece_long lengths which x u false long = omega arith
 even-more : (lengths : Lengths) (x : Noted) (t : List Noted) (at : End) → turn t ≡ at → x.from ≡ at → IsFrom lengths t at x → Even lengths t at → Even lengths (x ∷ t) (peer at)
 even-more lengths x t at h k l m = search (rules, whole, piece_long, due_is)
 
-pub own-end : (which : End) → same_end which which ≡ true
-own-end which = grind arith
-
 -- the rows hold of the payloads of a trace
 rows-more : (lengths : Lengths) (x : Noted) (t : List Noted) → IsInTurn lengths (before lengths t) x → RowsHold lengths t → RowsHold lengths (x ∷ t)
 rows-more lengths x t h k = search (rules, connection-more, session-more, parameters-more, slave-more, even-more)

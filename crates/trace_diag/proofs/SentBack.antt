@@ -104,39 +104,39 @@ first-is ms r all later x t tail read is mine head none =
 
 -- the master's frame is the one that is sent
 pub master_same : (ms : MasterSettings) (r : Partner ms) (all later : List Noted) (x : Noted) (t : List Noted) (g : List ℕ) → Read ms r all → all ≡ later ++ x ∷ t → same_end end_name.Master x.from ≡ true → IsFrom ms.lengths t end_name.Master x
-    → (m : FromMaster ms t g) (head : HasHead ms.lengths t ms.lengths.master x.frame) → m.command ≡ head.command → (m.command ≡ command.ProcessData → m.load ≡ (frame_of ms.lengths.master x.frame).load)
+    → (m : FromMaster ms r t g) (head : HasHead ms.lengths t ms.lengths.master x.frame) → m.on.command ≡ head.command → (m.on.command ≡ command.ProcessData → m.on.load ≡ (frame_of ms.lengths.master x.frame).load)
     → frame_of ms.lengths.master x.frame ≡ frame_of ms.lengths.master g
 master_same ms r all later x t g read is mine h m head agree data-is =
-    sealed-parts (chain_of ms.lengths t) f m.command m.conn m.load cmd both.0 both.1
-    (h.right.crcs ∙ (ap (λ (p : State). crcs_due p (chain_of ms.lengths t) end_name.Master f) m.due.due ∙ session-due m.command (chain_of ms.lengths t) end_name.Master f m.session))
+    sealed-parts (chain_of ms.lengths t) f m.on.command m.on.conn m.on.load cmd both.0 both.1
+    (h.right.crcs ∙ (ap (λ (p : State). crcs_due p (chain_of ms.lengths t) end_name.Master f) m.due.due ∙ session-due m.on.command (chain_of ms.lengths t) end_name.Master f m.on.in_session))
     ∙ sym m.frame
   where
     f : Frame
     f = frame_of ms.lengths.master x.frame
 
-    cmd : f.cmd ≡ command_byte m.command
+    cmd : f.cmd ≡ command_byte m.on.command
     cmd = head.cmd_is ∙ ap command_byte (sym agree)
 
-    of-phase : phase_of_frame x.frame ≡ phase_of m.command
+    of-phase : phase_of_frame x.frame ≡ phase_of m.on.command
     of-phase = sym (due_is ms.lengths t end_name.Master x h) ∙ m.due.due
 
     long : length f.load ≡ ms.lengths.master
     long = (whole ms.lengths.master x.frame ms.lengths.valid_master h.long).load
 
-    long' : length m.load ≡ ms.lengths.master
+    long' : length m.on.load ≡ ms.lengths.master
     long' = ap (λ (f : Frame). length f.load) (sym m.frame) ∙ (whole ms.lengths.master g ms.lengths.valid_master m.long).load
 
-    conn : is_guarded m.command ≡ true → f.conn ≡ ms.conn
-    conn = conn-of ms m.b f.conn m.command (first_conn ms.lengths.master (frames_from end_name.Master t)) m.due.conn m.past
-        (λ connection none. first-is ms r all later x t head.tail read is mine (head.is ∙ ap (λ (c : Command). command_byte c ∷ head.tail) (sym agree ∙ connection-command m.command connection)) (m.due.conn ∙ ap (conn_after ms.conn) none))
+    conn : is_guarded m.on.command ≡ true → f.conn ≡ ms.conn
+    conn = conn-of ms m.on.b f.conn m.on.command (first_conn ms.lengths.master (frames_from end_name.Master t)) m.due.conn m.past
+        (λ connection none. first-is ms r all later x t head.tail read is mine (head.is ∙ ap (λ (c : Command). command_byte c ∷ head.tail) (sym agree ∙ connection-command m.on.command connection)) (m.due.conn ∙ ap (conn_after ms.conn) none))
         (ap (λ (p : State). conn_holds p (first_conn ms.lengths.master (frames_from end_name.Master t)) f.conn) (sym m.due.due) ∙ h.right.conn)
 
-    carries : Carries ms ms.nonce m.command m.a m.b m.d f.conn f.load
-    carries = master_back ms ms.nonce (before ms.lengths t) m.command m.a m.b m.d f m.session m.due cmd long conn
-        (brought-by ms r all later x t m.command m.a m.b m.d read is m.come mine of-phase (omega (arith, long, piece_fits (OfMaster ms)))) h.right
+    carries : Carries ms ms.nonce m.on.command m.on.a m.on.b m.on.d f.conn f.load
+    carries = master_back ms ms.nonce (before ms.lengths t) m.on.command m.on.a m.on.b m.on.d f m.on.in_session m.due cmd long conn
+        (brought-by ms r all later x t m.on.command m.on.a m.on.b m.on.d read is m.come mine of-phase (omega (arith, long, piece_fits (OfMaster ms)))) h.right
 
-    both : (f.conn ≡ m.conn) × (f.load ≡ m.load)
-    both = carried-same ms ms.nonce m.command m.a m.b m.d f.conn m.conn f.load m.load carries m.carries (long ∙ sym long') (λ is. sym (data-is is))
+    both : (f.conn ≡ m.on.conn) × (f.load ≡ m.on.load)
+    both = carried-same ms ms.nonce m.on.command m.on.a m.on.b m.on.d f.conn m.on.conn f.load m.on.load carries m.carries (long ∙ sym long') (λ is. sym (data-is is))
 
 -- a slave's Session frame is that of the session id that is read off
 id-back : (ms : MasterSettings) (r : Partner ms) (all later : List Noted) (x : Noted) (t : List Noted) (n : ℕ) → IsPlain ms → Read ms r all → all ≡ later ++ x ∷ t → same_end end_name.Slave x.from ≡ true → IsFrom ms.lengths t end_name.Slave x
@@ -171,37 +171,37 @@ id-back ms r all later x t n plain read is mine h due place long-before =
 -- the slave's answer is the one that is sent
 pub slave_same : (ms : MasterSettings) (r : Partner ms) (all later : List Noted) (x : Noted) (t : List Noted) (g : List ℕ) (taken : List (List ℕ)) → IsPlain ms → Read ms r all → all ≡ later ++ x ∷ t → same_end end_name.Slave x.from ≡ true
     → IsFrom ms.lengths t end_name.Slave x → length (payload_from ms.lengths end_name.Slave state.Session t) ≡ length (payload_from ms.lengths end_name.Master state.Session (drop 1 t))
-    → (m : FromSlave ms t g taken) (head : HasHead ms.lengths t ms.lengths.slave x.frame) → m.command ≡ head.command
-    → (m.command ≡ command.Session → m.load ≡ padded (piece (session_payload r.nonce ms.profile) (width ms) m.a) ms.lengths.slave) → (m.command ≡ command.ProcessData → m.load ≡ (frame_of ms.lengths.slave x.frame).load)
+    → (m : FromSlave ms r t g taken) (head : HasHead ms.lengths t ms.lengths.slave x.frame) → m.on.command ≡ head.command
+    → (m.on.command ≡ command.Session → m.on.load ≡ padded (piece (session_payload r.nonce ms.profile) (width ms) m.on.a) ms.lengths.slave) → (m.on.command ≡ command.ProcessData → m.on.load ≡ (frame_of ms.lengths.slave x.frame).load)
     → frame_of ms.lengths.slave x.frame ≡ frame_of ms.lengths.slave g
 slave_same ms r all later x t g taken plain read is mine h even m head agree id-is data-is =
-    sealed-parts (turned (chain_of ms.lengths t)) f m.command m.conn m.load cmd both.0 both.1
-    (h.right.crcs ∙ (ap (λ (p : State). crcs_due p (chain_of ms.lengths t) end_name.Slave f) m.due.due ∙ session-due m.command (chain_of ms.lengths t) end_name.Slave f m.session))
+    sealed-parts (turned (chain_of ms.lengths t)) f m.on.command m.on.conn m.on.load cmd both.0 both.1
+    (h.right.crcs ∙ (ap (λ (p : State). crcs_due p (chain_of ms.lengths t) end_name.Slave f) m.due.due ∙ session-due m.on.command (chain_of ms.lengths t) end_name.Slave f m.on.in_session))
     ∙ sym m.frame
   where
     f : Frame
     f = frame_of ms.lengths.slave x.frame
 
-    cmd : f.cmd ≡ command_byte m.command
+    cmd : f.cmd ≡ command_byte m.on.command
     cmd = head.cmd_is ∙ ap command_byte (sym agree)
 
     long : length f.load ≡ ms.lengths.slave
     long = (whole ms.lengths.slave x.frame ms.lengths.valid_slave h.long).load
 
-    long' : length m.load ≡ ms.lengths.slave
+    long' : length m.on.load ≡ ms.lengths.slave
     long' = ap (λ (f : Frame). length f.load) (sym m.frame) ∙ (whole ms.lengths.slave g ms.lengths.valid_slave m.long).load
 
     none-first : (n : ℕ) → 0 < n → n ≡ 0 → f.conn ≡ ms.conn
     none-first n some none = absurd (omega (arith, some, none))
 
-    conn : is_guarded m.command ≡ true → f.conn ≡ ms.conn
-    conn = conn-of ms m.b f.conn m.command (first_conn ms.lengths.master (frames_from end_name.Master t)) m.due.conn m.past (λ connection none. none-first m.b (m.connected connection) none)
+    conn : is_guarded m.on.command ≡ true → f.conn ≡ ms.conn
+    conn = conn-of ms m.on.b f.conn m.on.command (first_conn ms.lengths.master (frames_from end_name.Master t)) m.due.conn m.past (λ connection none. none-first m.on.b (m.connected connection) none)
         (ap (λ (p : State). conn_holds p (first_conn ms.lengths.master (frames_from end_name.Master t)) f.conn) (sym m.due.due) ∙ h.right.conn)
 
-    replies : Replies ms m.id m.command m.a m.b m.d f.conn f.load
-    replies = slave_back ms m.id (before ms.lengths t) m.command m.a m.b m.d f m.session plain m.due cmd long conn h.right
+    replies : Replies ms m.on.id m.on.command m.on.a m.on.b m.on.d f.conn f.load
+    replies = slave_back ms m.on.id (before ms.lengths t) m.on.command m.on.a m.on.b m.on.d f m.on.in_session plain m.due cmd long conn h.right
 
-    session : m.command ≡ command.Session → f.load ≡ m.load
+    session : m.on.command ≡ command.Session → f.load ≡ m.on.load
     session here =
         let due : phase_due ms.lengths t ≡ state.Session = m.due.due ∙ ap phase_of here in
         let place : (before ms.lengths t).place ≡ m.due.before * width ms = m.due.place here in
@@ -209,8 +209,8 @@ slave_same ms r all later x t g taken plain read is mine h even m head agree id-
         id-back ms r all later x t m.due.before plain read is mine h due place (even ∙ (sym placed-there ∙ place))
         ∙ (ap (λ (n : ℕ). padded (piece (session_payload r.nonce ms.profile) (width ms) n) ms.lengths.slave) (sym (m.due.one_more here)) ∙ sym (id-is here))
 
-    both : (f.conn ≡ m.conn) × (f.load ≡ m.load)
-    both = replied-same ms m.id m.id m.command m.a m.b m.d f.conn m.conn f.load m.load replies m.replies (long ∙ sym long') session (λ is. sym (data-is is))
+    both : (f.conn ≡ m.on.conn) × (f.load ≡ m.on.load)
+    both = replied-same ms m.on.id m.on.id m.on.command m.on.a m.on.b m.on.d f.conn m.on.conn f.load m.on.load replies m.on.replies (long ∙ sym long') session (λ is. sym (data-is is))
 
 reset-command : (c : Command) → phase_of c ≡ state.Reset → c ≡ command.Reset
 reset-command c h = grind arith

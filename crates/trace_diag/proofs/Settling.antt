@@ -1,5 +1,5 @@
 -- Ends with the settings that are read off a trace to which no row of the table applies send its frames.
-use Rattle.trace_diag.proofs.Common.{Accepts, All-head, All-tail, AreBytes, AreOfBytes, Command, Deed, End, Frame, MasterSettings, Noted, Partner, Setup, append_assoc, before, begun, command_back, command_byte, command_in, count_in, deeds, frame_len, frame_of, has_command, is_data, is_data_frame, length_of, padded, partner, payload_from, phase_of, piece, reset_frame, same_end, sends, session_payload, setup_of, since, taken, turn, whole, width}
+use Rattle.trace_diag.proofs.Common.{Accepts, All-head, All-tail, AreBytes, AreOfBytes, Command, Deed, End, Frame, MasterSettings, Noted, Partner, Setup, append_assoc, before, begun, command_back, command_byte, command_in, count_in, deeds, frame_len, frame_of, has_command, is_data, is_data_frame, length_of, padded, partner, payload_from, phase_of, piece, reset_frame, same_end, same_itself, sends, session_payload, setup_of, since, taken, turn, whole, width}
 use Rattle.std.proofs.Common.{◌≡◌, ◌==◌, ℕ, List, [], ◌∷◌, ◌++◌, length, drop, Bool, true, false, Option, Some, refl, sym, ap, ap₂, subst, ◌∙◌, arith, rules}
 use Rattle.fsoe_base.specs.declared.command.Command.TheVariants as command
 use Rattle.fsoe_base.specs.declared.command.End.TheVariants as end_name
@@ -14,7 +14,7 @@ use Rattle.trace_diag.proofs.NextFrames.{NextFrame, ResetNext, MasterNext, Slave
 use Rattle.trace_diag.proofs.NoField.{IsInTurn}
 use Rattle.trace_diag.proofs.PayloadBytes.{valid_at}
 use Rattle.trace_diag.proofs.PayloadRows.{is_from, same_end_is, IsFrom}
-use Rattle.trace_diag.proofs.RowsHold.{own-end, rows_hold, slave_place, AllInTurn}
+use Rattle.trace_diag.proofs.RowsHold.{rows_hold, slave_place, AllInTurn}
 use Rattle.trace_diag.proofs.Running.{IsSetFor}
 use Rattle.trace_diag.proofs.SentBack.{master_same, reset_same, same_bytes, slave_same}
 use Rattle.trace_diag.proofs.Sets.{carries_id, carries_set, CarriesSet}
@@ -47,23 +47,23 @@ StandsEven ms end_name.Slave t = length (payload_from ms.lengths end_name.Slave 
 -- a frame is the one that is sent
 next-same : (ms : MasterSettings) (r : Partner ms) (all later : List Noted) (x : Noted) (t : List Noted) (g : List ℕ) (frames : List (List ℕ)) (at : End) → IsPlain ms → Read ms r all → all ≡ later ++ x ∷ t → same_end at x.from ≡ true → IsFrom ms.lengths t at x
     → (head : HasHead ms.lengths t (length_of ms.lengths at) x.frame) → SetsData (length_of ms.lengths at) g head.command (frame_of (length_of ms.lengths at) x.frame).load → CarriesId ms r at g frames → StandsEven ms at t
-    → NextFrame ms t g frames at → frame_of (length_of ms.lengths at) x.frame ≡ frame_of (length_of ms.lengths at) g
+    → NextFrame ms r t g frames at → frame_of (length_of ms.lengths at) x.frame ≡ frame_of (length_of ms.lengths at) g
 next-same ms r all later x t g frames at plain read is mine h head set id even (ResetNext _ due g-is) =
     reset_same ms.lengths t at x due h ∙ sym (ap (frame_of (length_of ms.lengths at)) g-is ∙ reset_parts (length_of ms.lengths at) (valid_at ms.lengths at))
 next-same ms r all later x t g frames at plain read is mine h head set id even (MasterNext m) =
-    let same : phase_of m.command ≡ phase_of head.command = sym m.due.due ∙ head.due in
-    let agree : m.command ≡ head.command = agrees m.command head.command ms.lengths.master g m.tail (frame_of ms.lengths.master x.frame).load same m.head set (is_data m.command) refl in
+    let same : phase_of m.on.command ≡ phase_of head.command = sym m.due.due ∙ head.due in
+    let agree : m.on.command ≡ head.command = agrees m.on.command head.command ms.lengths.master g m.on.way.tail (frame_of ms.lengths.master x.frame).load same m.head set (is_data m.on.command) refl in
     master_same ms r all later x t g read is mine h m head agree
-    (data-as-set m.command head.command ms.lengths.master g m.tail (frame_of ms.lengths.master x.frame).load m.load same m.head set (ap (λ (f : Frame). f.load) m.frame) agree)
+    (data-as-set m.on.command head.command ms.lengths.master g m.on.way.tail (frame_of ms.lengths.master x.frame).load m.on.load same m.head set (ap (λ (f : Frame). f.load) m.frame) agree)
 next-same ms r all later x t g frames at plain read is mine h head set id even (SlaveNext m) =
-    let same : phase_of m.command ≡ phase_of head.command = sym m.due.due ∙ head.due in
-    let agree : m.command ≡ head.command = agrees m.command head.command ms.lengths.slave g m.tail (frame_of ms.lengths.slave x.frame).load same m.head set (is_data m.command) refl in
+    let same : phase_of m.on.command ≡ phase_of head.command = sym m.due.due ∙ head.due in
+    let agree : m.on.command ≡ head.command = agrees m.on.command head.command ms.lengths.slave g m.on.way.tail (frame_of ms.lengths.slave x.frame).load same m.head set (is_data m.on.command) refl in
     slave_same ms r all later x t g frames plain read is mine h even m head agree
     (λ session.
     sym (ap (λ (f : Frame). f.load) m.frame)
-    ∙ (id (ap (has_command command.Session) m.head ∙ ap (λ (c : Command). command_byte c == 0x4E) session) (not_reset m.command g m.tail m.head m.session)
+    ∙ (id (ap (has_command command.Session) m.head ∙ ap (λ (c : Command). command_byte c == 0x4E) session) (not_reset m.on.command g m.on.way.tail m.head m.on.in_session)
     ∙ ap (λ (n : ℕ). padded (piece (session_payload r.nonce ms.profile) (width ms) n) ms.lengths.slave) m.ids))
-    (data-as-set m.command head.command ms.lengths.slave g m.tail (frame_of ms.lengths.slave x.frame).load m.load same m.head set (ap (λ (f : Frame). f.load) m.frame) agree)
+    (data-as-set m.on.command head.command ms.lengths.slave g m.on.way.tail (frame_of ms.lengths.slave x.frame).load m.on.load same m.head set (ap (λ (f : Frame). f.load) m.frame) agree)
 
 sends-of : (ms : MasterSettings) (r : Partner ms) (at : End) → sends (setup_of ms (partner ms r) at) ≡ length_of ms.lengths at
 sends-of ms r at = grind arith
@@ -93,7 +93,7 @@ steps-made ms r x t s =
     subst (λ (g : List ℕ). IsMade g) (sym a.is) (answer_made setup (begun reaches.entry.what reaches.entry.did ∷ deeds (turn t) reaches.set) a.took_what)
 
 -- the next frame has the right length
-next-long : (ms : MasterSettings) (r : Partner ms) (t : List Noted) (g : List ℕ) (frames : List (List ℕ)) (at : End) → NextFrame ms t g frames at → length g ≡ frame_len (length_of ms.lengths at)
+next-long : (ms : MasterSettings) (r : Partner ms) (t : List Noted) (g : List ℕ) (frames : List (List ℕ)) (at : End) → NextFrame ms r t g frames at → length g ≡ frame_len (length_of ms.lengths at)
 next-long ms r t g frames at h = search (rules, reset_long)
 
 even-at : (ms : MasterSettings) (t : List Noted) (at : End) → turn t ≡ at → AllInTurn ms.lengths t → StandsEven ms at t
@@ -118,7 +118,7 @@ settle-more ms r all later x y t accepts plain read is h before-it are g =
     let at : End = turn (y ∷ t) in
     let l : ℕ = length_of ms.lengths at in
     let from-is : at ≡ x.from = same_end_is x.from at h.turn in
-    let mine : same_end at x.from ≡ true = ap (same_end at) (sym from-is) ∙ own-end at in
+    let mine : same_end at x.from ≡ true = ap (same_end at) (sym from-is) ∙ same_itself at in
     let from : IsFrom ms.lengths (y ∷ t) at x = is_from ms.lengths (y ∷ t) at x mine h in
     let fits : length (frame_of l x.frame).load ≡ l = (whole l x.frame (valid_at ms.lengths at) from.long).load in
     let m : More ms r x (y ∷ t) = more ms r x y t accepts plain fits g.at in

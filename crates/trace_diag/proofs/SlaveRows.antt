@@ -35,6 +35,12 @@ zero-from n load i h past =
     ap (at load) (sym back)
     ∙ (sym (get_or-drop n load (i - n) 0) ∙ (ap (λ (u : List ℕ). at u (i - n)) (zeros_are (drop n load) h) ∙ at_zeros (length (drop n load)) (i - n)))
 
+pub id_piece_long : (id w n : ℕ) → length (piece (session_payload id profile.One) w (suc n)) ≡ min w (2 - n * w)
+id_piece_long id w n =
+    let back : suc n - 1 ≡ n = omega arith in
+    length-take w (drop ((suc n - 1) * w) (session_payload id profile.One))
+    ∙ ap (min w) (length-drop ((suc n - 1) * w) (session_payload id profile.One) ∙ ap₂ (λ (x y : ℕ). x - y * w) (session_long id profile.One) back)
+
 -- a session id's piece and zeros after it hold, whatever the id
 id-rows : (id w n conn : ℕ) (u load : List ℕ) → is_padded (piece (session_payload id profile.One) w (suc n)) load ≡ true
     → AllHold (piece_holds w (payload_holds state.Session conn u) (n * w)) 0 load
@@ -46,12 +52,6 @@ id-rows id w n conn u load h = hold_each (piece_holds w (payload_holds state.Ses
     q : List ℕ
     q = piece (session_payload id profile.One) w (suc n)
 
-    long : length q ≡ min w (2 - n * w)
-    long =
-        let back : suc n - 1 ≡ n = omega arith in
-        length-take w (drop ((suc n - 1) * w) (session_payload id profile.One))
-        ∙ ap (min w) (length-drop ((suc n - 1) * w) (session_payload id profile.One) ∙ ap₂ (λ (x y : ℕ). x - y * w) (session_long id profile.One) back)
-
     byte : (i : ℕ) → piece_holds w (payload_holds state.Session conn u) (n * w) i (at load i) ≡ true
     byte i =
         elim (cases_lt i w) [
@@ -59,7 +59,7 @@ id-rows id w n conn u load h = hold_each (piece_holds w (payload_holds state.Ses
               ap (λ (t : Bool). if t then id_holds (n * w + i) (at load i) else at load i == 0) (lt-ltb i w within)
               ∙ elim (cases_lt (n * w + i) 2) [
                 | inl in_id ↦ ap (λ (t : Bool). t || at load i == 0) (lt-ltb (n * w + i) 2 in_id)
-                | inr past ↦ ap (λ (b : ℕ). nat_lt (n * w + i) 2 || b == 0) (zero-from (length q) load i h (omega (arith, long, past))) ∙ or-true (nat_lt (n * w + i) 2)
+                | inr past ↦ ap (λ (b : ℕ). nat_lt (n * w + i) 2 || b == 0) (zero-from (length q) load i h (omega (arith, id_piece_long id w n, past))) ∙ or-true (nat_lt (n * w + i) 2)
               ]
           | inr after ↦
               ap (λ (t : Bool). if t then id_holds (n * w + i) (at load i) else at load i == 0) (le-ltb i w after)

@@ -1,6 +1,6 @@
 -- The table finds what the definition of a conforming trace says: no row applies to a trace exactly where it conforms,
 -- and the first frame to which one applies is the first with which the trace doesn't conform.
-use Rattle.trace_diag.proofs.Common.{Accepts, All-tail, AreBytes, AreOfBytes, Conforms, ConformsThroughout, Difference, DiffersFirst, Event, Field, Lengths, MasterSettings, Noted, Partner, Profile, SlaveSettings, allows_id, append-nil, eq-eqb, field_of, first_difference, first_of_both, frame_len, has_length, is_length, leb-true, length_of, list_all, parameters_from, partner, read_app_len, read_schedule, read_watchdog, sent_in, world}
+use Rattle.trace_diag.proofs.Common.{Accepts, All-tail, AreBytes, AreOfBytes, Conforms, ConformsThroughout, Difference, DiffersFirst, Event, Field, Lengths, MasterSettings, Noted, Partner, SlaveSettings, append-nil, as_partner, eq-eqb, field_of, first_difference, first_of_both, frame_len, has_length, leb-true, length_of, list_all, parameters_from, partner, read_app_len, read_schedule, read_watchdog, sent_in, world}
 use Rattle.std.proofs.Common.{◌≡◌, ◌&&◌, ◌+◌, ◌≤◌, ℕ, List, [], ◌∷◌, length, Bool, true, Option, Some, None, IsTrue, refl, sym, ap, ap₂, subst, ◌∙◌, arith, rules}
 use Rattle.fsoe_base.specs.declared.command.End.TheVariants as end_name
 use Rattle.fsoe_base.specs.declared.command.State.TheVariants as state
@@ -41,59 +41,6 @@ conforms_where_none lengths t are none =
 pub empty_conforms : (lengths : Lengths) → Conforms lengths []
 empty_conforms lengths = conforms_where_none lengths [] (λ k d h. absurd (omega (arith, h))) refl
 
--- the slave's settings are those of a partner of the master
-record AsPartner (P : SlaveSettings → Type 0) (ms : MasterSettings) (ss : SlaveSettings) : Type 0 where
-  pub r : Partner ms
-  pub most_is : r.most ≡ ss.most
-  pub rule_is : r.rule ≡ ss.rule
-  pub holds : P (partner ms r)
-
-abbrev IsGiven : (SlaveSettings → Type 0) → SlaveSettings → ℕ → ℕ → ℕ → Profile → Type 0
-IsGiven P ss lm ls address profile =
-    (valid_master : IsTrue (is_length lm)) × (valid_slave : IsTrue (is_length ls)) × (allowed : IsTrue (allows_id profile ss.nonce))
-    × P (record {
-      lengths = record { master = lm; slave = ls; valid_master = valid_master; valid_slave = valid_slave };
-      address = address;
-      hand = ss.hand;
-      most = ss.most;
-      rule = ss.rule;
-      nonce = ss.nonce;
-      profile = profile;
-      some_hand = ss.some_hand;
-      some_most = ss.some_most;
-      acceptable = ss.acceptable;
-      allowed = allowed;
-    })
-
-is-given : (P : SlaveSettings → Type 0) (ss : SlaveSettings) (lm ls address : ℕ) (profile : Profile) → ss.lengths.master ≡ lm → ss.lengths.slave ≡ ls → ss.address ≡ address → ss.profile ≡ profile → P ss → IsGiven P ss lm ls address profile
-is-given P ss lm ls address profile a b c d h =
-    subst (λ (lm : ℕ). IsGiven P ss lm ls address profile) a
-    (subst (λ (ls : ℕ). IsGiven P ss ss.lengths.master ls address profile) b
-    (subst (λ (address : ℕ). IsGiven P ss ss.lengths.master ss.lengths.slave address profile) c
-    (subst (λ (profile : Profile). IsGiven P ss ss.lengths.master ss.lengths.slave ss.address profile) d
-    (ss.lengths.valid_master, ss.lengths.valid_slave, ss.allowed, h))))
-
-as-partner : (P : SlaveSettings → Type 0) (ms : MasterSettings) (ss : SlaveSettings) → ss.lengths ≡ ms.lengths → ss.address ≡ ms.address → ss.profile ≡ ms.profile → P ss → AsPartner P ms ss
-as-partner P ms ss lengths address profile h =
-    let g = is-given P ss ms.lengths.master ms.lengths.slave ms.address ms.profile (ap (λ (l : Lengths). l.master) lengths) (ap (λ (l : Lengths). l.slave) lengths) address profile h in
-    record {
-      r = record {
-        hand = ss.hand;
-        most = ss.most;
-        rule = ss.rule;
-        nonce = ss.nonce;
-        valid_master = g.0;
-        valid_slave = g.1;
-        some_hand = ss.some_hand;
-        some_most = ss.some_most;
-        acceptable = ss.acceptable;
-        allowed = g.2;
-      };
-      most_is = refl;
-      rule_is = refl;
-      holds = g.3;
-    }
-
 -- no row applies to a trace that conforms
 none-of : (lengths : Lengths) (x : Noted) (t : List Noted) (c : Conforms lengths (x ∷ t)) → AreOfBytes (x ∷ t) → first_difference lengths (x ∷ t) ≡ None
 none-of lengths x t c are =
@@ -103,21 +50,21 @@ none-of lengths x t c are =
     let long : AllLong lengths all = all_long lengths all c.lengths_hold in
     let p-bytes : AreBytes (parameters_from lengths all) = payload_bytes lengths end_name.Master state.Parameter all long are in
     let n : ℕ = read_app_len lengths all in
-    let p : AsPartner (λ (ss : SlaveSettings). sent_in (world ms ss (read_schedule lengths all)) ≡ all) ms ss =
-    as-partner (λ (ss : SlaveSettings). sent_in (world ms ss (read_schedule lengths all)) ≡ all) ms ss
-    (c.settings.slave.lengths_are ∙ sym c.settings.master.lengths_are) (c.settings.slave.address_is ∙ sym c.settings.master.address_is) (c.settings.slave.profile_is ∙ sym c.settings.master.profile_is) c.sends in
-    let rule-is : p.r.rule ≡ rule.Any n = p.rule_is ∙ c.settings.slave.rule_is in
+    let p : (r : Partner ms) × (partner ms r ≡ ss) =
+    as_partner ms ss (c.settings.master.lengths_are ∙ sym c.settings.slave.lengths_are) (c.settings.master.address_is ∙ sym c.settings.slave.address_is) (c.settings.master.profile_is ∙ sym c.settings.slave.profile_is) in
+    let r : Partner ms = p.0 in
+    let rule-is : r.rule ≡ rule.Any n = ap (λ (ss : SlaveSettings). ss.rule) p.1 ∙ c.settings.slave.rule_is in
     let app-long : length ms.app ≡ n = ap (length {A = ℕ}) c.settings.master.app_is ∙ app_long (parameters_from lengths all) in
-    let accepts : Accepts ms p.r = record {
-      watchdog = subst (λ (n : ℕ). n ≤ p.r.most) (sym c.settings.master.watchdog_is) (subst (λ (n : ℕ). read_watchdog lengths all ≤ n) (sym (p.most_is ∙ c.settings.slave.most_is)) (word_most 1 2 (parameters_from lengths all) p-bytes (omega arith)));
+    let accepts : Accepts ms r = record {
+      watchdog = subst (λ (n : ℕ). n ≤ r.most) (sym c.settings.master.watchdog_is) (subst (λ (n : ℕ). read_watchdog lengths all ≤ n) (sym (ap (λ (ss : SlaveSettings). ss.most) p.1 ∙ c.settings.slave.most_is)) (word_most 1 2 (parameters_from lengths all) p-bytes (omega arith)));
       as_many = app-long ∙ sym (ap rule_len rule-is);
       allowed = ap (λ (q : AppRule). allows q ms.app) rule-is ∙ eq-eqb (length ms.app) n app-long;
     } in
-    let plain : IsPlain ms = assumption (c.settings.master.profile_is, subst (λ (n : ℕ). n ≤ 512) (sym app-long) (leb-true n 512 (sym (ap is_acceptable rule-is) ∙ p.r.acceptable))) in
+    let plain : IsPlain ms = assumption (c.settings.master.profile_is, subst (λ (n : ℕ). n ≤ 512) (sym app-long) (leb-true n 512 (sym (ap is_acceptable rule-is) ∙ r.acceptable))) in
     let l : ms.lengths ≡ lengths = c.settings.master.lengths_are in
-    let g : Good ms p.r all =
-    good ms p.r x t [] [] accepts plain (subst (λ (lengths : Lengths). AllLong lengths all) (sym l) long)
-    (ap (λ (log : List Event). sent_in (world ms (partner ms p.r) log)) (append-nil (read_schedule ms.lengths all)) ∙ (ap (λ (lengths : Lengths). sent_in (world ms (partner ms p.r) (read_schedule lengths all))) l ∙ p.holds)) in
+    let g : Good ms r all =
+    good ms r x t [] [] accepts plain (subst (λ (lengths : Lengths). AllLong lengths all) (sym l) long)
+    (ap (λ (log : List Event). sent_in (world ms (partner ms r) log)) (append-nil (read_schedule ms.lengths all)) ∙ (ap (λ (lengths : Lengths). sent_in (world ms (partner ms r) (read_schedule lengths all))) l ∙ subst (λ (ss : SlaveSettings). sent_in (world ms ss (read_schedule lengths all)) ≡ all) (sym p.1) c.sends)) in
     ap (λ (lengths : Lengths). first_difference lengths all) (sym l) ∙ g.none
 
 pub none_where_conforms : (lengths : Lengths) (t : List Noted) → AreOfBytes t → Conforms lengths t → first_difference lengths t ≡ None

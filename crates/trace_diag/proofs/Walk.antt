@@ -27,7 +27,7 @@ pub record At (ms : MasterSettings) (r : Partner ms) (t : List Noted) : Type 0 w
 -- the frame
 pub record More (ms : MasterSettings) (r : Partner ms) (x : Noted) (t : List Noted) : Type 0 where
   pub steps : Steps ms r x t
-  pub next : NextFrame ms t steps.answers.reaches.entry.sent (taken (since (deeds end_name.Slave (steps.answers.reaches.entry ∷ steps.answers.reaches.set)))) (turn t)
+  pub next : NextFrame ms r t steps.answers.reaches.entry.sent (taken (since (deeds end_name.Slave (steps.answers.reaches.entry ∷ steps.answers.reaches.set)))) (turn t)
   pub sent : sent_in (world_of ms r (x ∷ t)) ≡ record { from = turn t; frame = steps.answers.reaches.entry.sent } ∷ sent_in (world_of ms r t)
   pub at : x ≡ record { from = turn t; frame = steps.answers.reaches.entry.sent } → At ms r (x ∷ t)
 

@@ -1,6 +1,6 @@
 -- Under an honest schedule a run of matching ends serves: honest schedules bring both into Data and keep them there.
-use Rattle.exchange_model.proofs.Common.{All-head, All-tail, End, Entry, Event, Fair, HasNoReset, InDataAfter, InDataThroughout, IsHonest, IsNextEntry, IsProperEvent, IsWorld, MasterSettings, Match, Move, NoOther, Profile, Serves, SlaveSettings, State, TakesDataThroughout, TakesDelivery, allows_id, and_parts, deed_in, deeds, deliveries_to, entry_at, eqb-true, exchanges, had_tick, if_on, in_turn, is_delivery, is_length, is_plain, is_tick, keeps_time, list_all, may_happen, peer, phase_of, phase_sent, same_end, same_phase, setup_of, state_of, state_told, ticks_first, world, world_after}
-use Rattle.std.proofs.Common.{◌≡◌, ℕ, suc, ◌+◌, ◌≤◌, nat_le, nat_lt, List, [], ◌∷◌, length, Bool, true, false, ◌&&◌, ◌||◌, All, Option, if◌then◌else◌, refl, sym, ap, subst, ◌∙◌, arith, IsTrue, rules}
+use Rattle.exchange_model.proofs.Common.{All-head, All-tail, End, Entry, Event, Fair, HasNoReset, InDataAfter, InDataThroughout, IsHonest, IsNextEntry, IsProperEvent, IsWorld, MasterSettings, Match, Move, NoOther, Serves, SlaveSettings, State, TakesDataThroughout, TakesDelivery, and_parts, deed_in, deeds, deliveries_to, entry_at, eqb-true, exchanges, had_tick, if_on, in_turn, is_delivery, is_plain, is_tick, keeps_time, list_all, may_happen, peer, phase_of, phase_sent, same_end, same_phase, setup_of, state_of, state_told, ticks_first, world, world_after}
+use Rattle.std.proofs.Common.{◌≡◌, ℕ, suc, ◌+◌, ◌≤◌, nat_le, nat_lt, List, [], ◌∷◌, length, Bool, true, false, ◌&&◌, ◌||◌, All, Option, if◌then◌else◌, refl, sym, ap, subst, ◌∙◌, arith, rules}
 use Rattle.fsoe_base.specs.declared.command.End.TheVariants as end_name
 use Rattle.fsoe_base.specs.declared.command.State.TheVariants as state
 use Rattle.param_load.specs.declared.entry.Move.TheVariants as move
@@ -10,8 +10,9 @@ use Rattle.exchange_model.proofs.Honest.QuietEvents.{quiet_entry, quiet_enters, 
 use Rattle.exchange_model.proofs.Honest.SlaveTurn.{Accepts}
 use Rattle.exchange_model.proofs.Honest.StageSteps.{AtStage, Enters, Goes, asked_delivered, replied_delivered, down_delivered, up_delivered, some_session, some_connection, some_parameter}
 use Rattle.exchange_model.proofs.Honest.Stages.{Both, both, IsOutside, Stage, IsIdle, Asked, Replied, Down, Up}
-use Rattle.exchange_model.proofs.Honest.Turns.{Partner, partner, session_pieces, connection_pieces, parameter_pieces, spot_after, spot_data, turn_data, at_least, none_yet}
+use Rattle.exchange_model.proofs.Honest.Turns.{Partner, partner, as_partner, session_pieces, connection_pieces, parameter_pieces, spot_after, spot_data, turn_data, at_least, none_yet}
 use Rattle.exchange_model.proofs.Fairness.Headline.{fair_run}
+use Rattle.schedule_file.proofs.OneSetting.{same_lengths}
 
 told-head : (ms : MasterSettings) (ss : SlaveSettings) (which : End) (x : Entry) (w : List Entry) (mine : Bool) → IsNextEntry (setup_of ms ss x.end) x (deeds x.end w)
     → state_told which w ≡ state_of (setup_of ms ss which) (deeds which w) → same_end which x.end ≡ mine
@@ -167,53 +168,11 @@ serves_on ms r (event ∷ events) w accepts served ready proper plain time =
 partner-serves : (ms : MasterSettings) (r : Partner ms) (events : List Event) → Accepts ms r → All (IsProperEvent ms (partner ms r)) events → IsHonest ms (partner ms r) events → Serves ms events (world ms (partner ms r) events)
 partner-serves ms r events h k l = search (rules, serves_on)
 
--- what holds of the settings with these lengths, this address and this profile, and the rest of a slave's, holds of the
--- slave's own
-abbrev Given : (SlaveSettings → Type 0) → SlaveSettings → ℕ → ℕ → ℕ → Profile → Type 0
-Given P ss lm ls address profile =
-    ((valid_master : IsTrue (is_length lm)) (valid_slave : IsTrue (is_length ls)) (allowed : IsTrue (allows_id profile ss.nonce))
-    → P (record {
-      lengths = record { master = lm; slave = ls; valid_master = valid_master; valid_slave = valid_slave };
-      address = address;
-      hand = ss.hand;
-      most = ss.most;
-      rule = ss.rule;
-      nonce = ss.nonce;
-      profile = profile;
-      some_hand = ss.some_hand;
-      some_most = ss.some_most;
-      acceptable = ss.acceptable;
-      allowed = allowed;
-    })) → P ss
-
-as-given : (P : SlaveSettings → Type 0) (ss : SlaveSettings) (lm ls address : ℕ) (profile : Profile) → ss.lengths.master ≡ lm → ss.lengths.slave ≡ ls → ss.address ≡ address → ss.profile ≡ profile → Given P ss lm ls address profile
-as-given P ss lm ls address profile a b c d =
-    subst (λ (lm : ℕ). Given P ss lm ls address profile) a
-    (subst (λ (ls : ℕ). Given P ss ss.lengths.master ls address profile) b
-    (subst (λ (address : ℕ). Given P ss ss.lengths.master ss.lengths.slave address profile) c
-    (subst (λ (profile : Profile). Given P ss ss.lengths.master ss.lengths.slave ss.address profile) d
-    (λ h. h ss.lengths.valid_master ss.lengths.valid_slave ss.allowed))))
-
 pub honest_serves : (ms : MasterSettings) (ss : SlaveSettings) (events : List Event) → Match ms ss → All (IsProperEvent ms ss) events → IsHonest ms ss events → Serves ms events (world ms ss events)
 honest_serves ms ss events m =
-    as-given (λ ss. All (IsProperEvent ms ss) events → IsHonest ms ss events → Serves ms events (world ms ss events)) ss ms.lengths.master ms.lengths.slave ms.address ms.profile
-    (sym m.same_lengths.master) (sym m.same_lengths.slave) (sym m.same_address) (sym m.same_profile)
-    (λ valid_master valid_slave allowed proper honest.
-    partner-serves ms
-    (record {
-      hand = ss.hand;
-      most = ss.most;
-      rule = ss.rule;
-      nonce = ss.nonce;
-      valid_master = valid_master;
-      valid_slave = valid_slave;
-      some_hand = ss.some_hand;
-      some_most = ss.some_most;
-      acceptable = ss.acceptable;
-      allowed = allowed;
-    })
-    events (record { watchdog = m.watchdog_accepted; as_many = m.as_many_parameters; allowed = m.parameters_allowed }) proper honest)
+    let p = as_partner ms ss (same_lengths ms.lengths ss.lengths m.same_lengths.master m.same_lengths.slave) m.same_address m.same_profile in
+    subst (λ (ss : SlaveSettings). Match ms ss → All (IsProperEvent ms ss) events → IsHonest ms ss events → Serves ms events (world ms ss events)) p.1
+    (λ m. partner-serves ms p.0 events (record { watchdog = m.watchdog_accepted; as_many = m.as_many_parameters; allowed = m.parameters_allowed })) m
 
--- so that it is fair
 pub honest_fair : (ms : MasterSettings) (ss : SlaveSettings) (events : List Event) → Match ms ss → All (IsProperEvent ms ss) events → IsHonest ms ss events → Fair ms.lengths (world ms ss events)
 honest_fair ms ss events m proper honest = let s : Serves ms events (world ms ss events) = honest_serves ms ss events m proper honest in fair_run ms ss events m.same_lengths proper s.no_other
