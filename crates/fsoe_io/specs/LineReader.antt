@@ -39,7 +39,7 @@ Reads (Err Long) old new = IfSome old IsTooLong × Consumes old new []
 Reads (Err NoNewline) old new = IfSome old IsUnended × Consumes old new []
 Reads (Err Read) old new = Consumes old new []
 
--- the answer of a reader that writes the next line over one that it is handed
+-- the answer of a reader that took this line, or none
 abbrev pub given : Result Bool LineFault → Numbered → Result (Option Numbered) LineFault
 given (Ok true) line = Ok (Some line)
 given (Ok false) line = Ok None

@@ -2,12 +2,19 @@
 //! lines, and buffered text. Nothing here knows frames or ends.
 //!
 //! ```rust
-//! use fsoe_io::{LineReader, SureSource};
+//! use fsoe_io::{Desk, LineReader, LoadFault, MemDesk, SureSource};
 //! let mut source = SureSource::new(b"go\nend\n".to_vec(rt.alloc())?);
 //! let mut reader = LineReader::new();
 //! reader.advance(&mut source)?;
 //! reader.advance(&mut source)?;
 //! assert_eq!(rt; (reader.lines(), reader.line()), (2, b"end".as_slice()));
+//! let mut files = Vec::new(rt.alloc());
+//! files.push((String::from_str(rt.alloc(), "plan")?, b"go".to_vec(rt.alloc())?))?;
+//! let mut desk = MemDesk::new(files, vec![in rt.alloc(); 3]?); // its third call fails
+//! assert_eq!(rt; desk.load("plant", 2).err(), Some(LoadFault::Failed));
+//! assert_eq!(rt; desk.load("plan", 2)?.as_slice(), b"go".as_slice());
+//! assert_eq!(rt; desk.load("plan", 2).err(), Some(LoadFault::Failed));
+//! assert_eq!(rt; desk.load("plan", 1).err(), Some(LoadFault::TooLong));
 //! ```
 #![tactic(auto)]
 
@@ -28,6 +35,7 @@ mod sink;
 mod source;
 mod status;
 mod streams;
+mod words;
 
 pub use desk::{Desk, LoadFault};
 pub use file_desk::FileDesk;
@@ -43,3 +51,4 @@ pub use sink::Sink;
 pub use source::{Failed, Source};
 pub use status::{Ended, Status};
 pub use streams::{StdSink, StdSource};
+pub use words::words_of;

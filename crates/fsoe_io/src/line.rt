@@ -1,5 +1,5 @@
 //! A line of the input, and why there is none.
-ghost use Rattle.std.specs.Prelude.{◌≡◌, ◌≤◌, [], length};
+ghost use Rattle.std.specs.Prelude.{◌≡◌, ◌≤◌, length};
 
 use std::marker::Model;
 
@@ -23,27 +23,19 @@ impl Model for Line {
 }
 
 impl Line {
-    /// A line that nothing was read into yet: it has number 0 and no bytes.
-    pub fn new() -> Line
-        ensures number { result.number ≡ 0 }
-        ensures bytes { result.bytes ≡ [] }
-    {
-        Line {
-            number: 0,
-            len: 0,
-            bytes: [0; 640],
-        }
-    }
-
-    /// Takes this number and these bytes in place of its own.
-    pub(crate) fn set(&mut self, number: u64, from: &[u8])
+    /// A line of this number and these bytes.
+    pub(crate) fn of(number: u64, from: &[u8]) -> Line
         requires { length from.now ≤ 640 }
-        ensures number { self.new.number ≡ number }
-        ensures bytes { self.new.bytes ≡ from.now }
+        ensures number { result.number ≡ number }
+        ensures bytes { result.bytes ≡ from.now }
     {
-        self.bytes[..from.len()].copy_from_slice(from);
-        self.len = from.len();
-        self.number = number;
+        let mut bytes = [0; 640];
+        bytes[..from.len()].copy_from_slice(from);
+        Line {
+            number,
+            len: from.len(),
+            bytes,
+        }
     }
 
     /// Its number in the input, from 1.

@@ -186,32 +186,6 @@ impl LineReader {
         }
     }
 
-    /// Does the same, and writes the line over `line`.
-    pub fn next_into<S: Source>(
-        &mut self,
-        source: &mut S,
-        line: &mut Line,
-    ) -> Result<bool, LineFault>
-        requires { self.old.lines < 2 ^ 64 - 1 }
-        ensures bytes { Reads (given result line.new)
-            (prepend_known self.old.bytes (S.left source.old))
-            (prepend_known self.new.bytes (S.left source.new)) }
-        ensures lines { Counts (given result line.new) self.old.lines self.new.lines }
-        ensures stalls { Stalls (given result line.new) self.new.bytes }
-        // The source is read only if more bytes must come.
-        ensures unread { ¬ IsLine self.old.bytes → source.new ≡ source.old }
-        ensures later { S.faults source.old ≤ S.faults source.new }
-        ensures cause { Blames (given result line.new) (S.faults source.old) (S.faults source.new) }
-    {
-        match self.advance(source) {
-            Ok(true) => {
-                line.set(self.lines(), self.line());
-                Ok(true)
-            }
-            answer => answer,
-        }
-    }
-
     /// Returns the next line, or None if and only if the input ends where a line would begin. Don't call it after a
     /// fault, or after 2^64 - 1 lines.
     pub fn next<S: Source>(&mut self, source: &mut S) -> Result<Option<Line>, LineFault>
@@ -226,9 +200,8 @@ impl LineReader {
         ensures later { S.faults source.old ≤ S.faults source.new }
         ensures cause { Blames result (S.faults source.old) (S.faults source.new) }
     {
-        let mut line = Line::new();
-        match self.next_into(source, &mut line) {
-            Ok(true) => Ok(Some(line)),
+        match self.advance(source) {
+            Ok(true) => Ok(Some(Line::of(self.lines, self.line()))),
             Ok(false) => Ok(None),
             Err(fault) => Err(fault),
         }

@@ -10,28 +10,11 @@ use black_channel::{Channel, HostileChannel, PerfectChannel};
 use command::trial_said;
 use fb_net::{AppEntry, Mirror, Zeros};
 use fsoe_base::Memory;
-use fsoe_io::{FileDesk, Status, StdSink, StdSource};
+use fsoe_io::{FileDesk, Status, StdSink, StdSource, words_of};
 use plant_run::Journal;
 use rate_channel::{RateChannel, Rates};
 use run::run;
 use std::process::ExitCode;
-use std::{env, io};
-
-/// The arguments after the program's name. An argument that isn't UTF-8 belongs to no command, so there are none then,
-/// and the usage line is written.
-fn words_of(rt: &HostRuntime) -> io::Result<Vec<String>> {
-    let mut words = Vec::new(rt.alloc());
-    match env::args(rt) {
-        Ok(args) => {
-            for word in args.skip(1) {
-                words.push(word)?;
-            }
-        }
-        Err(e) if e.kind() == io::ErrorKind::InvalidData => {}
-        Err(e) => return Err(e),
-    }
-    Ok(words)
-}
 
 /// Runs the command of the program's arguments, with the applications and the channels that the program has for plants.
 /// None if there is no memory for these.
