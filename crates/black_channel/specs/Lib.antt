@@ -4,3 +4,4 @@ pub mod Holds
 pub mod Listed
 pub mod Told
 pub mod Window
+pub mod WorkedHolds

@@ -17,6 +17,7 @@
 mod altering;
 mod channel;
 mod hostile_channel;
+pub mod laws;
 mod list_channel;
 mod parcel_ring;
 mod perfect_channel;

@@ -1,8 +1,9 @@
--- Worked rows: what single blocks give, cycle by cycle.
-use Rattle.std.specs.Prelude.{◌≡◌, ℕ, ◌==◌, true, false, List, [], ◌∷◌, ◌++◌, reverse, map, fold, codes, if◌then◌else◌}
+-- Worked rows: what single blocks give, cycle by cycle, and which of their inputs guard them.
+use Rattle.std.specs.Prelude.{◌≡◌, ℕ, ◌==◌, true, false, List, [], ◌∷◌, ◌++◌, reverse, map, fold, replicate, codes, if◌then◌else◌}
 use Rattle.fb_lib.specs.declared.kind.BlockKind.{BlockKind}
 use Rattle.fb_lib.specs.declared.kind.BlockKind.TheVariants as kind
 use Rattle.fb_lib.specs.Cycle.{Cycle}
+use Rattle.fb_lib.specs.Guarded.{is_guarded}
 use Rattle.fb_lib.specs.Standing.{values}
 
 -- the cycle that a text is about to tell, and those before it, the newest first
@@ -49,3 +50,15 @@ TwoHandRow = given kind.TwoHand 1 (codes "00 10T 11 10 11 00 10T 01T 11") ≡ co
 -- without cmd
 unfoldable pub FeedbackRow : Type 0
 FeedbackRow = given kind.Feedback 1 (codes "11 11T 11T 01 11") ≡ codes "11001"
+
+-- whether blocks of these kinds are guarded where the first of two inputs is, the second, and both, as text
+abbrev pub guarded : List BlockKind → List (List ℕ)
+guarded kinds = map (λ k. map (λ gs. if is_guarded k gs then 49 else 48) ((true ∷ false ∷ []) ∷ (false ∷ true ∷ []) ∷ (true ∷ true ∷ []) ∷ [])) kinds
+
+-- guarded by any input; by both together, and by the second; by the first; by none
+unfoldable pub GuardRows : Type 0
+GuardRows =
+    (guarded (kind.Const0 ∷ kind.And ∷ kind.TwoHand ∷ []) ≡ replicate 3 (codes "111"))
+    × (guarded (kind.Or ∷ kind.Latch ∷ []) ≡ codes "001" ∷ codes "011" ∷ [])
+    × (guarded (kind.Estop ∷ kind.OnDelay ∷ kind.Feedback ∷ []) ≡ replicate 3 (codes "101"))
+    × (guarded (kind.Const1 ∷ kind.OffDelay ∷ []) ≡ replicate 2 (codes "000"))

@@ -8,21 +8,22 @@ ghost use Rattle.fb_lib.specs.Value.{value};
 ghost use Rattle.fb_lib.specs.Standing.{values, BlockStands, Stepped, AreOff};
 ghost use Rattle.fb_lib.specs.Steps.{BlockView};
 ghost use Rattle.fb_lib.specs.Guarded.{is_guarded};
-ghost use Rattle.fb_lib.specs.Rows.{EstopRow, OnDelayRow, OffDelayRow, TwoHandRow, FeedbackRow};
+ghost use Rattle.fb_lib.specs.Rows.{EstopRow, OnDelayRow, OffDelayRow, TwoHandRow, FeedbackRow, GuardRows};
 
 /// The constant is the limit of the definitions.
 pub fn constants()
     ensures { MOST_INPUTS ≡ most_inputs }
 {}
 
-/// Worked rows of single blocks: the inputs cycle by cycle, and the values.
-#[tactic(auto, unfolding(crate::specs::Rows::EstopRow, crate::specs::Rows::OnDelayRow, crate::specs::Rows::OffDelayRow, crate::specs::Rows::TwoHandRow, crate::specs::Rows::FeedbackRow))]
+/// Worked rows of single blocks: the inputs cycle by cycle, and the values; and which inputs guard them.
+#[tactic(auto, unfolding(crate::specs::Rows::EstopRow, crate::specs::Rows::OnDelayRow, crate::specs::Rows::OffDelayRow, crate::specs::Rows::TwoHandRow, crate::specs::Rows::FeedbackRow, crate::specs::Rows::GuardRows))]
 pub fn worked_rows()
     ensures estop { EstopRow }
     ensures on_delay { OnDelayRow }
     ensures off_delay { OffDelayRow }
     ensures two_hand { TwoHandRow }
     ensures feedback { FeedbackRow }
+    ensures guards { GuardRows }
 {}
 
 /// A new block that is stepped through any cycles gives in each its value by looking back, and stands for them all.

@@ -1,6 +1,6 @@
 -- An emergency stop whose acknowledgement comes as two bits: the net of examples/emergency_stop.toml, and when its
 -- drive is on.
-use Rattle.std.specs.Prelude.{◌≡◌, ℕ, ◌-◌, Bool, true, false, not, ◌&&◌, ◌||◌, List, [], ◌∷◌, reverse, codes, if◌then◌else◌}
+use Rattle.std.specs.Prelude.{◌≡◌, ℕ, ◌-◌, Bool, true, false, not, ◌&&◌, ◌||◌, List, [], ◌∷◌, map, replicate, reverse, codes, if◌then◌else◌}
 use Rattle.std.specs.List.{list_all}
 use Rattle.failsafe_io.specs.declared.bit.Bit.{Bit}
 use Rattle.failsafe_io.specs.Bits.{at_number, bit_at}
@@ -10,6 +10,7 @@ use Rattle.fb_lib.specs.LookBack.{is_now, run}
 use Rattle.fb_net.specs.declared.spec.Drive.{Drive}
 use Rattle.fb_net.specs.declared.wire.Wire.{Wire}
 use Rattle.fb_net.specs.declared.wire.Wire.TheVariants as wire
+use Rattle.fb_net.specs.Guarded.{is_output_guarded}
 use Rattle.fb_net.specs.Values.{NetCycle, NetBlock, block_values}
 
 -- a block of two inputs
@@ -63,15 +64,29 @@ cycles (s ∷ stops) (d ∷ drives) = record { ticked = true; inputs = ((s - 48)
 cycles [] drives = []
 cycles (s ∷ stops) [] = []
 
--- the value of the last block in each cycle, where bit 0 is the stop, or the drive's, and bits 1 and 2 the
--- acknowledgement
+-- a bit of a connection
+abbrev pub worked_bit : ℕ → ℕ → Bit
+worked_bit link b = record { link = link; bit = b }
+
+-- the blocks, where bit 0 is the stop, or the drive's, and bits 1 and 2 the acknowledgement
+abbrev pub worked_blocks : List NetBlock
+worked_blocks = stop_blocks (worked_bit 1 0) (worked_bit 2 0) (worked_bit 1 1) (worked_bit 1 2)
+
+-- the value of the last of them in each cycle
 abbrev pub last_values : List NetCycle → List ℕ
 last_values [] = []
-last_values (c ∷ e) =
-    let bit : ℕ → ℕ → Bit = λ link b. record { link = link; bit = b } in
-    (if at_number (block_values (stop_blocks (bit 1 0) (bit 2 0) (bit 1 1) (bit 1 2)) (c ∷ e)) 6 false then 49 else 48) ∷ last_values e
+last_values (c ∷ e) = (if at_number (block_values worked_blocks (c ∷ e)) 6 false then 49 else 48) ∷ last_values e
 
 -- on at the release; after a press of the stop a stuck acknowledgement that comes loose isn't enough, and a press and a
 -- release are; so it is after a loss of the drive
 unfoldable pub StopRow : Type 0
 StopRow = reverse (last_values (reverse (cycles (codes "5535350335355535") (codes "1111111111110111")))) ≡ codes "0001110000010001"
+
+-- by which of these bits an output bit is guarded: the stop, the drive's, the acknowledgement
+abbrev pub guarded_by : Bit → List Bool
+guarded_by out =
+    map (is_output_guarded worked_blocks (stop_drives (worked_bit 2 0)) out) (worked_bit 1 0 ∷ worked_bit 2 0 ∷ worked_bit 1 1 ∷ worked_bit 1 2 ∷ [])
+
+-- the drive is off with the stop and with its own bit; a bit that isn't driven is off in any case
+unfoldable pub GuardRow : Type 0
+GuardRow = (guarded_by (worked_bit 2 0) ≡ true ∷ true ∷ false ∷ false ∷ []) × (guarded_by (worked_bit 2 1) ≡ replicate 4 true)

@@ -12,7 +12,7 @@ ghost use Rattle.fb_net.specs.Guarded.{is_output_guarded};
 ghost use Rattle.fb_net.specs.Standing.{IsNewNet, NetStands};
 ghost use Rattle.fb_net.specs.Meaning.{rule_of, net_holds};
 ghost use Rattle.fb_net.specs.Calls.{Call, Called, cycles_of, all_outputs, held_after};
-ghost use Rattle.fb_net.specs.Acknowledged.{stop_blocks, stop_drives, is_on, may_run, is_acknowledged, is_let_go, StopRow};
+ghost use Rattle.fb_net.specs.Acknowledged.{stop_blocks, stop_drives, is_on, may_run, is_acknowledged, is_let_go, StopRow, GuardRow};
 
 /// A new net that has any calls gives in each what looking back over its cycles says, and stands for them all.
 #[tactic(auto, using(crate::proofs::CallsOf::outputs_are, crate::proofs::CallsOf::stands))]
@@ -51,8 +51,8 @@ pub fn outputs()
 /// The drive of an emergency stop whose acknowledgement comes as two bits is on exactly where the acknowledgement was
 /// seen released, then pressed, then released again since the stop was last pressed or the drive last lost, or since
 /// the first cycle. So it is switched on at a release, and an acknowledgement that wasn't seen pressed, or wasn't seen
-/// released, leaves it off.
-#[tactic(auto, unfolding(crate::specs::Acknowledged::StopRow))]
+/// released, leaves it off. The stop and the drive's bit guard it, and the acknowledgement doesn't.
+#[tactic(auto, unfolding(crate::specs::Acknowledged::StopRow, crate::specs::Acknowledged::GuardRow))]
 pub fn acknowledged()
     ensures on { (stop there pressed released drive : Bit) (lens : List ℕ) (c : NetCycle) (e : List NetCycle) → has_bit lens drive ≡ true
         → bit_at (driven_images (stop_drives drive) (block_values (stop_blocks stop there pressed released) (c ∷ e)) c.inputs lens) drive
@@ -63,4 +63,5 @@ pub fn acknowledged()
     ensures stuck { (stop there pressed released : Bit) (e : List NetCycle) → let since : List NetCycle = run (may_run stop there) e in
         (list_any (is_on pressed) since && list_any (is_on released) since) ≡ false → is_acknowledged stop there pressed released e ≡ false }
     ensures row { StopRow }
+    ensures guards { GuardRow }
 {}

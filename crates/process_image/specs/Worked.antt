@@ -1,5 +1,5 @@
 -- Worked runs of images: a header, the events of a run, and the report that is written of them.
-use Rattle.std.specs.Prelude.{◌≡◌, ℕ, List, [], ◌∷◌, codes, reverse, Result, Ok}
+use Rattle.std.specs.Prelude.{◌≡◌, ℕ, List, [], ◌∷◌, codes, replicate, reverse, Result, Ok}
 use Rattle.hex.specs.Hex.{decode_of}
 use Rattle.param_load.specs.declared.profile.Profile.TheVariants as profile
 use Rattle.schedule_file.specs.Fields.{◌>>=◌, map_ok}
@@ -71,6 +71,10 @@ sharing = record {
   size_out = 14;
   places = record { number = 1; at_in = 0; at_out = 0; setup = a_slave } ∷ record { number = 2; at_in = 6; at_out = 7; setup = a_slave } ∷ [];
 }
+
+-- 65 slots that share all bytes and lie outside of the output image
+abbrev pub crowded : Plan
+crowded = record { size_in = 7; size_out = 6; places = replicate 65 (record { number = 1; at_in = 0; at_out = 0; setup = a_slave }) }
 
 -- the lines of two slots that a slave has, the second of which begins here
 abbrev pub two_slots : List ℕ → List (List ℕ)

@@ -13,7 +13,7 @@ ghost use Rattle.process_image.specs.Own.{Unwritten, WritesFit, at_samples, dist
 ghost use Rattle.process_image.specs.Image.{input};
 ghost use Rattle.process_image.specs.Places.{Place, Plan, share, spans_of};
 ghost use Rattle.process_image.specs.Standing.{told};
-ghost use Rattle.process_image.specs.Worked.{sharing, one_uneven, two_slots, stage_after, one_said, w, ChangesAlone, HalfWritten, BothEnds};
+ghost use Rattle.process_image.specs.Worked.{sharing, crowded, one_uneven, two_slots, stage_after, one_said, w, ChangesAlone, HalfWritten, BothEnds};
 ghost use Rattle.process_image.specs.declared.event.ImageEvent.{ImageEvent};
 ghost use Rattle.process_image.specs.declared.event.ImageEvent.TheVariants as event;
 ghost use Rattle.process_image.specs.declared.event.ImageLine.TheVariants as line;
@@ -36,6 +36,7 @@ pub fn worked_reports()
 {}
 
 /// Worked lines of a header and of events, and slots that share a byte: the line that says a slot's lengths is refused.
+/// Then the first fault of slots that have several.
 pub fn worked_lines()
     ensures apart { stage_after (two_slots (codes "slot 2 7 7")) ≡ Ok stage.Slots }
     ensures shared { stage_after (two_slots (codes "slot 2 6 7")) ≡ Err cause.Range }
@@ -44,6 +45,8 @@ pub fn worked_lines()
     ensures master_too_long { stage_after (one_uneven (codes "master 1 2 100 1")) ≡ Err cause.Range }
     ensures out_of_turn { stage_after (two_slots (codes "slot 3 7 7")) ≡ Err cause.Range }
     ensures fault { first_fault sharing ≡ Some (fault.Overlap 1 2) }
+    ensures fault_outside { first_fault (record sharing { size_out = 13 }) ≡ Some (fault.Bounds 2) }
+    ensures too_many { first_fault crowded ≡ Some fault.TooMany }
     ensures write { one_said (codes "w 7 2a0000c42d0000") ≡ Ok (line.Step (w 7 (codes "2a0000c42d0000"))) }
     ensures outside { one_said (codes "w 8 2a0000c42d0000") ≡ Err cause.Position }
     ensures no_slot { one_said (codes "p 2 zz") ≡ Err cause.NoLink }

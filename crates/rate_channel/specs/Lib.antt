@@ -1,1 +1,2 @@
 pub mod Rated
+pub mod WorkedRated

@@ -16,6 +16,7 @@
 //! ```
 #![tactic(auto)]
 
+pub mod laws;
 mod rate_channel;
 
 pub use rate_channel::{RateChannel, Rates};

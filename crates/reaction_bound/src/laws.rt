@@ -1,6 +1,6 @@
 //! What holds of ages. The calls do nothing: each law is a contract.
 
-ghost use Rattle.std.specs.Prelude.{ℕ, ◌*◌, ◌-◌, ◌≤◌, IsTrue, IsSome, List, IfSome, IsSomeAnd};
+ghost use Rattle.std.specs.Prelude.{◌≡◌, ℕ, ◌*◌, ◌-◌, ◌≤◌, true, false, IsTrue, IsSome, Some, None, List, [], ◌∷◌, IfSome, IsSomeAnd};
 ghost use Rattle.fsoe_base.specs.declared.command.End.{End};
 ghost use Rattle.param_load.specs.declared.entry.Entry.{Entry};
 ghost use Rattle.param_load.specs.declared.master_settings.MasterSettings.{MasterSettings};
@@ -13,6 +13,7 @@ ghost use Rattle.exchange_model.specs.World.{setup_of, deeds, SameLengths};
 ghost use Rattle.exchange_model.specs.Schedules.{IsWorld};
 ghost use Rattle.exchange_model.specs.Other.{NoOther};
 ghost use Rattle.reaction_bound.specs.Age.{age_of, worst_of};
+ghost use Rattle.reaction_bound.specs.Reaction.{Quiet, Tick, broken_of};
 ghost use Rattle.reaction_bound.specs.WorkedAge.{SlaveIsOldest, MasterIsOldest, ForgedHaveNone};
 
 /// The law of the age, for both ends' settings with equal lengths and each world without an `other` entry. Outputs are
@@ -28,6 +29,13 @@ pub fn bounded_ages()
 #[tactic(auto, using(crate::proofs::Aged::has_age))]
 pub fn aged_outputs()
     ensures { (ms : MasterSettings) (ss : SlaveSettings) (which : End) (bit : ℕ) (w : List Entry) → SameLengths ms ss → IsWorld ms ss w → NoOther w → IsTrue (bit_of (outputs_due (received_len ms.lengths which) (of_end which w)) bit) → IsSome (age_of which w) }
+{}
+
+/// Worked reactions with a limit of two ticks: one is broken at the second tick with the drive on though the stop is
+/// pressed, and not where it was let go between them.
+pub fn worked_reactions()
+    ensures broken { broken_of 2 (Tick true ∷ Tick true ∷ Quiet true ∷ []) ≡ Some 2 }
+    ensures let_go { broken_of 2 (Tick true ∷ Quiet true ∷ Quiet false ∷ Tick true ∷ Quiet true ∷ []) ≡ None }
 {}
 
 /// Worked runs in which the outputs of each end get as old as the law allows and no older, and one without an age.

@@ -1,7 +1,7 @@
 //! How old the outputs of both ends of a connection are, and whether an emergency stop switches a drive off in time.
-//! The laws say how old outputs can be. A plant may have bounds in its configuration. For each bound it counts the age
-//! of the outputs of both connections, and watches whether the drive is off in time. Time is counted in ticks; no clock
-//! is read.
+//! The laws say how old outputs can be. The configuration of a plant may have bounds. A bound names a stop and a drive,
+//! mostly of two connections. For each bound the plant counts the age of the outputs of these connections, and watches
+//! whether the drive is off in time. Time is counted in ticks; no clock is read.
 //!
 //! ```rust
 //! use reaction_bound::Reaction;

@@ -1,11 +1,13 @@
-//! Tests of complete runs: a replay, also one whose input or output fails; a pair over a schedule; a plant with its
-//! script. The expected values were found without this code. The module `fairness` judges whether the entries of a run
-//! are fair; it looks back over them. Tests of `plant_conf` and `schedule_file` are here too, since the runs need these
-//! crates anyway.
+//! Tests of complete runs. They show when input is read and output written, also if a call fails. They run both ends
+//! over a schedule, and a plant over channels that are handed in. A plain program judges the entries of both ends. Tests
+//! of calls in `plant_conf` and `schedule_file` are here too, since the runs need these crates anyway. The expected
+//! values were found without this code.
 #![tactic(auto)]
 
 #[cfg(test)]
 mod fairness;
+#[cfg(test)]
+mod line_by_line;
 #[cfg(test)]
 mod of_commands;
 #[cfg(test)]
@@ -13,14 +15,10 @@ mod of_duo_run;
 #[cfg(test)]
 mod of_plant_conf;
 #[cfg(test)]
-mod of_plant_core;
+mod of_plant_pairs;
 #[cfg(test)]
 mod of_plant_run;
 #[cfg(test)]
 mod of_schedule_file;
 #[cfg(test)]
 mod pairs;
-#[cfg(test)]
-mod plants;
-#[cfg(test)]
-mod test_channels;

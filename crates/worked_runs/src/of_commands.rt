@@ -13,10 +13,6 @@ const HEADER: &str =
 pub(crate) const UNTIL_DATA: &str =
     "pm 0100\nps 8000\ntm\nds -1\ndm -1\nds -1\ndm -1\nds -1\ndm -1\nds -1\ndm -1\nds -1\ndm -1\nds -1\ndm -1\nds -1\ndm -1\nds -1\ndm -1\n";
 
-/// The lines up to those data in a file of several pairs, of which there is one.
-const UNTIL_DATA_OF_PAIR: &str =
-    "fsoe 2 pairs\npair 1\nlengths 2 2\nmaster 1 2 100 1\nslave 2 200 1000 2\nrule any 0\ngo\n1 pm 0100\n1 ps 8000\n1 tm\n1 ds -1\n1 dm -1\n1 ds -1\n1 dm -1\n1 ds -1\n1 dm -1\n1 ds -1\n1 dm -1\n1 ds -1\n1 dm -1\n1 ds -1\n1 dm -1\n1 ds -1\n1 dm -1\n1 ds -1\n1 dm -1\n";
-
 /// These parts of a text, joined.
 fn joined(alloc: Global, parts: &[&str]) -> Result<Vec<u8>, AllocError> {
     let mut text = Vec::new(alloc);
@@ -41,41 +37,6 @@ fn run_over(
     let mut sink = MemSink::new(alloc, 100_000, most, vec![in alloc; write_fails].ok()?).ok()?;
     let ended = run_replay(alloc, &mut source, &mut sink);
     Some((ended, sink))
-}
-
-/// The parts of an input, and how its replay ends.
-type Row = (&'static [&'static str], Status, u64);
-
-const ROWS: [Row; 7] = [
-    (&[HEADER, "end\n"], Status::Ok, 0),
-    (
-        &[HEADER, UNTIL_DATA, "rs 36ff004ee90100\nend\n"],
-        Status::Other,
-        20,
-    ),
-    (
-        &[HEADER, UNTIL_DATA, "zs\nds -8\nds -7\nend\n"],
-        Status::Other,
-        22,
-    ),
-    (
-        &[UNTIL_DATA_OF_PAIR, "1 rs 36ff004ee90100\nend\n"],
-        Status::Other,
-        20,
-    ),
-    (&[HEADER, "dm -65\nend\n"], Status::Line, 7),
-    (&[HEADER], Status::Line, 7),
-    (&["fsoe 1 pair\nlengths 3 2\nend\n"], Status::Line, 2),
-];
-
-#[test]
-fn replays_end_at_their_places(rt: HostRuntime) -> Result<(), Fail> {
-    for (parts, status, place) in ROWS {
-        let input = joined(rt.alloc(), parts)?;
-        let (ended, _) = run_over(rt.alloc(), &input, 1000, 0, 0).ok_or("not run")?;
-        assert_eq!(rt; ended, Ended { status, place }, "{parts:?}");
-    }
-    Ok(())
 }
 
 #[test]

@@ -6,8 +6,8 @@ use crate::of_commands::UNTIL_DATA;
 use crate::pairs::Played;
 use duo_run::Duo;
 use exchange_model::{ListMonitor, Monitor};
-use fsoe_base::{Command, Did, End, Image, Lengths};
-use param_load::{AppBytes, AppRule, Entry, MasterSettings, Move, Profiles, SlaveSettings};
+use fsoe_base::Lengths;
+use param_load::{AppBytes, AppRule, Entry, MasterSettings, Profiles, SlaveSettings};
 use schedule_file::{ScheduleLine, read_event};
 use std::alloc::Global;
 use std::test::Fail;
@@ -50,34 +50,6 @@ fn after_first_data(alloc: Global, events: &str) -> Result<Played, Fail> {
     Ok(pair)
 }
 
-/// One thing in the entries of a run that isn't as the ends did it.
-#[derive(Clone, Copy, Debug)]
-enum Untrue {
-    /// The master put other data.
-    Put,
-    /// The master told other terms when it sent its first data.
-    Terms,
-    /// The slave shows other outputs.
-    Outputs,
-    /// The slave takes data at two repeats, though it awaits the same frame at both.
-    Twice,
-}
-
-/// Makes one thing untrue. None where there is no such entry.
-fn make_untrue(entries: &mut Vec<Entry>, what: Untrue) -> Option<()> {
-    match what {
-        Untrue::Put => entries.get_mut(0)?.what = Move::Put(Image::zeros(2)),
-        Untrue::Terms => entries.get_mut(16)?.terms.as_mut()?.conn = 3,
-        Untrue::Outputs => entries.get_mut(17)?.outputs.set(&[1, 1]),
-        Untrue::Twice => {
-            for place in [19, 20] {
-                entries.get_mut(place)?.did = Did::took(Command::ProcessData, &[1, 0], true);
-            }
-        }
-    }
-    Some(())
-}
-
 /// The first unfair entry among the first `count` of a run after the first data.
 fn unfair_of(alloc: Global, events: &str, count: usize) -> Result<Option<usize>, Fail> {
     let pair = after_first_data(alloc, events)?;
@@ -98,34 +70,8 @@ fn worked_runs_are_fair_before_a_foreign_frame(rt: HostRuntime) -> Result<(), Fa
     Ok(())
 }
 
-/// The first unfair entries of a run with two repeats, as it is and with one thing made untrue.
-fn unfair_by(alloc: Global, what: Untrue) -> Result<[Option<usize>; 2], Fail> {
-    let mut pair = after_first_data(alloc, "ds -2\nds -2")?;
-    let before = first_unfair(alloc, pair.entries.as_slice())?;
-    make_untrue(&mut pair.entries, what).ok_or("few entries")?;
-    Ok([before, first_unfair(alloc, pair.entries.as_slice())?])
-}
-
-#[test]
-fn untrue_entries_are_unfair(rt: HostRuntime) -> Result<(), Fail> {
-    for (what, unfair) in [
-        (Untrue::Put, 18),
-        (Untrue::Terms, 18),
-        (Untrue::Outputs, 18),
-        (Untrue::Twice, 21),
-    ] {
-        assert_eq!(rt;
-            unfair_by(rt.alloc(), what)?,
-            [None, Some(unfair)],
-            "{what:?}"
-        );
-    }
-    Ok(())
-}
-
-/// The first `other` entry of these, and the number of the item that each end awaits after them. None if the monitors
-/// differ after one of them, or memory ran out.
-fn judged(alloc: Global, entries: &[Entry]) -> Option<(Option<u64>, [Option<u64>; 2])> {
+/// The first `other` entry of these. None if the monitors differ after one of them, or memory ran out.
+fn judged(alloc: Global, entries: &[Entry]) -> Option<Option<u64>> {
     let mut monitor = Monitor::new();
     let mut plain = ListMonitor::new(alloc);
     if entries.len() > 10_000 {
@@ -138,35 +84,14 @@ fn judged(alloc: Global, entries: &[Entry]) -> Option<(Option<u64>, [Option<u64>
             return None;
         }
     }
-    let awaited = [monitor.awaited(End::Master), monitor.awaited(End::Slave)];
-    Some((monitor.other(), awaited))
+    Some(monitor.other())
 }
 
 #[test]
 fn both_monitors_find_the_first_other_entry(rt: HostRuntime) -> Result<(), Fail> {
-    for (events, other) in [
-        ("", None),
-        ("ds -1\nzs\ndm -2\ndm -1", None),
-        ("rs 36ff004ee90100", Some(20)),
-        ("zs\nds -8\nds -7", Some(22)),
-    ] {
-        let pair = after_first_data(rt.alloc(), events)?;
-        let (found, _) = judged(rt.alloc(), &pair.entries).ok_or("not judged")?;
-        assert_eq!(rt; found, other, "{events}");
-    }
     let mut pair = pair(rt.alloc(), 100)?;
     pair.number(5, 5000)?;
-    let (found, _) = judged(rt.alloc(), &pair.entries).ok_or("not judged")?;
-    assert_eq!(rt; (found, pair.entries.len()), (Some(1668), 5000));
-    Ok(())
-}
-
-#[test]
-fn an_answer_stays_awaited_when_its_sender_resets(rt: HostRuntime) -> Result<(), Fail> {
-    let pair = after_first_data(rt.alloc(), "ds -1\nzs")?;
-    assert_eq!(rt;
-        judged(rt.alloc(), &pair.entries),
-        Some((None, [Some(9), None]))
-    );
+    assert_eq!(rt; pair.entries.len(), 5000);
+    assert_eq!(rt; judged(rt.alloc(), &pair.entries), Some(Some(1668)));
     Ok(())
 }

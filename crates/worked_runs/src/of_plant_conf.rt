@@ -1,11 +1,7 @@
-use crate::plants::worked_conf;
-use param_load::{AppRule, Profile};
 use plant_conf::{LinkConf, PlantConf, read_conf};
-use std::alloc::Global;
-use std::test::Fail;
 
 /// Each key of a plant and of a connection once.
-const WHOLE: &str = "[plant]
+const WHOLE: &[u8] = b"[plant]
 app = \"mine\"
 channel = \"wire\"
 seed = 77
@@ -24,75 +20,37 @@ master_nonce = 35
 slave_nonce = 36
 ";
 
-/// How many connections, blocks, drives and bounds there are.
-fn counts(conf: &PlantConf) -> [usize; 4] {
-    [
-        conf.links().len(),
-        conf.blocks().len(),
-        conf.drives().len(),
-        conf.bounds().len(),
-    ]
-}
-
-/// The numbers of both ends of a connection: connection id, address and watchdog of the master; address and both limits
-/// of the slave; and both nonces.
-type Numbers = ([u16; 3], [u16; 3], [u32; 2]);
-
-fn numbers(link: &LinkConf) -> Numbers {
+/// Whether a connection has the numbers that stand here.
+fn has_its_numbers(link: &LinkConf) -> bool {
     let LinkConf { master, slave } = link;
-    (
-        [master.conn(), master.address(), master.watchdog()],
-        [slave.address(), slave.hand(), slave.most()],
-        [master.nonce(), slave.nonce()],
-    )
+    [master.conn(), master.address(), master.watchdog()] == [21, 22, 23]
+        && [master.own_len(), slave.own_len()] == [24, 26]
+        && [slave.address(), slave.hand(), slave.most()] == [32, 33, 34]
+        && [master.nonce(), slave.nonce()] == [35, 36]
 }
 
-/// Whether these are the names of the application and of the channel, the seed and the numbers of the last connection.
-fn has(conf: &PlantConf, app: &str, channel: &str, seed: u64, last: Numbers) -> bool {
-    let Some(link) = conf.links().last() else {
-        return false;
-    };
-    conf.app() == app && conf.channel() == channel && conf.seed() == seed && numbers(link) == last
-}
-
-/// Whether a connection has the lengths 24 and 26 and the application parameters 0a 0b, and its slave allows no others,
-/// in profile One.
+/// Whether a connection has the application parameters 0a 0b, and its slave allows no others.
 fn has_its_parameters(link: &LinkConf) -> bool {
-    let LinkConf { master, slave } = link;
-    [master.own_len(), slave.own_len()] == [24, 26]
-        && master.app().bytes() == [10, 11].as_slice()
-        && slave.rule().allows(&[10, 11])
-        && !slave.rule().allows(&[10, 12])
-        && slave.profile() == Profile::One
-        && master.profile() == Profile::One
+    let rule = link.slave.rule();
+    link.master.app().bytes() == [10, 11].as_slice()
+        && rule.allows(&[10, 11])
+        && !rule.allows(&[10, 12])
+}
+
+/// Whether these names, the seed and one connection were read.
+fn is_whole(conf: &PlantConf) -> bool {
+    let names = conf.app() == "mine" && conf.channel() == "wire";
+    match conf.links() {
+        [link] => names && conf.seed() == 77 && has_its_numbers(link) && has_its_parameters(link),
+        _ => false,
+    }
 }
 
 #[test]
-fn the_worked_plant_is_read(rt: HostRuntime) -> Result<(), Fail> {
-    let conf = worked_conf(rt.alloc(), "perfect", 1).ok_or("not read")?;
-    let second = ([2, 12, 5], [12, 5, 65_535], [1, 2]);
-    assert_eq!(rt; counts(&conf), [2, 1, 1, 0]);
-    assert!(rt; has(&conf, "net", "perfect", 1, second));
-    let last = conf.links().last().ok_or("no connection")?;
-    assert!(rt; matches!(last.slave.rule(), AppRule::Any(0)));
-    Ok(())
-}
-
-#[test]
-fn every_key_is_taken_as_it_stands(rt: HostRuntime) -> Result<(), Fail> {
-    let conf = read_conf(rt.alloc(), WHOLE.as_bytes())
-        .ok()
-        .ok_or("not read")?;
-    assert!(rt;
-        has(
-            &conf,
-            "mine",
-            "wire",
-            77,
-            ([21, 22, 23], [32, 33, 34], [35, 36])
-        )
-    );
-    let link = conf.links().last().ok_or("no connection")?;
-    assert!(rt; has_its_parameters(link));
-    Ok(())
+fn every_key_is_taken_as_it_stands(rt: HostRuntime) {
+    let well = match read_conf(rt.alloc(), WHOLE) {
+        Ok(conf) => is_whole(&conf),
+        Err(_) => false,
+    };
+    assert!(rt; well);
 }

@@ -74,7 +74,7 @@ impl Played {
         self.line(line.bytes())
     }
 
-    /// Does what a step of a journal means for connection k, where its script has ticks and puts alone.
+    /// Does what a step of a journal means for connection k, where its script has ticks alone.
     fn play(&mut self, step: &JournalStep, k: u16) -> Result<(), Fail>
         requires { steps_done self.old.duo ≤ length self.old.entries.items }
         ensures { IfOk result (λ _. steps_done self.new.duo ≤ length self.new.entries.items) }
@@ -83,9 +83,6 @@ impl Played {
             JournalStep::Script(PlantEvent::Tick) => {
                 self.event("ts", &[])?;
                 self.event("tm", &[])
-            }
-            JournalStep::Script(PlantEvent::Put { link, load }) if *link == k => {
-                self.event("ps ", load.bytes())
             }
             JournalStep::Offer { link, load } if *link == k => self.event("pm ", load.bytes()),
             JournalStep::Pulled(parcel) if parcel.to.link == k => match parcel.to.end {

@@ -1,6 +1,6 @@
 //! Runs whose input comes line by line: all that the lines before say is with the sink before more is asked for, and
 //! after the last line, or a write that fails, nothing is.
-ghost use Rattle.std.specs.Prelude.{None};
+ghost use Rattle.std.specs.Prelude.{None, if◌then◌else◌};
 
 use black_channel::{Channel, PerfectChannel};
 use duo_run::{run_convert, run_replay};
@@ -12,7 +12,6 @@ use plant_run::Journal;
 use process_image::run_image;
 use std::alloc::Global;
 use std::cell::Cell;
-use std::test::Fail;
 use trace_diag::run_diagnose;
 
 /// A line of an input, or a part of one, and what is written of it. An empty one is the end of the input.
@@ -43,7 +42,7 @@ impl Sink for Counting<'_> {
 }
 
 /// Gives a line, or a part of one, in a call. It counts the calls at which not exactly what the lines before say was
-/// written, and those after the last line.
+/// written, and those after the last line, at each of which it may fail.
 #[derive(Drop)]
 struct Asked<'a> {
     lines: &'a [Line<'a>],
@@ -51,26 +50,14 @@ struct Asked<'a> {
     due: u64,
     written: &'a Cell<u64>,
     otherwise: u32,
-    after: u32,
-}
-
-impl<'a> Asked<'a> {
-    fn new(lines: &'a [Line<'a>], written: &'a Cell<u64>) -> Asked<'a> {
-        Asked {
-            lines,
-            given: 0,
-            due: 0,
-            written,
-            otherwise: 0,
-            after: 0,
-        }
-    }
+    fails: bool,
+    after: u64,
 }
 
 impl Source for Asked<'_> {
     ghost left = { λ _. None };
 
-    ghost faults = { λ _. 0 };
+    ghost faults = { λ s. if s.fails then s.after else 0 };
 
     fn read(&mut self, buffer: &mut [u8]) -> Result<usize, Failed> {
         if self.written.get() != self.due {
@@ -78,7 +65,7 @@ impl Source for Asked<'_> {
         }
         let Some((line, report)) = self.lines.get(self.given) else {
             self.after = self.after.saturating_add(1);
-            return Ok(0);
+            return if self.fails { Err(Failed) } else { Ok(0) };
         };
         self.given = self.given.saturating_add(1);
         self.due = self.due.saturating_add(report.len() as u64);
@@ -92,7 +79,7 @@ impl Source for Asked<'_> {
 const PART: &str =
     "00000000000000000000000000000000000000000000000000000000000000000000000000000000";
 
-const ROWS: [(&str, &[Line<'static>]); 12] = [
+const ROWS: &[(&str, &[Line<'static>])] = &[
     (
         "node slave",
         &[
@@ -248,7 +235,7 @@ const ROWS: [(&str, &[Line<'static>]); 12] = [
 ];
 
 /// Headers, and an event that comes so often that its text fills more than a buffer while all lines are held.
-const HELD: [(&str, &str, &str); 7] = [
+const HELD: &[(&str, &str, &str)] = &[
     (
         "node slave",
         "fsoe 1 node slave\nlengths 2 2\nslave 2 200 1000 2\nrule any 0\ngo\n",
@@ -282,6 +269,16 @@ const HELD: [(&str, &str, &str); 7] = [
     ("plant", "fsoe 1 plant\n", "t\n"),
 ];
 
+/// The rows. A test that named them itself would be proved with all their text.
+fn rows() -> &'static [(&'static str, &'static [Line<'static>])] {
+    ROWS
+}
+
+/// The same of these.
+fn held() -> &'static [(&'static str, &'static str, &'static str)] {
+    HELD
+}
+
 fn node(end: End, source: &mut Asked<'_>, sink: &mut Counting<'_>) -> Ended {
     run_node(end, source, sink)
 }
@@ -314,25 +311,23 @@ drive = [{ out = 'o2.0', from = 'b1' }]
 
 /// None where there is no memory for what it is handed.
 fn plant(alloc: Global, source: &mut Asked<'_>, sink: &mut Counting<'_>) -> Option<Ended> {
-    let mut desk = SureDesk::new(PLANT.to_vec(alloc).ok()?);
-    let apps = Vec::new(alloc);
-    let mut channels: Vec<Box<dyn Channel>> = Vec::new(alloc);
+    let text = PLANT.to_vec(alloc).ok()?;
     let channel = PerfectChannel::new(alloc).ok()?;
-    channels.push(Box::new(alloc, channel).ok()?).ok()?;
+    let channel: Box<dyn Channel> = Box::new(alloc, channel).ok()?;
+    let mut channels = vec![in alloc; channel].ok()?;
+    let mut desk = SureDesk::new(text);
     let mut journal = Journal::new(alloc);
-    let wanted = Wanted::Report;
-    let ended = run_file(
+    Some(run_file(
         alloc,
         "plant",
         &mut desk,
         source,
         sink,
-        apps,
+        Vec::new(alloc),
         &mut channels,
         &mut journal,
-        wanted,
-    );
-    Some(ended)
+        Wanted::Report,
+    ))
 }
 
 fn run_of(
@@ -353,59 +348,69 @@ fn run_of(
     }
 }
 
-#[test]
-fn all_is_written_before_more_is_asked_for(rt: HostRuntime) -> Result<(), Fail> {
-    for (words, lines) in ROWS {
-        let written = Cell::new(0);
-        let mut source = Asked::new(lines, &written);
-        let mut sink = Counting {
-            count: &written,
-            fails: false,
-            faults: 0,
-        };
-        run_of(rt.alloc(), words, &mut source, &mut sink).ok_or("not run")?;
-        assert_eq!(rt; source.given, lines.len(), "{words}");
-        assert_eq!(rt; source.otherwise, 0, "{words}");
-        assert_eq!(rt; source.after, 0, "{words}");
-        assert_eq!(rt; written.get(), source.due, "{words}");
-    }
-    Ok(())
+/// The calls that fail: none, the read after the last line, or each write.
+#[derive(Clone, Copy)]
+enum Fails {
+    Nothing,
+    Read,
+    Write,
 }
 
-/// Whether a run over these lines ends with its first write, which fails. Since nothing is written then, a read after it
-/// is counted.
-fn ends_with_write(alloc: Global, words: &str, lines: &[Line<'_>]) -> Option<bool> {
+/// Whether a run over these lines reads and writes as it must, where these calls fail. Nothing is written before a
+/// write that fails, so that a read after it is counted.
+fn runs_well(alloc: Global, words: &str, lines: &[Line<'_>], fails: Fails) -> Option<bool> {
     let written = Cell::new(0);
-    let mut source = Asked::new(lines, &written);
+    let mut source = Asked {
+        lines,
+        given: 0,
+        due: 0,
+        written: &written,
+        otherwise: 0,
+        fails: matches!(fails, Fails::Read),
+        after: 0,
+    };
     let mut sink = Counting {
         count: &written,
-        fails: true,
+        fails: matches!(fails, Fails::Write),
         faults: 0,
     };
-    let ended = run_of(alloc, words, &mut source, &mut sink)?;
-    let (status, place) = (Status::Write, 0);
-    Some(ended == Ended { status, place } && sink.faults == 1 && source.otherwise == 0)
+    let Ended { status, place } = run_of(alloc, words, &mut source, &mut sink)?;
+    let all = source.given == lines.len() && written.get() == source.due;
+    let ends = match fails {
+        Fails::Nothing => all && source.after == 0,
+        Fails::Read => all && source.after == 1 && status == Status::Read,
+        Fails::Write => sink.faults == 1 && status == Status::Write && place == 0,
+    };
+    Some(ends && source.otherwise == 0)
+}
+
+#[test]
+fn all_is_written_before_more_is_asked_for(rt: HostRuntime) {
+    for (words, lines) in rows() {
+        let well = runs_well(rt.alloc(), words, lines, Fails::Nothing);
+        assert!(rt; well == Some(true), "{words}");
+    }
+}
+
+/// Whether a run that holds a thousand events ends with its first write, which fails.
+fn ends_held(alloc: Global, words: &str, header: &str, event: &str) -> Option<bool> {
+    let events = event.repeat(alloc, 1_000).ok()?;
+    let text = format!(in alloc; "{header}{events}").ok()?;
+    let lines = [(text.as_str(), "more"), ("end\n", "")];
+    runs_well(alloc, words, &lines, Fails::Write)
 }
 
 /// Neither where the next line is to come, nor where lines are held.
 #[test]
-fn nothing_is_asked_for_or_written_after_a_failed_write(rt: HostRuntime) -> Result<(), Fail> {
-    for (words, lines) in ROWS {
-        assert!(rt;
-            ends_with_write(rt.alloc(), words, lines).ok_or("not run")?,
-            "{words}"
-        );
+fn nothing_is_asked_for_or_written_after_a_failed_call(rt: HostRuntime) {
+    for (words, lines) in rows() {
+        let before = &lines[..lines.len().saturating_sub(1)];
+        let read = runs_well(rt.alloc(), words, before, Fails::Read);
+        let write = runs_well(rt.alloc(), words, lines, Fails::Write);
+        assert!(rt; read == Some(true) && write == Some(true), "{words}");
     }
-    for (words, header, event) in HELD {
-        let mut text = header.to_string(rt.alloc())?;
-        for _ in 0..1_000 {
-            text.push_str(event)?;
-        }
-        let lines = [(text.as_str(), "more"), ("end\n", "")];
-        assert!(rt;
-            ends_with_write(rt.alloc(), words, &lines).ok_or("not run")?,
-            "{words}"
-        );
+    for (words, header, event) in held() {
+        let well = ends_held(rt.alloc(), words, header, event);
+        assert!(rt; well == Some(true), "{words}");
     }
-    Ok(())
 }
