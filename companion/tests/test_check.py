@@ -24,7 +24,7 @@ def refused_runs():
     blocks, runs = check.all_runs()
     for name, marked, cells in check.all_rows(runs):
         parts = check.parts_of(name, marked, blocks, {"file": "", **cells})
-        last = parts[">"][-1].decode("latin-1")
+        last = b"".join(parts[">"][-1:]).decode("latin-1")
         if last.startswith(("refused ", "config ")) and not last.endswith("..."):
             yield name, last, *(b"".join(parts[mark]).decode("latin-1") for mark in ":<")
 
