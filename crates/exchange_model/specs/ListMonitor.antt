@@ -1,5 +1,6 @@
 -- What a monitor with lists keeps: all items of both ends, oldest first.
 use Rattle.std.specs.Prelude.{ℕ, suc, ◌≡◌, List, [], ◌∷◌, ◌++◌, length, Bool, ◌&&◌, not, Option, Some, None, if◌then◌else◌}
+use Rattle.std.specs.Option.{option_or}
 use Rattle.fsoe_base.specs.declared.command.End.{End}
 use Rattle.fsoe_base.specs.declared.command.End.TheVariants as end_name
 use Rattle.fsoe_base.specs.declared.command.Command.TheVariants as command
@@ -8,7 +9,6 @@ use Rattle.end_model.specs.Phases.{has_command}
 use Rattle.end_model.specs.Deed.{delivered, is_empty}
 use Rattle.exchange_model.specs.declared.side.Sent.{Sent}
 use Rattle.exchange_model.specs.declared.list_monitor.Listed.{Listed}
-use Rattle.exchange_model.specs.Ends.{peer}
 use Rattle.exchange_model.specs.Items.{Item, items_of, items, answers_to}
 use Rattle.exchange_model.specs.Other.{first_of_both, first_other}
 use Rattle.exchange_model.specs.Monitor.{Side, next_sent, is_other_to, number_taken}
@@ -38,15 +38,10 @@ list_of w = record { noted = length w; other = first_other w; master = listed (i
 pub record ListsEntry (old : ListView) (x : Entry) (new : ListView) : Type 0 where
   pub lists : (w : List Entry) → old ≡ list_of w → new ≡ list_of (x ∷ w)
 
--- a later item where there is one, else this one
-abbrev pub later : Option Sent → Sent → Option Sent
-later None s = Some s
-later (Some t) s = Some t
-
 -- the newest of these items
 abbrev pub last_sent : List Listed → Option Sent
 last_sent [] = None
-last_sent (i ∷ found) = later (last_sent found) i.sent
+last_sent (i ∷ found) = option_or (last_sent found) (Some i.sent)
 
 -- whether an item isn't a Reset frame and answers the one with this number
 abbrev pub is_answer_to : ℕ → Listed → Bool
@@ -55,7 +50,7 @@ is_answer_to number i = not (has_command command.Reset i.sent.bytes) && answers_
 -- the newest of these items that isn't a Reset frame and answers the one with this number
 abbrev pub last_answer : ℕ → List Listed → Option Sent
 last_answer number [] = None
-last_answer number (i ∷ found) = if is_answer_to number i then later (last_answer number found) i.sent else last_answer number found
+last_answer number (i ∷ found) = if is_answer_to number i then option_or (last_answer number found) (Some i.sent) else last_answer number found
 
 -- the newest of these items that answers an item, if there is such an item
 abbrev pub answer_in : List Listed → Option Sent → Option Sent
@@ -66,14 +61,10 @@ answer_in found (Some s) = last_answer s.number found
 abbrev pub side_in : List Listed → List Listed → Side
 side_in mine theirs = record { newest = last_sent mine; awaited = answer_in theirs (last_sent mine) }
 
--- the items of an end
-abbrev pub list_in : End → ListView → List Listed
-list_in end_name.Master v = v.master
-list_in end_name.Slave v = v.slave
-
 -- what is kept of an end, looked up in the lists
 abbrev pub looked_up : End → ListView → Side
-looked_up which v = side_in (list_in which v) (list_in (peer which) v)
+looked_up end_name.Master v = side_in v.master v.slave
+looked_up end_name.Slave v = side_in v.slave v.master
 
 -- the items of an end after an entry of its own
 abbrev pub list_after : Side → Side → Entry → List Listed → List Listed

@@ -78,17 +78,13 @@ until_data = pm (codes "0100") ∷ ps (codes "8000") ∷ tm ∷ rounds 8
 abbrev pub pair_line : Entry → List ℕ
 pair_line x = end_letter x.end ++ codes " " ++ line x
 
--- the same without the frame that was sent
-abbrev pub short_line : Entry → List ℕ
-short_line x = end_letter x.end ++ codes " " ++ entry_text x.did x.state x.outputs []
-
 -- the lines of a run
 abbrev pub pair_lines : List Entry → List (List ℕ)
 pair_lines w = reverse (map pair_line w)
 
--- the lines of a run without frames
+-- the same without the frames that were sent
 abbrev pub short_lines : List Entry → List (List ℕ)
-short_lines w = reverse (map short_line w)
+short_lines w = reverse (map (λ x. end_letter x.end ++ codes " " ++ entry_text x.did x.state x.outputs []) w)
 
 -- the numbers of bytes of the frames that were sent
 abbrev pub sizes : List Entry → List ℕ

@@ -276,14 +276,11 @@ old_frames =
 abbrev pub session_over : List Event
 session_over = pm (codes "ff00") ∷ tm ∷ rounds 8 ++ ds 1 ∷ pm (codes "0000") ∷ zs ∷ dm 1 ∷ []
 
--- the old frames come to the slave, whose session id is as it was
-abbrev pub equal_ids_run : List Entry
-equal_ids_run = world master_values slave_values (session_over ++ old_frames)
-
--- the slave takes the whole old session, and the first guarded frame of it is other
+-- the old frames come to the slave, whose session id is as it was: it takes the whole old session, and the first
+-- guarded frame of it is other
 unfoldable pub EqualIds : Type 0
 EqualIds =
-    told_from 22 equal_ids_run
+    told_from 22 (world master_values slave_values (session_over ++ old_frames))
     ≡ (
       codes "s took Reset Reset 0000 > 2a0000c42d0000"
           ∷ codes "s took Session Session 0000 > 4e020090470000"
@@ -298,14 +295,11 @@ EqualIds =
       Some 25,
     )
 
--- the old frames come to the slave, which has a fresh session id
-abbrev pub fresh_id_run : List Entry
-fresh_id_run = world master_values slave_values (session_over ++ ns 3 ∷ old_frames)
-
--- the slave refuses the first Connection frame, whose CRC covers that of another answer, and drops the rest
+-- the old frames come to the slave, which has a fresh session id: it refuses the first Connection frame, whose CRC
+-- covers that of another answer, and drops the rest
 unfoldable pub FreshId : Type 0
 FreshId =
-    told_from 22 fresh_id_run
+    told_from 22 (world master_values slave_values (session_over ++ ns 3 ∷ old_frames))
     ≡ (
       codes "s quiet Reset 0000"
           ∷ codes "s took Reset Reset 0000 > 2a0000c42d0000"

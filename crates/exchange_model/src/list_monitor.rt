@@ -136,19 +136,10 @@ impl ListMonitor {
 
     /// Notes the next entry of the run, after fewer than 2^64 - 1 others. `Memory` if there is none for one more item;
     /// the monitor is then unchanged.
-    #[tactic(auto, using(crate::proofs::Monitors::ListNoted::lists_by))]
     pub fn note(&mut self, entry: &Entry) -> Result<(), Memory>
         requires { self.old.noted + 1 < 2 ^ 64 }
         ensures ok { OnOk result (ListsEntry self.old entry.now self.new) }
         ensures noted { OnOk result (self.new.noted ≡ self.old.noted + 1) }
-        ensures err { OnErr result (self.new ≡ self.old) }
-    {
-        self.step(entry)
-    }
-
-    fn step(&mut self, entry: &Entry) -> Result<(), Memory>
-        requires { self.old.noted + 1 < 2 ^ 64 }
-        ensures ok { OnOk result (self.new ≡ listed_next self.old entry.now) }
         ensures err { OnErr result (self.new ≡ self.old) }
     {
         let other = match entry.end {

@@ -59,20 +59,11 @@ impl Monitor {
 
     /// Notes the next entry of the run by its parts: its end, the bytes that came, none if nothing did, what the end
     /// did, and the frame that it sent. Fewer than 2^64 - 1 entries were noted before.
-    #[tactic(auto, using(crate::proofs::Monitors::Noted::notes_by))]
     #[inline(always)]
     pub fn note_parts(&mut self, at: End, came: &[u8], did: &Did, sent: &FrameBuf)
         requires { self.old.noted + 1 < 2 ^ 64 }
         ensures notes { NotesParts self.old at came.now did.now sent.now self.new }
         ensures noted { self.new.noted ≡ self.old.noted + 1 }
-    {
-        self.step(at, came, did, sent);
-    }
-
-    #[inline(always)]
-    fn step(&mut self, at: End, came: &[u8], did: &Did, sent: &FrameBuf)
-        requires { self.old.noted + 1 < 2 ^ 64 }
-        ensures { self.new ≡ noted_next self.old at came.now did.now sent.now }
     {
         self.noted += 1;
         let other = match at {

@@ -1,9 +1,9 @@
 -- A data frame that an end sends carries what its end put, or zeros where the end was held.
-use Rattle.exchange_model.proofs.Common.{AfterConnection, AfterSession, AllByRecursion, Answers, Command, Deed, Did, End, Entry, IsRun, IsWorld, Item, MasterFirstData, MasterGoesOn, MasterMoreData, MasterNextPhase, MasterSettings, MasterStarts, Move, OfConnection, OfMaster, OfParameter, OfSession, Reaction, Setup, SlaveSettings, Taking, answer_is, begun, command_in, deed_in, deeds, frame_if, frame_of, frame_with, held, is_data, is_data_if, is_empty, is_held, item_of, items, items_of, last_put, of_end, offer, offered_of, offered_put, same_end, sends, setup_of}
-use Rattle.std.proofs.Common.{◌≡◌, ℕ, List, [], ◌∷◌, replicate, Bool, true, false, Option, Some, None, if◌then◌else◌, refl, sym, ap, subst, ◌∙◌, arith, rules}
+use Rattle.exchange_model.proofs.Common.{AfterConnection, AfterSession, Answers, Command, Deed, Did, End, Entry, IsRun, IsWorld, Item, MasterFirstData, MasterGoesOn, MasterMoreData, MasterNextPhase, MasterSettings, MasterStarts, Move, OfConnection, OfMaster, OfParameter, OfSession, Reaction, Setup, SlaveSettings, Taking, answer_is, begun, command_in, deeds, frame_if, frame_of, frame_with, held, is_data, is_data_if, is_held, item_of, items, last_put, of_end, offer, offered_of, offered_put, sends, setup_of}
+use Rattle.std.proofs.Common.{◌≡◌, ℕ, List, [], ◌∷◌, replicate, true, false, Option, Some, None, refl, sym, ap, subst, ◌∙◌, arith, rules}
 use Rattle.fsoe_base.specs.declared.command.Command.TheVariants as command
 use Rattle.param_load.specs.declared.entry.Move.TheVariants as move
-use Rattle.exchange_model.proofs.Worlds.Projection.{same, deeds_are_run, entry_reacted}
+use Rattle.exchange_model.proofs.Worlds.Projection.{deeds_are_run, entry_reacted}
 use Rattle.exchange_model.proofs.Alone.Framed.{IsFrame, command_framed, IsData, slave_sends, piece_sent, data_sent}
 
 -- an item of data is of the frame that its load makes
@@ -15,22 +15,14 @@ abbrev pub offer_by : ℕ → Option (List ℕ) → List ℕ
 offer_by l None = replicate l 0
 offer_by l (Some bytes) = bytes
 
-put-head : (s : Setup) (which : End) (x : Entry) (w : List Entry) (mine : Bool) → offer s (deeds which w) ≡ offer_by (sends s) (last_put (of_end which w))
-    → offer s (if mine then deed_in x ∷ deeds which w else deeds which w) ≡ offer_by (sends s) (last_put (if mine then x ∷ of_end which w else of_end which w))
-put-head s which x w mine h = grind arith
-
 -- what was put last by an end's entries is its offer
 pub put-is : (s : Setup) (which : End) (w : List Entry) → offer s (deeds which w) ≡ offer_by (sends s) (last_put (of_end which w))
 put-is s which [] = refl
-put-is s which (x ∷ w) = put-head s which x w (same_end which x.end) (put-is s which w)
-
-held-head : (which : End) (x : Entry) (w : List Entry) (mine : Bool) → held (deeds which w) ≡ is_held (of_end which w)
-    → held (if mine then deed_in x ∷ deeds which w else deeds which w) ≡ is_held (if mine then x ∷ of_end which w else of_end which w)
-held-head which x w mine h = grind arith
+put-is s which (x ∷ w) = grind (arith, put-is s which w)
 
 pub held-is : (which : End) (w : List Entry) → held (deeds which w) ≡ is_held (of_end which w)
 held-is which [] = refl
-held-is which (x ∷ w) = held-head which x w (same_end which x.end) (held-is which w)
+held-is which (x ∷ w) = grind (arith, held-is which w)
 
 put-frame : (l : ℕ) (put : Option (List ℕ)) → frame_with l (offered_put put) ≡ record { command = command.ProcessData; load = offer_by l put }
 put-frame l put = grind arith
@@ -71,22 +63,10 @@ carries-by : (s : Setup) (which : End) (w : List Entry) (f : List ℕ) → Sendi
     → frame_if (sends s) (offered_of f (of_end which w)) ≡ Some (record { command = c; load = (frame_of (sends s) f).load })
 carries-by s which w f h c k l = search (rules, same-command, command_framed, sends, held-is, put-is, put-frame)
 
-item-carries : (ms : MasterSettings) (ss : SlaveSettings) (which : End) (x : Entry) (w : List Entry) → x.end ≡ which → IsWorld ms ss (x ∷ w) → Carries (sends (setup_of ms ss which)) (item_of x w (items w))
+-- the item of an entry carries what its end put
+pub item-carries : (ms : MasterSettings) (ss : SlaveSettings) (which : End) (x : Entry) (w : List Entry) → x.end ≡ which → IsWorld ms ss (x ∷ w) → Carries (sends (setup_of ms ss which)) (item_of x w (items w))
 item-carries ms ss which x w h so_far =
     let s : Setup = setup_of ms ss x.end in
     let e : List Deed = deeds x.end w in
     subst (λ (it : End). Carries (sends (setup_of ms ss it)) (item_of x w (items w))) h
     (record { carries = carries-by s x.end w x.sent (sending s e x.what x.did x.sent (deeds_are_run ms ss x.end w so_far.1) (entry_reacted ms ss x w so_far)) })
-
--- a property of items that holds of each new one holds of all
-pub all_items : (P : Item → Type 0) (which : End) (x : Entry) (w : List Entry) (mine none : Bool) → same_end which x.end ≡ mine → (mine ≡ true → is_empty x.sent ≡ false → P (item_of x w (items w)))
-    → is_empty x.sent ≡ none → AllByRecursion P (items_of which (items w)) → AllByRecursion P (items_of which (if none then items w else item_of x w (items w) ∷ items w))
-all_items P which x w mine true h new k all = all
-all_items P which x w true false h new k all = simp h (new refl k, all)
-all_items P which x w false false h new k all = simp h all
-
--- in each world the items of an end carry what it put
-pub all_carry : (ms : MasterSettings) (ss : SlaveSettings) (which : End) (w : List Entry) → IsWorld ms ss w → AllByRecursion (Carries (sends (setup_of ms ss which))) (items_of which (items w))
-all_carry ms ss which [] h = tt
-all_carry ms ss which (x ∷ w) h =
-    all_items (Carries (sends (setup_of ms ss which))) which x w (same_end which x.end) (is_empty x.sent) refl (λ mine sent. item-carries ms ss which x w (same which x.end mine) h) refl (all_carry ms ss which w h.1)

@@ -1,7 +1,7 @@
 -- What a master has sent in its session, by its own frames alone: the pieces of its payloads, in order. Lists of frames
 -- are newest first.
-use Rattle.exchange_model.proofs.Common.{AfterConnection, AfterSession, Answers, Command, Deed, Did, Expires, IsInSession, IsRun, MasterFirstData, MasterGoesOn, MasterMoreData, MasterNextPhase, MasterSettings, MasterStarts, Move, OfConnection, OfMaster, OfParameter, OfSession, PeerResets, Reaction, Refuses, ResetsItself, SendsAgain, Setup, State, Taking, count_in, frame_of, is_empty, length-take, own, padded, padded_len, phase_of_frame, phase_sent, piece, piece_len, reacted, sends, since, take-append-add, take-replicate, with_answer}
-use Rattle.std.proofs.Common.{◌≡◌, ℕ, suc, zero, ◌+◌, ◌-◌, ◌*◌, ◌≤◌, List, [], ◌∷◌, ◌++◌, length, take, drop, replicate, Bool, false, if◌then◌else◌, refl, sym, ap, subst, ◌∙◌, arith, rules}
+use Rattle.exchange_model.proofs.Common.{AfterConnection, AfterSession, Answers, Command, Deed, Did, Expires, IsInSession, IsRun, MasterFirstData, MasterGoesOn, MasterMoreData, MasterNextPhase, MasterSettings, MasterStarts, Move, OfConnection, OfMaster, OfParameter, OfSession, PeerResets, Reaction, Refuses, ResetsItself, SendsAgain, Setup, State, Taking, count_in, frame_of, length-take, own, padded, padded_len, phase_of_frame, phase_sent, piece, piece_len, reacted, sends, since, take-append-add, take-replicate, with_answer}
+use Rattle.std.proofs.Common.{◌≡◌, ℕ, suc, zero, ◌+◌, ◌-◌, ◌*◌, ◌≤◌, List, [], ◌∷◌, ◌++◌, length, take, drop, replicate, false, refl, sym, ap, subst, ◌∙◌, arith, rules}
 use Rattle.fsoe_base.specs.declared.command.State.TheVariants as state
 use Rattle.fsoe_base.specs.declared.command.Command.TheVariants as command
 use Rattle.exchange_model.proofs.Joint.Joint.{is_guarded_in, session, carried_by}
@@ -118,13 +118,10 @@ pub pieces_sent : (ms : MasterSettings) (e : List Deed) → IsRun (OfMaster ms) 
 pieces_sent ms [] r = none_sent ms
 pieces_sent ms (x ∷ e) r = sent-kept ms e x.what x.did x.sent r.1 (pieces_sent ms e r.1) (reacted (OfMaster ms) x e r)
 
-session-own-by : (x : Deed) (e : List Deed) (f : List ℕ) → x.sent ≡ f → own (since e) ≡ session (own e) → own (since (x ∷ e)) ≡ session (own (x ∷ e))
-session-own-by x e f h k = grind arith
-
 -- the frames sent in the session are those after the last Reset frame
 pub session_own : (e : List Deed) → own (since e) ≡ session (own e)
 session_own [] = refl
-session_own (x ∷ e) = session-own-by x e x.sent refl (session_own e)
+session_own (x ∷ e) = grind (arith, session_own e)
 
 -- the newest frame is of the session, or a Reset frame
 pub session_phase : (frames : List (List ℕ)) → phase_sent (session frames) ≡ phase_sent frames
@@ -135,9 +132,6 @@ abbrev pub AllSent : MasterSettings → List (List ℕ) → Type 0
 AllSent ms [] = Sent ms []
 AllSent ms (f ∷ frames) = Sent ms (session (f ∷ frames)) × AllSent ms frames
 
-all-head : (ms : MasterSettings) (f : List ℕ) (frames : List (List ℕ)) (none : Bool) → Sent ms (session (if none then frames else f ∷ frames)) → AllSent ms frames → AllSent ms (if none then frames else f ∷ frames)
-all-head ms f frames none h k = grind arith
-
 pub all_sent : (ms : MasterSettings) (e : List Deed) → IsRun (OfMaster ms) e → AllSent ms (own e)
 all_sent ms [] r = none_sent ms
-all_sent ms (x ∷ e) r = all-head ms x.sent (own e) (is_empty x.sent) (subst (Sent ms) (session_own (x ∷ e)) (pieces_sent ms (x ∷ e) r)) (all_sent ms e r.1)
+all_sent ms (x ∷ e) r = grind (arith, subst (Sent ms) (session_own (x ∷ e)) (pieces_sent ms (x ∷ e) r), all_sent ms e r.1)

@@ -1,6 +1,6 @@
 -- What a slave uploads with the frames that it takes, and what it has tested of it.
 use Rattle.exchange_model.proofs.Common.{Command, Deed, Did, IsRun, Move, OfSlave, Reaction, SlaveSettings, Taking, command_in, contents_fault, exchange_of, frame_of, has_command, id_len, number_at, phase_of, piece_len, reacted, receives, rule_len, since, state_of, takes_frame, uploaded, with_answer, word_is}
-use Rattle.std.proofs.Common.{◌≡◌, ◌≢◌, ℕ, ◌+◌, ◌≤◌, List, [], ◌∷◌, ◌++◌, length, true, false, Some, None, arith, rules}
+use Rattle.std.proofs.Common.{◌≡◌, ◌≢◌, ℕ, ◌≤◌, List, [], ◌∷◌, ◌++◌, length, true, false, Some, None, arith, rules}
 use Rattle.fsoe_base.specs.declared.command.State.TheVariants as state
 use Rattle.fsoe_base.specs.declared.command.Command.TheVariants as command
 use Rattle.param_load.specs.declared.contents.Expected.TheVariants as expected
@@ -25,9 +25,6 @@ pub record Tested (ss : SlaveSettings) (u : List ℕ) : Type 0 where
   pub version : 2 ≤ length u → number_at 0 u ≡ id_len ss.profile
   pub word : 6 ≤ length u → word_is ss.profile u ≡ true
 
-none-tested : (ss : SlaveSettings) → Tested ss []
-none-tested ss = record { version = λ k. absurd (omega (arith, k)); word = λ k. absurd (omega (arith, k)) }
-
 tested-next : (ss : SlaveSettings) (u p rest : List ℕ) → Tested ss u → contents_fault (expected.Parameter ss.most (rule_len ss.rule) ss.profile) ss.rule (length u) (u ++ p) rest ≡ None → Tested ss (u ++ p)
 tested-next ss u p rest h k = search (rules, stays)
 
@@ -40,5 +37,5 @@ tested-kept ss e m d f h k = search (rules, tested-taken)
 
 -- in every run of a slave what it uploaded stands tested
 pub tested : (ss : SlaveSettings) (e : List Deed) → IsRun (OfSlave ss) e → Tested ss (uploaded ss state.Parameter e)
-tested ss [] r = none-tested ss
+tested ss [] r = record { version = λ k. absurd (omega (arith, k)); word = λ k. absurd (omega (arith, k)) }
 tested ss (x ∷ e) r = tested-kept ss e x.what x.did x.sent (tested ss e r.1) (reacted (OfSlave ss) x e r)

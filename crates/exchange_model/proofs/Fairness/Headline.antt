@@ -2,54 +2,28 @@
 -- awaited answer, under equal terms. It rests on what both ends' items say of one another (Joint), on the pieces that a
 -- master sends (Pieces), on what a slave tests (Uploads) and on what data frames carry (Loads); Told and this file join
 -- them.
-use Rattle.exchange_model.proofs.Common.{AllByRecursion, Answers, Command, Deed, Did, End, Entry, Event, Fair, IsNextEntry, IsProperEvent, IsTakenFrom, IsWorld, Item, MasterSettings, Move, NoOther, Reaction, SameLengths, Setup, SlaveSettings, TakesAwaited, Taking, Terms, Took, awaited, before_other, command_in, data_after, data_taken, deed_in, deeds, exchange_of, frame_of, is_data, is_empty, item_of, items, items_of, peer, received_len, receives, same_end, sends, setup_of, state_of, takes_frame, terms_of, world}
-use Rattle.std.proofs.Common.{◌≡◌, ℕ, List, [], ◌∷◌, length, Bool, true, false, Option, Some, None, ◌==◌, suc, if◌then◌else◌, refl, sym, ap, subst, ◌∙◌, All, arith, rules}
+use Rattle.exchange_model.proofs.Common.{Answers, Command, Deed, Did, End, Entry, Event, Fair, IsProperEvent, IsTakenFrom, IsWorld, Item, MasterSettings, Move, NoOther, Reaction, SameLengths, Setup, SlaveSettings, TakesAwaited, Taking, Terms, Took, awaited, before_other, command_in, data_after, data_taken, deed_in, deeds, exchange_of, frame_of, is_data, item_of, items, items_of, peer, received_len, receives, sends, setup_of, state_of, takes_frame, terms_of, world}
+use Rattle.std.proofs.Common.{◌≡◌, ℕ, List, [], ◌∷◌, Bool, true, false, Option, Some, None, refl, sym, ap, subst, ◌∙◌, All, arith, rules}
 use Rattle.fsoe_base.specs.declared.command.End.TheVariants as end_name
 use Rattle.fsoe_base.specs.declared.command.State.TheVariants as state
 use Rattle.fsoe_base.specs.declared.command.Command.TheVariants as command
 use Rattle.param_load.specs.declared.entry.Move.TheVariants as move
-use Rattle.exchange_model.proofs.Worlds.Projection.{same, entry_reacted, world_is_world}
+use Rattle.exchange_model.proofs.Worlds.Projection.{entry_reacted, world_is_world}
 use Rattle.exchange_model.proofs.Fairness.Shown.{receives_is, outputs_are_due}
 use Rattle.exchange_model.proofs.Fairness.Once.{at_most_once}
 use Rattle.exchange_model.proofs.Worlds.Others.{before_is_clean, before_is_world}
-use Rattle.exchange_model.proofs.Joint.Awaited.{up_to}
 use Rattle.exchange_model.proofs.Alone.Framed.{head_is}
 use Rattle.exchange_model.proofs.Alone.Pieces.{deed}
-use Rattle.exchange_model.proofs.Alone.Loads.{Carries, all_carry, all_items}
+use Rattle.exchange_model.proofs.Alone.Loads.{Carries, item-carries}
 use Rattle.exchange_model.proofs.Joint.Taking.{TakesItem, takes_item, data_guarded, NoneOther, none_other}
 use Rattle.exchange_model.proofs.Joint.Related.{Related, related}
 use Rattle.exchange_model.proofs.Terms.Told.{Tells, slave_told}
+use Rattle.exchange_model.proofs.Offering.Older.{older_world, older_clean}
+use Rattle.exchange_model.proofs.Offering.Sending.{SentItem, sent-answer}
 
--- each item of a master that is of data was sent under its terms
-tells-master : (ms : MasterSettings) (ss : SlaveSettings) (x : Entry) (w : List Entry) → end_name.Master ≡ x.end → IsNextEntry (setup_of ms ss x.end) x (deeds x.end w) → Tells (terms_of ms) (item_of x w (items w))
-tells-master ms ss x w h k = search rules
-
-all-tell-master : (ms : MasterSettings) (ss : SlaveSettings) (w : List Entry) → IsWorld ms ss w → AllByRecursion (Tells (terms_of ms)) (items_of end_name.Master (items w))
-all-tell-master ms ss [] h = tt
-all-tell-master ms ss (x ∷ w) h =
-    all_items (Tells (terms_of ms)) end_name.Master x w (same_end end_name.Master x.end) (is_empty x.sent) refl (λ mine sent. tells-master ms ss x w (sym (same end_name.Master x.end mine)) h.0) refl (all-tell-master ms ss w h.1)
-
-tells-slave : (ms : MasterSettings) (ss : SlaveSettings) (x : Entry) (w : List Entry) → SameLengths ms ss → IsWorld ms ss (x ∷ w) → Related ms ss (x ∷ w) → x.end ≡ end_name.Slave → is_empty x.sent ≡ false → Tells (terms_of ms) (item_of x w (items w))
-tells-slave ms ss x w h k l m n = search (rules, slave_told)
-
--- each item of a slave that is of data was sent under the master's terms
-all-tell-slave : (ms : MasterSettings) (ss : SlaveSettings) (w : List Entry) → SameLengths ms ss → IsWorld ms ss w → NoOther w → AllByRecursion (Tells (terms_of ms)) (items_of end_name.Slave (items w))
-all-tell-slave ms ss [] lens h n = tt
-all-tell-slave ms ss (x ∷ w) lens h n =
-    let o : NoneOther x w = none_other x w n in
-    all_items (Tells (terms_of ms)) end_name.Slave x w (same_end end_name.Slave x.end) (is_empty x.sent) refl (λ mine sent. tells-slave ms ss x w lens h (related ms ss (x ∷ w) lens h n) (same end_name.Slave x.end mine) sent) refl (all-tell-slave ms ss w lens h.1 o.before)
-
-all-tell : (ms : MasterSettings) (ss : SlaveSettings) (which : End) (w : List Entry) → SameLengths ms ss → IsWorld ms ss w → NoOther w → AllByRecursion (Tells (terms_of ms)) (items_of which (items w))
-all-tell ms ss end_name.Master w lens h n = all-tell-master ms ss w h
-all-tell ms ss end_name.Slave w lens h n = all-tell-slave ms ss w lens h n
-
--- what holds of all items holds of one among them
-at-item : (P : Item → Type 0) (n : ℕ) (found rest : List Item) (j : Item) → AllByRecursion P found → up_to n found ≡ j ∷ rest → P j
-at-item P n [] rest j all h = cc
-at-item P n (i ∷ found) rest j all h = at-head (n == suc (length found)) (at-item P n found rest j all.1) h
-  where
-    at-head : (b : Bool) → (up_to n found ≡ j ∷ rest → P j) → (if b then i ∷ found else up_to n found) ≡ j ∷ rest → P j
-    at-head b h k = grind arith
+-- each item of data was sent under the master's terms
+tells : (ms : MasterSettings) (ss : SlaveSettings) (which : End) (x : Entry) (w : List Entry) → SameLengths ms ss → IsWorld ms ss (x ∷ w) → Related ms ss (x ∷ w) → x.end ≡ which → Tells (terms_of ms) (item_of x w (items w))
+tells ms ss which x w h k l m = search (rules, slave_told)
 
 -- what an entry takes: no data, or a data frame that brings its end into Data or leaves it there
 data Takings (s : Setup) (e : List Deed) (x : Deed) : Type 0 where
@@ -86,11 +60,12 @@ taken-head : (ms : MasterSettings) (ss : SlaveSettings) (x : Entry) (w : List En
 taken-head ms ss x w lens h n (NoData e) = subst (λ (took : Option Took). IsTakenFrom (received_len ms.lengths x.end) took x.terms (awaited (items w) x.end)) (sym e) tt
 taken-head ms ss x w lens h n (SomeData bytes load c a b d head load_is now) =
     let o : NoneOther x w = none_other x w n in
-    let it : TakesItem w x bytes = takes_item w x bytes c load (record { what_is = a; did_is = b }) head (data_guarded c d) o.here in
-    let others : List Item = items_of (peer x.end) (items w) in
-    let carry : Carries (sends (setup_of ms ss (peer x.end))) it.item = at-item (Carries (sends (setup_of ms ss (peer x.end)))) it.item.number others it.found.rest it.item (all_carry ms ss (peer x.end) w h.1) it.found.is in
-    let tell : Tells (terms_of ms) it.item = at-item (Tells (terms_of ms)) it.item.number others it.found.rest it.item (all-tell ms ss (peer x.end) w lens h.1 o.before) it.found.is in
-    let l : ℕ = received_len ms.lengths x.end in
+    let it : TakesItem w x bytes = takes_item w x bytes c load a b head (data_guarded c d) o.here in
+    let sent : SentItem (peer x.end) it.item w = sent-answer (peer x.end) it.item w (items_of x.end (items w)) it.is in
+    let older : IsWorld ms ss (sent.sending ∷ sent.before) = older_world ms ss sent.later _ (subst (IsWorld ms ss) sent.parts_are h.1) in
+    let clean : NoOther (sent.sending ∷ sent.before) = older_clean sent.later _ (subst (λ (v : List Entry). NoOther v) sent.parts_are o.before) in
+    let carry : Carries (sends (setup_of ms ss (peer x.end))) it.item = subst (Carries (sends (setup_of ms ss (peer x.end)))) sent.is_item (item-carries ms ss (peer x.end) sent.sending sent.before sent.by_end older) in
+    let tell : Tells (terms_of ms) it.item = subst (Tells (terms_of ms)) sent.is_item (tells ms ss (peer x.end) sent.sending sent.before lens older (related ms ss (sent.sending ∷ sent.before) lens older clean) sent.by_end) in
     subst (λ (did : Did). IsTakenFrom (received_len ms.lengths x.end) (data_taken did.took) x.terms (awaited (items w) x.end)) (sym b)
     (taken-from (received_len ms.lengths x.end) c bytes load x.terms (terms_of ms) (awaited (items w) x.end) it.item d it.is it.bytes_are head
     (ap (λ (l : ℕ). (frame_of l bytes).load) (receives_is ms ss x.end lens) ∙ load_is)

@@ -1,22 +1,18 @@
 -- No awaited item gives data twice: an end that takes data sends a frame, so that the next item it awaits answers a
 -- newer one.
-use Rattle.exchange_model.proofs.Common.{AllByRecursion, Deed, Did, End, Entry, IsWorld, Item, MasterSettings, Move, Reaction, Setup, SlaveSettings, Took, answer_among, answer_sent, answers_to, awaited, data_taken, deeds, has_command, is_empty, item_of, items, items_of, newest, newest_answer, numbers_taken, peer, same_end, setup_of, with_number}
-use Rattle.std.proofs.Common.{◌≡◌, ℕ, suc, ◌<◌, ◌≤◌, ◌==◌, nat_eq, List, [], ◌∷◌, length, Bool, true, false, ◌&&◌, not, Option, Some, None, is_some, if◌then◌else◌, refl, ap, subst, sym, ◌∙◌, eqb-true, arith, rules}
+use Rattle.exchange_model.proofs.Common.{AllByRecursion, Deed, Did, End, Entry, IsWorld, Item, MasterSettings, Move, Reaction, Setup, SlaveSettings, Took, answer_among, answer_sent, awaited, data_taken, deeds, is_empty, item_of, items, items_of, newest, numbers_taken, peer, same_end, setup_of, with_number}
+use Rattle.std.proofs.Common.{◌≡◌, ℕ, suc, ◌<◌, ◌≤◌, nat_eq, List, [], ◌∷◌, length, Bool, true, false, ◌&&◌, Option, Some, None, is_some, if◌then◌else◌, refl, ap, subst, sym, ◌∙◌, eqb-true, arith, rules}
 use Rattle.std.specs.List.{IsDistinct}
-use Rattle.fsoe_base.specs.declared.command.Command.TheVariants as command
 use Rattle.exchange_model.proofs.Worlds.Projection.{entry_reacted}
 use Rattle.exchange_model.proofs.Worlds.Numbered.{Numbered, Grown, Same, More, next_number, grown}
-
--- what the item with this number answers
-abbrev answer_of : ℕ → List Item → Option ℕ
-answer_of n [] = None
-answer_of n (i ∷ found) = if i.number == n then i.answers else answer_of n found
+use Rattle.exchange_model.proofs.Joint.Awaited.{Found, awaited_found, up_to}
+use Rattle.exchange_model.proofs.Joint.Joint.{newest_answers}
 
 -- the item with this number answered an item before the next of this many
 record Used (count : ℕ) (theirs : List Item) (n : ℕ) : Type 0 where
   pub within : n ≤ length theirs
   pub at : ℕ
-  pub answered : answer_of n theirs ≡ Some at
+  pub answered : newest_answers (up_to n theirs) ≡ Some at
   pub earlier : at < count
 
 used-more : (count n : ℕ) (i : Item) (theirs : List Item) → i.number ≡ suc (length theirs) → Used count theirs n → Used count (i ∷ theirs) n
@@ -25,34 +21,12 @@ used-more count n i theirs h k = grind arith
 used-later : (count more n : ℕ) (theirs : List Item) → count ≤ more → Used count theirs n → Used more theirs n
 used-later count more n theirs h u = record { within = u.within; at = u.at; answered = u.answered; earlier = let k : u.at < count = u.earlier in omega arith }
 
-all-more : (count : ℕ) (ns : List ℕ) (i : Item) (theirs : List Item) → i.number ≡ suc (length theirs) → AllByRecursion (Used count theirs) ns → AllByRecursion (Used count (i ∷ theirs)) ns
-all-more count [] i theirs h all = tt
-all-more count (n ∷ ns) i theirs h all = (used-more count n i theirs h all.0, all-more count ns i theirs h all.1)
-
-all-later : (count more : ℕ) (ns : List ℕ) (theirs : List Item) → count ≤ more → AllByRecursion (Used count theirs) ns → AllByRecursion (Used more theirs) ns
-all-later count more [] theirs h all = tt
-all-later count more (n ∷ ns) theirs h all = (used-later count more n theirs h all.0, all-later count more ns theirs h all.1)
-
--- an awaited item answers the newest item of the end that awaits it
-record AnswersNewest (k : ℕ) (theirs : List Item) (j : Item) : Type 0 where
-  pub within : j.number ≤ length theirs
-  pub answered : answer_of j.number theirs ≡ Some k
-
-answer-head : (k : ℕ) (i : Item) (theirs : List Item) (j : Item) (b : Bool) → (not (has_command command.Reset i.bytes) && answers_to k i.answers) ≡ b
-    → Numbered (i ∷ theirs) → (newest_answer k theirs ≡ Some j → AnswersNewest k theirs j) → (if b then Some i else newest_answer k theirs) ≡ Some j → AnswersNewest k (i ∷ theirs) j
-answer-head k i theirs j b h l m n = grind arith
-
-answers : (k : ℕ) (theirs : List Item) (j : Item) → Numbered theirs → newest_answer k theirs ≡ Some j → AnswersNewest k theirs j
-answers k [] j numbered h = cc
-answers k (i ∷ theirs) j numbered h =
-    answer-head k i theirs j (not (has_command command.Reset i.bytes) && answers_to k i.answers) refl numbered (answers k theirs j numbered.1) h
-
-awaits : (mine theirs : List Item) (j : Item) → Numbered mine → Numbered theirs → answer_among theirs (newest mine) ≡ Some j → AnswersNewest (length mine) theirs j
-awaits [] theirs j numbered others h = cc
-awaits (i ∷ mine) theirs j numbered others h = subst (λ (k : ℕ). AnswersNewest k theirs j) numbered.0 (answers i.number theirs j others h)
+weaker : {P Q : ℕ → Type 0} → ((n : ℕ) → P n → Q n) → (ns : List ℕ) → AllByRecursion P ns → AllByRecursion Q ns
+weaker f [] all = tt
+weaker f (n ∷ ns) all = (f n all.0, weaker f ns all.1)
 
 -- numbers taken before are older
-apart : (count n : ℕ) (ns : List ℕ) (theirs : List Item) → answer_of n theirs ≡ Some count → AllByRecursion (Used count theirs) ns → AllByRecursion (λ m. nat_eq n m ≡ false) ns
+apart : (count n : ℕ) (ns : List ℕ) (theirs : List Item) → newest_answers (up_to n theirs) ≡ Some count → AllByRecursion (Used count theirs) ns → AllByRecursion (λ m. nat_eq n m ≡ false) ns
 apart count n [] theirs h all = tt
 apart count n (m ∷ ns) theirs h all = (differ (nat_eq n m) refl, apart count n ns theirs h all.1)
   where
@@ -60,7 +34,7 @@ apart count n (m ∷ ns) theirs h all = (differ (nat_eq n m) refl, apart count n
     differ false is = refl
     differ true is =
         let it : n ≡ m = eqb-true n m is in
-        let at : Some count ≡ Some all.0.at = sym h ∙ (ap (λ (n : ℕ). answer_of n theirs) it ∙ all.0.answered) in
+        let at : Some count ≡ Some all.0.at = sym h ∙ (ap (λ (n : ℕ). newest_answers (up_to n theirs)) it ∙ all.0.answered) in
         let same_place : count ≡ all.0.at = cc in
         let before : all.0.at < count = all.0.earlier in
         absurd (omega arith)
@@ -76,28 +50,29 @@ once-mine : (mine more theirs : List Item) (ns : List ℕ) → Grown mine more �
 once-mine mine more theirs ns (Same e) o = subst (λ (m : List Item). Once m theirs ns) (sym e) o
 once-mine mine more theirs ns (More i e h) o =
     subst (λ (m : List Item). Once m theirs ns) (sym e)
-    (record { numbered = (h, o.numbered); others = o.others; used = all-later (length mine) (suc (length mine)) ns theirs (omega arith) o.used; differ = o.differ })
+    (record { numbered = (h, o.numbered); others = o.others; used = weaker (λ n. used-later (length mine) (suc (length mine)) n theirs (omega arith)) ns o.used; differ = o.differ })
 
 once-theirs : (mine theirs more : List Item) (ns : List ℕ) → Grown theirs more → Once mine theirs ns → Once mine more ns
 once-theirs mine theirs more ns (Same e) o = subst (λ (t : List Item). Once mine t ns) (sym e) o
 once-theirs mine theirs more ns (More i e h) o =
     subst (λ (t : List Item). Once mine t ns) (sym e)
-    (record { numbered = o.numbered; others = (h, o.others); used = all-more (length mine) ns i theirs h o.used; differ = o.differ })
+    (record { numbered = o.numbered; others = (h, o.others); used = weaker (λ n. used-more (length mine) n i theirs h) ns o.used; differ = o.differ })
 
 -- data are taken, and a new item is sent
 once-taken : (mine theirs : List Item) (ns : List ℕ) (j i : Item) → answer_among theirs (newest mine) ≡ Some j → i.number ≡ suc (length mine) → Once mine theirs ns
     → Once (i ∷ mine) theirs (j.number ∷ ns)
 unfolding IsDistinct
 once-taken mine theirs ns j i h next o =
-    let a : AnswersNewest (length mine) theirs j = awaits mine theirs j o.numbered o.others h in
+    let f : Found (length mine) theirs j = awaited_found mine theirs j o.numbered o.others h in
+    let answered : newest_answers (up_to j.number theirs) ≡ Some (length mine) = ap newest_answers f.is ∙ f.answers in
     record {
       numbered = (next, o.numbered);
       others = o.others;
       used = (
-        record { within = a.within; at = length mine; answered = a.answered; earlier = omega arith },
-        all-later (length mine) (suc (length mine)) ns theirs (omega arith) o.used,
+        record { within = f.within; at = length mine; answered = answered; earlier = omega arith },
+        weaker (λ n. used-later (length mine) (suc (length mine)) n theirs (omega arith)) ns o.used,
       );
-      differ = (apart (length mine) j.number ns theirs a.answered o.used, o.differ);
+      differ = (apart (length mine) j.number ns theirs answered o.used, o.differ);
     }
 
 -- a deed that took a frame sent one
@@ -106,9 +81,6 @@ sends s e m d f h k = search (rules, answer_sent)
 
 took-some : (t : Option Took) → is_some (data_taken t) ≡ true → is_some t ≡ true
 took-some t h = grind arith
-
-mine-grows : (which : End) (x : Entry) (w : List Entry) → same_end which x.end ≡ true → is_empty x.sent ≡ false → items_of which (items (x ∷ w)) ≡ item_of x w (items w) ∷ items_of which (items w)
-mine-grows which x w h k = simp (k, h)
 
 once-awaited : (which : End) (x : Entry) (w : List Entry) (ns : List ℕ) (o : Option Item) → awaited (items w) which ≡ o → same_end which x.end ≡ true → is_empty x.sent ≡ false
     → Once (items_of which (items w)) (items_of (peer which) (items w)) ns
@@ -120,7 +92,7 @@ once-awaited which x w ns (Some j) h k l so_far =
     let mine : List Item = items_of which (items w) in
     let theirs : List Item = items_of (peer which) (items w) in
     once-theirs _ theirs _ (j.number ∷ ns) (grown (peer which) x w)
-    (subst (λ (m : List Item). Once m theirs (j.number ∷ ns)) (sym (mine-grows which x w k l)) (once-taken mine theirs ns j i h (next_number which x w k) so_far))
+    (subst (λ (m : List Item). Once m theirs (j.number ∷ ns)) (sym (simp (k, l))) (once-taken mine theirs ns j i h (next_number which x w k) so_far))
 
 once-next : (which : End) (x : Entry) (w : List Entry) (ns : List ℕ) (mine takes_some : Bool) → same_end which x.end ≡ mine → is_some (data_taken x.did.took) ≡ takes_some → (is_some x.did.took ≡ true → is_empty x.sent ≡ false)
     → Once (items_of which (items w)) (items_of (peer which) (items w)) ns

@@ -1,6 +1,6 @@
 -- In each world the outputs are those that looking back over the entries gives.
-use Rattle.exchange_model.proofs.Common.{Answers, Deed, Did, End, Entry, IsRun, IsWorld, MasterSettings, Move, OutputsAreDue, Reaction, SameLengths, Setup, SlaveSettings, Took, data_after, deed_in, deeds, entries, entry_of, held_up, is_data, looking_back, of_end, out, out_after, outputs_after, outputs_at, outputs_due, reacted, received_len, receives, setup_of, state_of, terms, ticked, told_in, zeros}
-use Rattle.std.proofs.Common.{◌≡◌, ℕ, List, [], ◌∷◌, Option, Some, None, is_some, if◌then◌else◌, refl, ap, sym, ◌∙◌, arith}
+use Rattle.exchange_model.proofs.Common.{Answers, Deed, Did, End, Entry, IsRun, IsWorld, MasterSettings, Move, OutputsAreDue, Reaction, SameLengths, Setup, SlaveSettings, Took, data_after, deed_in, deeds, entries, entry_of, is_data, looking_back, of_end, out, out_after, outputs_after, outputs_due, reacted, received_len, receives, setup_of, state_of, ticked, zeros}
+use Rattle.std.proofs.Common.{◌≡◌, ℕ, List, [], ◌∷◌, Option, Some, None, refl, ap, sym, ◌∙◌, arith}
 use Rattle.fsoe_base.specs.declared.command.State.TheVariants as state
 use Rattle.fsoe_base.specs.declared.command.Command.TheVariants as command
 use Rattle.exchange_model.proofs.Worlds.Projection.{next_told, next_run, told}
@@ -14,15 +14,9 @@ in-data : (s : Setup) (e : List Deed) (m : Move) (d : Did) (f : List ℕ) → Re
 in-data s e m d f (Answers bytes load c answer taking) = λ h. data_after e bytes load s c answer taking (ap is_data h)
 in-data s e m d f _ = tt
 
-shown-at : (s : Setup) (e : List Deed) (n : ℕ) (took : Option Took) (told_before by_deeds : List ℕ) → IsInData s e took → told_before ≡ by_deeds
-    → outputs_at (zeros s) n (told_in (state_of s e) (terms s e)) took told_before ≡ held_up s e n took by_deeds
-shown-at s e n took told_before by_deeds h k = grind arith
-
 due-after : (s : Setup) (e : List Deed) (n : ℕ) → IsRun s e → outputs_after (zeros s) n (entries s e) ≡ out_after s n e
 due-after s [] n h = refl
-due-after s (x ∷ e) n h =
-    ap (λ (v : List ℕ). if is_some x.did.reset then zeros s else v)
-    (shown-at s (x ∷ e) n x.did.took (outputs_after (zeros s) (ticked x.what n) (entries s e)) (out_after s (ticked x.what n) e) (in-data s e x.what x.did x.sent (reacted s x e h)) (due-after s e (ticked x.what n) h.1))
+due-after s (x ∷ e) n h = grind (arith, in-data s e x.what x.did x.sent (reacted s x e h), due-after s e (ticked x.what n) h.1)
 
 -- looking back over what is told of an end's deeds is looking back over the deeds
 pub due_is_out : (s : Setup) (e : List Deed) → IsRun s e → outputs_due (receives s) (entries s e) ≡ out s e

@@ -1,8 +1,9 @@
 -- The first pieces of a payload: how many bytes they are, and that they begin as the payload with zeros after it.
-use Rattle.exchange_model.proofs.Common.{all_zero, append-nil, common_steps, drop-append-add, drop-replicate, drop_all, length-append, mul-le-mul_left, number_at, padded, padded_len, piece, pieces, pieces_for, replicate-append-replicate}
-use Rattle.std.proofs.Common.{◌≡◌, ℕ, zero, suc, ◌+◌, ◌-◌, ◌*◌, ◌/◌, ◌<◌, ◌≤◌, ◌==◌, List, [], ◌∷◌, ◌++◌, length, take, drop, replicate, true, ◌&&◌, refl, sym, ap, ap₂, ◌∙◌, arith, append_assoc}
+use Rattle.exchange_model.proofs.Common.{all_zero, common_steps, drop-append-add, drop-replicate, drop_all, length-append, mul-le-mul_left, number_at, padded, padded_len, piece, pieces_for, replicate-append-replicate}
+use Rattle.std.proofs.Common.{◌≡◌, ℕ, zero, suc, ◌+◌, ◌-◌, ◌*◌, ◌/◌, ◌<◌, ◌≤◌, ◌==◌, List, [], ◌∷◌, ◌++◌, length, take, drop, replicate, true, ◌&&◌, refl, ap, ap₂, ◌∙◌, arith, append_assoc}
+use Rattle.std.proofs.lemmas.List.{take-append-drop}
 use Rattle.exchange_model.proofs.Alone.Pieces.{front, piece_short}
-use Rattle.exchange_model.proofs.Terms.Agree.{front_whole}
+use Rattle.exchange_model.proofs.Terms.Agree.{front_take}
 use Rattle.exchange_model.proofs.Honest.ResetFrames.{zeros_all}
 
 pub front_long : (p : List ℕ) (c k : ℕ) → length (front p c k) ≡ k * c
@@ -17,25 +18,10 @@ pub record IsBegun (u p : List ℕ) : Type 0 where
   pub zeros : ℕ
   pub is : u ++ rest ≡ p ++ replicate zeros 0
 
-pub record Longer (u w : List ℕ) : Type 0 where
-  pub rest : List ℕ
-  pub is : w ≡ u ++ rest
-
-front-more : (p : List ℕ) (c k j : ℕ) → Longer (front p c k) (front p c (j + k))
-front-more p c k zero = let e : zero + k ≡ k = omega arith in record { rest = []; is = ap (front p c) e ∙ sym (append-nil (front p c k)) }
-front-more p c k (suc j) =
-    let before : Longer (front p c k) (front p c (j + k)) = front-more p c k j in
-    let e : suc j + k ≡ suc (j + k) = omega arith in
-    record {
-      rest = before.rest ++ padded (piece p c (suc (j + k))) c;
-      is = ap (front p c) e ∙ (ap (λ t. t ++ padded (piece p c (suc (j + k))) c) before.is ∙ append_assoc (front p c k) before.rest (padded (piece p c (suc (j + k))) c));
-    }
-
 pub front_begun : (p : List ℕ) (c k : ℕ) → 0 < c → IsBegun (front p c k) p
 front_begun p c k h =
-    let n : ℕ = pieces p c in
-    let more : Longer (front p c k) (front p c (n + k)) = front-more p c k n in
-    record { rest = more.rest; zeros = (n + k) * c - length p; is = sym more.is ∙ front_whole p c (n + k) h (omega arith) }
+    let u : List ℕ = p ++ replicate (k * c) 0 in
+    record { rest = drop (k * c) u; zeros = k * c; is = ap (λ t. t ++ drop (k * c) u) (front_take p c k (k * c) (omega arith)) ∙ take-append-drop (k * c) u }
 
 -- a number within these bytes is the payload's
 pub number_in : (u p : List ℕ) (b : IsBegun u p) (i : ℕ) → suc i < length u → number_at i u ≡ number_at i (p ++ replicate b.zeros 0)

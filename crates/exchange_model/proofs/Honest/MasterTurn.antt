@@ -10,9 +10,6 @@ use Rattle.exchange_model.proofs.Honest.ResetFrames.{zeros_all}
 use Rattle.exchange_model.proofs.Honest.SlaveTurn.{Replies, Carries, parts_with}
 use Rattle.exchange_model.proofs.Honest.Turns.{session_long, parameters_long, Partner, master_of, slave_of, width, session_pieces, connection_pieces, parameter_pieces, more, Turn, MoreSession, FirstConnection, MoreConnection, FirstParameter, MoreParameter, FirstZeros, FirstValues, MoreZeros, MoreValues, Spot, InSession, InConnection, InParameter, InData, MasterAt}
 
-answers-allowed : (c : Command) → is_reset c ≡ false → master_allows (phase_of c) c ≡ true
-answers-allowed c h = grind arith
-
 conn-right : (ms : MasterSettings) (id : ℕ) (e : List Deed) (c : Command) (a b d conn : ℕ) (load : List ℕ) → Replies ms id c a b d conn load → has_conn (OfMaster ms) e c conn ≡ true
 conn-right ms id e c a b d conn load h = grind arith
 
@@ -33,7 +30,7 @@ master_valid ms r id u e c p a b d conn load g n same o h k =
     record {
       is_read = record { has_length = o.long; is_new = o.is_new; command_is = ap (λ (g : Frame). command_of g.cmd) o.frame ∙ command_back c };
       load_is = ap (λ (g : Frame). g.load) o.frame;
-      is_allowed = ap (λ (p : State). master_allows p c) (h.phase ∙ sym same) ∙ answers-allowed c n;
+      is_allowed = ap (λ (p : State). master_allows p c) (h.phase ∙ sym same) ∙ grind arith;
       has_conn_id = ap (λ (g : Frame). has_conn (master_of ms) e c g.conn) o.frame ∙ conn-right ms id e c a b d conn load k;
       does_fit = fits_on (slave_of ms r) (master_of ms) u (since e) conn c load g refl o;
       is_sound = ap (contents (master_of ms) e c) o.frame ∙ contents-right ms r id e c p a b d conn load _ h k;

@@ -1,7 +1,8 @@
 -- Ticks below the limits, puts, holds and nonces leave the stage of an honest run; the master's first tick begins it.
-use Rattle.exchange_model.proofs.Common.{Deed, End, Entry, Event, IsNextEntry, IsProperEvent, MasterSettings, Move, State, deed_of, deeds, end_of_event, entry_at, entry_of, had_tick, is_delivery, items, items_of, may_tick, on_expiry, own, phase_sent, reaches_limit, reset_frame, same_end, setup_of, state_of, step}
-use Rattle.std.proofs.Common.{◌≡◌, ℕ, not, List, ◌∷◌, [], Bool, true, false, Some, if◌then◌else◌, refl, ap, ◌∙◌, arith, rules}
+use Rattle.exchange_model.proofs.Common.{Deed, End, Entry, Event, IsNextEntry, IsProperEvent, MasterSettings, Move, deeds, end_of_event, entry_at, entry_of, had_tick, is_delivery, may_tick, phase_sent, reaches_limit, reset_frame, same_end, setup_of, state_of, step}
+use Rattle.std.proofs.Common.{◌≡◌, ℕ, List, ◌∷◌, [], Bool, true, false, Some, refl, ap, arith, rules}
 use Rattle.fsoe_base.specs.declared.command.End.TheVariants as end_name
+use Rattle.fsoe_base.specs.declared.command.State.TheVariants as state
 use Rattle.fsoe_base.specs.Did.{nothing}
 use Rattle.param_load.specs.declared.entry.Move.TheVariants as move
 use Rattle.schedule_file.specs.declared.event.Event.TheVariants as event
@@ -34,22 +35,16 @@ both_kept ms r w at what h = grind arith
 pub quiet_tick : (ms : MasterSettings) (r : Partner ms) (w : List Entry) (at : End) → may_tick ms (partner ms r) w at ≡ true → (same_end end_name.Master at ≡ true → had_tick (deeds end_name.Master w) ≡ true) → IsQuiet ms r w (event.Tick at) move.Tick
 quiet_tick ms r w at h k = search rules
 
--- a put, a hold, a nonce
+-- a put, a hold
 pub quiet_put : (ms : MasterSettings) (r : Partner ms) (w : List Entry) (at : End) (load : List ℕ) → IsProperEvent ms (partner ms r) (event.Put at load) → IsQuiet ms r w (event.Put at load) (move.Put load)
 quiet_put ms r w at load p = record { none_comes = refl; is = refl; next = record { proper = p; stepped = refl } }
 
 pub quiet_hold : (ms : MasterSettings) (r : Partner ms) (w : List Entry) (at : End) (failsafe : Bool) → IsQuiet ms r w (event.Hold at failsafe) (move.Hold failsafe)
 quiet_hold ms r w at failsafe = record { none_comes = refl; is = refl; next = record { proper = tt; stepped = refl } }
 
-pub quiet_nonce : (ms : MasterSettings) (r : Partner ms) (w : List Entry) (at : End) (id : ℕ) → IsProperEvent ms (partner ms r) (event.Nonce at id) → IsQuiet ms r w (event.Nonce at id) (move.Nonce id)
-quiet_nonce ms r w at id p = record { none_comes = refl; is = refl; next = record { proper = p; stepped = refl } }
-
 -- before the master's first tick
 abbrev pub AtIdle : (ms : MasterSettings) → Partner ms → List Entry → Type 0
 AtIdle ms r w = IsIdle (both ms r w)
-
-if-not-ticked : (had b : Bool) → had ≡ false → (if had then not b else b) ≡ true → b ≡ true
-if-not-ticked had b h k = grind arith
 
 -- the master's first tick sends its Reset frame
 pub first_tick : (ms : MasterSettings) (r : Partner ms) (w : List Entry) → may_tick ms (partner ms r) w end_name.Master ≡ true → had_tick (deeds end_name.Master w) ≡ false → AtIdle ms r w
@@ -57,18 +52,11 @@ pub first_tick : (ms : MasterSettings) (r : Partner ms) (w : List Entry) → may
 first_tick ms r w h none idle =
     let em : List Deed = deeds end_name.Master w in
     let d : Deed = record { what = move.Tick; did = record nothing { sent = true }; sent = reset_frame 0 ms.lengths.master } in
-    let reaches : reaches_limit (master_of ms) em ≡ true = if-not-ticked (had_tick em) (reaches_limit (master_of ms) em) none h in
-    let stepped : step (master_of ms) em move.Tick ≡ d =
-    ap (λ (b : Bool). deed_of (master_of ms) em move.Tick (if b then on_expiry (state_of (master_of ms) em) (master_of ms) else nothing)) reaches
-    ∙ ap (λ (p : State). deed_of (master_of ms) em move.Tick (on_expiry p (master_of ms))) (ap phase_sent idle.outside.master.none_sent) in (
+    let reaches : reaches_limit (master_of ms) em ≡ true = simp none at h in
+    let now : state_of (master_of ms) em ≡ state.Reset = ap phase_sent idle.outside.master.none_sent in
+    let stepped : step (master_of ms) em move.Tick ≡ d = simp (reaches, now) in (
       entry_of (master_of ms) em d,
       search rules,
       refl,
-      Asked (record {
-        outside = record { master = fresh; slave = idle.outside.slave; no_id = refl; phase = idle.outside.phase; none_joined = idle.outside.none_joined };
-        last = record { older = own em; is = refl };
-        newest = record { item = _; older = items_of end_name.Master (items w); is = refl; bytes_are = refl };
-        master_count = idle.master_count;
-        slave_count = idle.slave_count;
-      }),
+      Asked (search (rules, fresh)),
     )

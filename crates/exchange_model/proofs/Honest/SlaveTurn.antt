@@ -1,7 +1,7 @@
 -- A slave takes the master's frame that is on its way, and answers it: the frame passes all tests, and what the slave
 -- took after it tells the answer that it seals.
-use Rattle.exchange_model.proofs.Common.{Command, Deed, Frame, IsValid, MasterSettings, OfMaster, Profile, State, all_zero, allows, answer, code, command_byte, command_of, common_steps, conn_id, connection_payload, contents, contents_fault, count_in, eq-eqb, frame_of, has_conn, held, id_len, id_piece, is_padded, is_reset, joined, length-replicate, number_at, offer, padded, parameter_payload, phase_of, piece, pieces_for, received, rule_len, seal, sealed, session_id, session_payload, since, slave_allows, taken, whole, with_data}
-use Rattle.std.proofs.Common.{◌≡◌, ℕ, suc, ◌+◌, ◌*◌, ◌<◌, ◌≤◌, nat_le, List, ◌++◌, length, take, drop, true, false, not, Some, None, if◌then◌else◌, refl, sym, ap, ap₂, subst, ◌∙◌, arith, ◌-◌, [], ◌∷◌, replicate, Bool, unwrap_or, rules}
+use Rattle.exchange_model.proofs.Common.{Command, Deed, Frame, IsValid, MasterSettings, OfMaster, State, all_zero, allows, answer, code, command_byte, command_of, common_steps, conn_id, connection_payload, contents, contents_fault, count_in, eq-eqb, frame_of, has_conn, held, id_len, id_piece, is_padded, is_reset, joined, length-replicate, number_at, offer, padded, parameter_payload, phase_of, piece, pieces_for, received, rule_len, seal, sealed, session_id, session_payload, since, slave_allows, taken, whole, with_data}
+use Rattle.std.proofs.Common.{◌≡◌, ℕ, suc, ◌+◌, ◌*◌, ◌<◌, ◌≤◌, nat_le, List, ◌++◌, length, take, drop, true, false, not, Some, None, if◌then◌else◌, refl, sym, ap, ap₂, subst, ◌∙◌, arith, [], ◌∷◌, replicate, Bool, rules}
 use Rattle.std.proofs.lemmas.Bool.Decides.{nat_tests}
 use Rattle.fsoe_base.specs.declared.command.State.TheVariants as state
 use Rattle.fsoe_base.specs.declared.command.Command.TheVariants as command
@@ -34,42 +34,40 @@ not-done n c k u h g e = let f : k * c < n = not_yet n c k h g in grind (arith, 
 done : (n c : ℕ) (u : List ℕ) → 0 < c → length u ≡ pieces_for n c * c → nat_le n (length u) ≡ true
 done n c u h e = let f : n ≤ pieces_for n c * c = all_come n c (pieces_for n c) h (omega arith) in grind (arith, nat_tests)
 
--- parameters whose first bytes came are whole when all bytes came
-parameters-whole : (w : ℕ) (p : Profile) (app u : List ℕ) → IsBegun u (parameter_payload w p app) → whole p state.Parameter u ≡ nat_le (id_len p + 4 + length app) (length u)
-parameters-whole w p app u b = by_count (id_len p) (length app) (number_at (id_len p + 2) u) (length u) _ refl (λ h. parameters_count w p app u b h)
-
 -- what the slave joined of the parameters is whole when all bytes came
 loaded : (ms : MasterSettings) (id : ℕ) (v : List Deed) (p : State) (a b d : ℕ) → SlaveAt ms id v p a b d
     → whole ms.profile state.Parameter (joined state.Parameter (width ms) v) ≡ nat_le (id_len ms.profile + 4 + length ms.app) (length (joined state.Parameter (width ms) v))
 loaded ms id v p a b d h =
-    parameters-whole ms.watchdog ms.profile ms.app (joined state.Parameter (width ms) v)
-    (subst (λ (u : List ℕ). IsBegun u (parameter_payload ms.watchdog ms.profile ms.app)) (sym h.parameters) (front_begun (parameter_payload ms.watchdog ms.profile ms.app) (width ms) d (some_width ms)))
+    let u : List ℕ = joined state.Parameter (width ms) v in
+    let begun : IsBegun u (parameter_payload ms.watchdog ms.profile ms.app) =
+    subst (λ (u : List ℕ). IsBegun u (parameter_payload ms.watchdog ms.profile ms.app)) (sym h.parameters) (front_begun (parameter_payload ms.watchdog ms.profile ms.app) (width ms) d (some_width ms)) in
+    by_count (id_len ms.profile) (length ms.app) (number_at (id_len ms.profile + 2) u) (length u) _ refl (λ k. parameters_count ms.watchdog ms.profile ms.app u begun k)
 
 -- the command in turn is allowed
-abbrev allows_at : MasterSettings → Command → State → List Deed → Type 0
-allows_at ms c p v = slave_allows p (whole ms.profile p (joined p (width ms) v)) c ≡ true
-
 turn-allowed : (ms : MasterSettings) (id : ℕ) (v : List Deed) (c : Command) (p : State) (a b d k : ℕ) → SlaveAt ms id v p a b d
-    → Turn (session_pieces ms) (connection_pieces ms) (parameter_pieces ms) c p a b d k → allows_at ms c p v
+    → Turn (session_pieces ms) (connection_pieces ms) (parameter_pieces ms) c p a b d k → slave_allows p (whole ms.profile p (joined p (width ms) v)) c ≡ true
 turn-allowed ms id v c p a b d k h (MoreSession _ g) =
     ap not (not-done (id_len ms.profile) (width ms) a (joined state.Session (width ms) v) (some_width ms) g (ap length h.session ∙ front_long _ (width ms) a))
-turn-allowed ms id v c p a b d k h FirstConnection = done (id_len ms.profile) (width ms) (joined state.Session (width ms) v) (some_width ms) (ap length h.session ∙ front_long _ (width ms) a)
+turn-allowed ms id v c p a b d k h FirstConnection = search (rules, done, some_width, front_long)
 turn-allowed ms id v c p a b d k h (MoreConnection _ _ g e) =
     ap not (not-done 4 (width ms) b (joined state.Connection (width ms) v) (some_width ms) g (ap length h.connection ∙ front_long _ (width ms) b))
-turn-allowed ms id v c p a b d k h (FirstParameter _ e) = done 4 (width ms) (joined state.Connection (width ms) v) (some_width ms) (ap length h.connection ∙ front_long _ (width ms) b)
+turn-allowed ms id v c p a b d k h (FirstParameter _ e) = search (rules, done, some_width, front_long)
 turn-allowed ms id v c p a b d k h (MoreParameter _ _ g e) = ap not (loaded ms id v p a b d h ∙ not-done (id_len ms.profile + 4 + length ms.app) (width ms) d (joined state.Parameter (width ms) v) (some_width ms) g (ap length h.parameters ∙ front_long _ (width ms) d))
 turn-allowed ms id v c p a b d k h (FirstZeros _ e) = loaded ms id v p a b d h ∙ done (id_len ms.profile + 4 + length ms.app) (width ms) (joined state.Parameter (width ms) v) (some_width ms) (ap length h.parameters ∙ front_long _ (width ms) d)
 turn-allowed ms id v c p a b d k h (FirstValues _ e) = loaded ms id v p a b d h ∙ done (id_len ms.profile + 4 + length ms.app) (width ms) (joined state.Parameter (width ms) v) (some_width ms) (ap length h.parameters ∙ front_long _ (width ms) d)
 turn-allowed ms id v c p a b d k h _ = refl
 
--- what a slave has with the frame begins the payload
-begun-with : (p : List ℕ) (c k l : ℕ) (before load : List ℕ) → 0 < c → c ≤ l → before ≡ front p c k → load ≡ padded (piece p c (suc k)) l → IsBegun (before ++ take c load) p
-begun-with p c k l before load some fits h is =
-    subst (λ (u : List ℕ). IsBegun u p) (sym (ap₂ (λ (t u : List ℕ). t ++ take c u) h is ∙ ap (λ t. front p c k ++ t) (take_padded (piece p c (suc k)) c l (piece_short p c (suc k)) fits)))
-    (front_begun p c (suc k) some)
+-- one more piece of a payload was joined
+joined-more : (ms : MasterSettings) (p : List ℕ) (k : ℕ) (before load : List ℕ) → before ≡ front p (width ms) k → load ≡ padded (piece p (width ms) (suc k)) ms.lengths.master → before ++ take (width ms) load ≡ front p (width ms) (suc k)
+joined-more ms p k before load h is = ap₂ (λ (t u : List ℕ). t ++ take (width ms) u) h is ∙ ap (λ t. front p (width ms) k ++ t) (take_padded (piece p (width ms) (suc k)) (width ms) ms.lengths.master (piece_short p (width ms) (suc k)) (piece_fits (OfMaster ms)))
 
-zeros-after : (p : List ℕ) (c k l : ℕ) (load : List ℕ) → load ≡ padded (piece p c (suc k)) l → all_zero (drop c load) ≡ true
-zeros-after p c k l load is = ap (λ t. all_zero (drop c t)) is ∙ drop_padded (piece p c (suc k)) c l (piece_short p c (suc k))
+-- what a slave has with the frame begins the payload, and zeros come after the piece
+begun-with : (ms : MasterSettings) (p : List ℕ) (k : ℕ) (before load : List ℕ) → before ≡ front p (width ms) k → load ≡ padded (piece p (width ms) (suc k)) ms.lengths.master
+    → IsBegun (before ++ take (width ms) load) p × (all_zero (drop (width ms) load) ≡ true)
+begun-with ms p k before load h is = (
+  subst (λ (u : List ℕ). IsBegun u p) (sym (joined-more ms p k before load h is)) (front_begun p (width ms) (suc k) (some_width ms)),
+  ap (λ t. all_zero (drop (width ms) t)) is ∙ drop_padded (piece p (width ms) (suc k)) (width ms) ms.lengths.master (piece_short p (width ms) (suc k)),
+)
 
 -- the settings of both match
 pub record Accepts (ms : MasterSettings) (r : Partner ms) : Type 0 where
@@ -85,16 +83,15 @@ passes-contents : (ms : MasterSettings) (r : Partner ms) (id : ℕ) (e : List De
     → Carries ms id c a b d conn load → contents (slave_of ms r) e c (parts_with conn c load crcs) ≡ None
 passes-contents ms r id e command.Reset p a b d conn load crcs m h k = absurd k
 passes-contents ms r id e command.Session p a b d conn load crcs m h k =
-    session_passes id ms.profile r.rule (length (joined state.Session (width ms) (since e))) (joined state.Session (width ms) (since e) ++ take (width ms) load) (drop (width ms) load)
-    (begun-with (session_payload id ms.profile) (width ms) a ms.lengths.master _ load (some_width ms) (piece_fits (OfMaster ms)) h.session k.1) (zeros-after (session_payload id ms.profile) (width ms) a ms.lengths.master load k.1)
+    let begun = begun-with ms (session_payload id ms.profile) a (joined state.Session (width ms) (since e)) load h.session k.1 in
+    session_passes id ms.profile r.rule (length (joined state.Session (width ms) (since e))) _ (drop (width ms) load) begun.0 begun.1
 passes-contents ms r id e command.Connection p a b d conn load crcs m h k =
+    let begun = begun-with ms (connection_payload ms.conn ms.address) b (joined state.Connection (width ms) (since e)) load h.connection k.1 in
     ap (λ n. contents_fault (expected.Connection n ms.address) r.rule (length (joined state.Connection (width ms) (since e))) (joined state.Connection (width ms) (since e) ++ take (width ms) load) (drop (width ms) load)) k.0
-    ∙ connection_passes ms.conn ms.address r.rule (length (joined state.Connection (width ms) (since e))) (joined state.Connection (width ms) (since e) ++ take (width ms) load) (drop (width ms) load)
-    (begun-with (connection_payload ms.conn ms.address) (width ms) b ms.lengths.master _ load (some_width ms) (piece_fits (OfMaster ms)) h.connection k.1) (zeros-after (connection_payload ms.conn ms.address) (width ms) b ms.lengths.master load k.1)
+    ∙ connection_passes ms.conn ms.address r.rule (length (joined state.Connection (width ms) (since e))) _ (drop (width ms) load) begun.0 begun.1
 passes-contents ms r id e command.Parameter p a b d conn load crcs m h k =
-    parameters_pass ms.watchdog r.most r.rule ms.profile ms.app (length (joined state.Parameter (width ms) (since e))) (joined state.Parameter (width ms) (since e) ++ take (width ms) load) (drop (width ms) load)
-    ms.some_watchdog m.watchdog m.as_many m.allowed
-    (begun-with (parameter_payload ms.watchdog ms.profile ms.app) (width ms) d ms.lengths.master _ load (some_width ms) (piece_fits (OfMaster ms)) h.parameters k.1) (zeros-after (parameter_payload ms.watchdog ms.profile ms.app) (width ms) d ms.lengths.master load k.1)
+    let begun = begun-with ms (parameter_payload ms.watchdog ms.profile ms.app) d (joined state.Parameter (width ms) (since e)) load h.parameters k.1 in
+    parameters_pass ms.watchdog r.most r.rule ms.profile ms.app (length (joined state.Parameter (width ms) (since e))) _ (drop (width ms) load) ms.some_watchdog m.watchdog m.as_many m.allowed begun.0 begun.1
 passes-contents ms r id e command.FailSafeData p a b d conn load crcs m h k = ap (λ b. if b then None else Some (code 0x07)) k.1
 passes-contents ms r id e command.ProcessData p a b d conn load crcs m h k = refl
 
@@ -114,10 +111,6 @@ slave_valid ms r id u e c p a b d k conn load f m o h t carries =
       does_fit = fits_on (master_of ms) (slave_of ms r) u (since e) conn c load f refl o;
       is_sound = ap (contents (slave_of ms r) e c) o.frame ∙ passes-contents ms r id e c p a b d conn load _ m h carries;
     }
-
--- one more piece of a payload was joined
-joined-more : (ms : MasterSettings) (p : List ℕ) (k : ℕ) (before load : List ℕ) → before ≡ front p (width ms) k → load ≡ padded (piece p (width ms) (suc k)) ms.lengths.master → before ++ take (width ms) load ≡ front p (width ms) (suc k)
-joined-more ms p k before load h is = ap₂ (λ (t u : List ℕ). t ++ take (width ms) u) h is ∙ ap (λ t. front p (width ms) k ++ t) (take_padded (piece p (width ms) (suc k)) (width ms) ms.lengths.master (piece_short p (width ms) (suc k)) (piece_fits (OfMaster ms)))
 
 -- what a slave took with one more frame
 pub slave_after : (ms : MasterSettings) (id : ℕ) (v : List Deed) (c : Command) (p : State) (a b d conn : ℕ) (load f g tail : List ℕ) → SlaveAt ms id v p a b d → f ≡ command_byte c ∷ tail
@@ -152,11 +145,6 @@ piece-long p q c k h = grind (arith, common_steps)
 echo-long : (q : List ℕ) (c l m : ℕ) (load : List ℕ) → length q ≤ c → c ≤ l → c ≤ m → load ≡ padded q l → padded (take c load) m ≡ padded q m
 echo-long q c l m load h i j e = ap (λ t. padded (take c t) m) e ∙ (ap (λ t. padded t m) (take_padded q c l h i) ∙ padded_twice q c m h j)
 
--- where a connection id came, it is the session's
-known : (ms : MasterSettings) (r : Partner ms) (id : ℕ) (e : List Deed) (f load : List ℕ) (c : Command) (p : State) (a b d : ℕ) → is_reset c ≡ false → SlaveAt ms id (answering f c load [] ∷ since e) p a (suc b) d
-    → conn_id (slave_of ms r) (received f c load e) ≡ ms.conn
-known ms r id e f load c p a b d n h = ap (λ o. unwrap_or o 0) h.conn
-
 data-reply : (ms : MasterSettings) (r : Partner ms) (id : ℕ) (e : List Deed) (f load : List ℕ) (c : Command) (a b d : ℕ) (hold : Bool) → is_reset c ≡ false → phase_of c ≡ state.Data
     → answer (slave_of ms r) (received f c load e) (record { command = c; load = load }) ≡ with_data (slave_of ms r) (received f c load e)
     → conn_id (slave_of ms r) (received f c load e) ≡ ms.conn → length (offer (slave_of ms r) e) ≡ ms.lengths.slave → held e ≡ hold → Reply ms r id e f c load a b d
@@ -184,6 +172,7 @@ SomeConn _ b = 0 < b
 pub some_conn : (n n' n'' : ℕ) (c : Command) (p : State) (a b d k : ℕ) → 0 < n' → Turn n n' n'' c p a b d k → SomeConn c b
 some_conn n n' n'' c p a b d k h l = grind arith
 
+-- where a connection id came, it is the session's
 conn-known : (ms : MasterSettings) (r : Partner ms) (id : ℕ) (e : List Deed) (f load : List ℕ) (c : Command) (p : State) (a b d : ℕ) → is_reset c ≡ false → 0 < b → SlaveAt ms id (answering f c load [] ∷ since e) p a b d
     → conn_id (slave_of ms r) (received f c load e) ≡ ms.conn
 conn-known ms r id e f load c p a b d h k l = grind arith
@@ -218,7 +207,7 @@ reply ms r id e f load command.Session a b d conn long some k h =
       replies = (refl, ap (λ n. all_zero (drop n (padded q ms.lengths.slave))) same ∙ drop_padded q (length q) ms.lengths.slave (omega arith));
     }
 reply ms r id e f load command.Connection a b d conn long some k h =
-    echo-reply ms r id e f load command.Connection a (suc b) d (connection_payload ms.conn ms.address) (suc b) refl refl k.1 (λ same. (known ms r id e f load command.Connection state.Connection a b d refl h, same))
+    echo-reply ms r id e f load command.Connection a (suc b) d (connection_payload ms.conn ms.address) (suc b) refl refl k.1 (λ same. (conn-known ms r id e f load command.Connection state.Connection a (suc b) d refl (omega arith) h, same))
 reply ms r id e f load command.Parameter a b d conn long some k h =
     echo-reply ms r id e f load command.Parameter a b (suc d) (parameter_payload ms.watchdog ms.profile ms.app) (suc d) refl refl k.1 (λ same. (conn-known ms r id e f load command.Parameter state.Parameter a b (suc d) refl some h, same))
 reply ms r id e f load command.FailSafeData a b d conn long some k h =

@@ -1,8 +1,8 @@
 -- Each delivery of an honest run brings the next stage: of a Reset frame, and of a frame of a session, which its
 -- receiver answers.
-use Rattle.exchange_model.proofs.Common.{Command, Deed, End, Entry, Event, Frame, HasNoReset, IsNext, IsNextEntry, IsProper, IsRun, IsValid, IsWorld, Item, MasterSettings, NeighboursDiffer, OfMaster, Setup, State, TakesDataAfter, TakesDelivery, answer, answer_among, bytes_decides, count_in, data_taken, deeds, delivery, entry_at, entry_of, entry_on, exchanges, first_conn, frame_of, has_bytes, has_command, id_len, is_guarded, is_other, is_reset, items, items_of, newest, nonce, number_if, offer_len, option_or, own, padded, phase_of, phase_sent, piece, received, reset_frame, same_phase, seal, sends, session_id, session_payload, setup_of, since, step}
+use Rattle.exchange_model.proofs.Common.{Command, Deed, End, Entry, Event, Frame, HasNoReset, IsNext, IsNextEntry, IsProper, IsRun, IsValid, IsWorld, Item, MasterSettings, NeighboursDiffer, OfMaster, Setup, State, TakesDataAfter, TakesDelivery, answer, answer_among, bytes_decides, data_taken, deeds, delivery, entry_at, entry_of, entry_on, exchanges, frame_of, has_bytes, has_command, id_len, is_guarded, is_other, is_reset, items, newest, number_if, offer_len, own, padded, phase_of, phase_sent, piece, received, reset_frame, same_phase, seal, sends, session_id, session_payload, setup_of, since, step}
 use Rattle.black_channel.specs.Altered.{back_th}
-use Rattle.std.proofs.Common.{◌≡◌, ℕ, suc, List, [], ◌∷◌, length, Bool, true, false, not, ◌&&◌, Some, None, if◌then◌else◌, refl, sym, ap, ◌∙◌, nat_le, is_some, unwrap_or, ◌≢◌, ◌+◌, ◌<◌, subst, arith, rules}
+use Rattle.std.proofs.Common.{◌≡◌, ℕ, suc, List, [], ◌∷◌, length, Bool, true, false, not, ◌&&◌, Some, None, if◌then◌else◌, refl, sym, ap, ◌∙◌, is_some, ◌≢◌, ◌+◌, ◌<◌, subst, arith, rules}
 use Rattle.fsoe_base.specs.declared.command.End.TheVariants as end_name
 use Rattle.fsoe_base.specs.declared.command.State.TheVariants as state
 use Rattle.fsoe_base.specs.declared.command.Command.TheVariants as command
@@ -13,7 +13,7 @@ use Rattle.exchange_model.proofs.Honest.MasterTurn.{next, Next, master_valid, ma
 use Rattle.exchange_model.proofs.Honest.OnItsWay.{answering, fresh, first_on_its_way, OnItsWay, next_on_its_way, head_on}
 use Rattle.exchange_model.proofs.Honest.Passing.{slave_rejoins, master_starts, takes_valid}
 use Rattle.exchange_model.proofs.Honest.ResetFrames.{zero_load, is_reset_frame}
-use Rattle.exchange_model.proofs.Honest.Stages.{both, NewestAnswers, IsAsked, IsReplied, Stage, Replied, Down, IsDown, IsUp, Up}
+use Rattle.exchange_model.proofs.Honest.Stages.{both, NewestAnswers, NewestIs, IsAsked, IsReplied, Stage, Replied, Down, IsDown, IsUp, Up}
 use Rattle.exchange_model.proofs.Honest.Turns.{Partner, partner, master_of, slave_of, width, Starts, none_yet, session_pieces, connection_pieces, parameter_pieces, more, Spot, spot_after, SlaveAt, MasterAt, at_least, spot_data}
 use Rattle.end_model.proofs.Neighbours.{neighbours}
 use Rattle.exchange_model.proofs.Worlds.Projection.{deeds_are_run}
@@ -38,11 +38,8 @@ pub record Enters (ms : MasterSettings) (r : Partner ms) (w : List Entry) (event
 abbrev pub Goes : (ms : MasterSettings) → Partner ms → List Entry → Event → End → Type 0
 Goes ms r w event next = (x : Entry) × Enters ms r w event x × AtStage ms r (x ∷ w) next
 
-bytes-found : (f : List ℕ) (i : Item) → i.bytes ≡ f → has_bytes f (Some i) ≡ true
-bytes-found f i h = (bytes_decides i.bytes f).1 h
-
 number-found : (f : List ℕ) (i : Item) → i.bytes ≡ f → number_if f (Some i) ≡ Some i.number
-number-found f i h = ap (λ b. if b then Some i.number else None) (bytes-found f i h)
+number-found f i h = ap (λ b. if b then Some i.number else None) ((bytes_decides i.bytes f).1 h)
 
 -- the number of the item that is taken: the newest of the peer, whatever its command
 pub taken_number : (mine theirs : List Item) (f : List ℕ) (c : Command) (h : NewestAnswers mine theirs f) → number_if f (if is_guarded c then answer_among mine (newest theirs) else newest mine) ≡ Some h.newest.item.number
@@ -50,6 +47,11 @@ taken_number mine theirs f c h = search rules
 
 pub none_other : (a b : Bool) (mine theirs : List Item) (f : List ℕ) → NewestAnswers mine theirs f → (a && b && not (has_bytes f (answer_among mine (newest theirs)))) ≡ false
 none_other a b mine theirs f h = search rules
+
+-- the next item, which answers the newest of the peer
+newest-next : (i : Item) (mine theirs : List Item) (f g : List ℕ) (h : NewestIs theirs f) → i.bytes ≡ g → i.answers ≡ Some h.item.number → has_command command.Reset g ≡ false → NewestAnswers (i ∷ mine) theirs g
+newest-next i mine theirs f g h is a n =
+    record { newest = record { item = i; older = mine; is = refl; bytes_are = is }; answered = h.item; theirs_older = h.older; theirs_are = h.is; answers = a; in_session = n }
 
 -- a frame that is taken is of data exactly where its phase is Data
 pub data_phase_taken : (c : Command) (load : List ℕ) → is_some (data_taken (Some (record { command = c; load = load }))) ≡ same_phase state.Data (phase_of c)
@@ -68,14 +70,7 @@ asked_delivered ms r w h =
     let stepped : step (slave_of ms r) es (move.Deliver f) ≡ d =
     slave_rejoins (partner ms r) es f (zero_load ms.lengths.master) h.outside.phase (is_reset_frame (slave_of ms r) es ms.lengths.valid_master h.outside.slave.none_kept) in (
       entry_of (slave_of ms r) es d,
-      record {
-        is = delivered_entry (slave_of ms r) es (own (deeds end_name.Master w)) h.last.older f d h.last.is stepped;
-        follows = record { proper = tt; stepped = ap (entry_of (slave_of ms r) es) (sym stepped) };
-        not_other = refl;
-        no_reset = refl;
-        taken = λ k. refl;
-        takes_data = sym (ap (nat_le (exchanges ms)) h.slave_count ∙ none_yet (session_pieces ms) (connection_pieces ms) (parameter_pieces ms));
-      },
+      search (rules, delivered_entry, own, none_yet),
       Replied (search (rules, fresh, own, newest)),
     )
 
@@ -111,29 +106,9 @@ replied_delivered ms r w h =
         way = first_on_its_way (master_of ms) (slave_of ms r) (since em) (since es) f load 0 command.Session made long refl h.outside.master h.outside.slave;
         turn = Starts;
         carries = (refl, refl);
-        master = record {
-          phase = refl;
-          session = ap (λ t. suc (count_in state.Session t)) h.outside.master.none_sent;
-          connection = ap (count_in state.Connection) h.outside.master.none_sent;
-          parameters = ap (count_in state.Parameter) h.outside.master.none_sent;
-          id_is = ap (λ o. option_or o (Some (nonce (OfMaster ms) em))) h.outside.no_id ∙ ap Some (sym (ap (λ o. unwrap_or o (nonce (OfMaster ms) em)) h.outside.no_id));
-        };
-        slave = record {
-          phase = h.outside.phase;
-          session = h.outside.none_joined state.Session;
-          connection = h.outside.none_joined state.Connection;
-          parameters = h.outside.none_joined state.Parameter;
-          ids = ap (count_in state.Session) h.outside.slave.none_taken;
-          conn = ap (first_conn ms.lengths.master) h.outside.slave.none_taken;
-        };
-        newest = record {
-          newest = record { item = _; older = items_of end_name.Master (items w); is = refl; bytes_are = refl };
-          answered = h.newest.item;
-          theirs_older = h.newest.older;
-          theirs_are = h.newest.is;
-          answers = ap (λ xs. number_if f (newest xs)) h.newest.is ∙ number-found f h.newest.item h.newest.bytes_are;
-          in_session = refl;
-        };
+        master = search rules;
+        slave = search rules;
+        newest = newest-next _ _ _ f g h.newest refl (ap (λ xs. number_if f (newest xs)) h.newest.is ∙ number-found f h.newest.item h.newest.bytes_are) refl;
         master_count = ap suc h.master_count;
         slave_count = h.slave_count;
       }),
@@ -199,14 +174,7 @@ down_delivered ms r w accepts world h =
         master = subst (λ (p : State). MasterAt ms h.id em p (more state.Session c h.a) (more state.Connection c h.b) (more state.Parameter c h.d)) (sym x.same) h.master;
         slave = subst (λ (v : List Deed). SlaveAt ms h.id v (phase_of x.command) (more state.Session c h.a) (more state.Connection c h.b) (more state.Parameter c h.d)) (sym (since_on d es in_session))
             (subst (λ (p : State). SlaveAt ms h.id (d ∷ since es) p (more state.Session c h.a) (more state.Connection c h.b) (more state.Parameter c h.d)) (sym x.same) (after g));
-        newest = record {
-          newest = record { item = _; older = items_of end_name.Slave (items w); is = refl; bytes_are = refl };
-          answered = h.newest.newest.item;
-          theirs_older = h.newest.newest.older;
-          theirs_are = h.newest.newest.is;
-          answers = taken_number (items_of end_name.Master (items w)) (items_of end_name.Slave (items w)) f c h.newest;
-          in_session = in_session;
-        };
+        newest = newest-next _ _ _ f g h.newest.newest refl (taken_number _ _ f c h.newest) in_session;
         master_count = h.master_count;
         slave_count = ap suc h.slave_count;
       }),
@@ -249,14 +217,7 @@ up_delivered ms r w world h =
         carries = x.carries;
         master = master_after ms h.id em (answering f c h.load [] ∷ since em) f c x.command h.load x.made (phase_of c) h.a h.b h.d x.conn x.in_session h.master;
         slave = h.slave;
-        newest = record {
-          newest = record { item = _; older = items_of end_name.Master (items w); is = refl; bytes_are = refl };
-          answered = h.newest.newest.item;
-          theirs_older = h.newest.newest.older;
-          theirs_are = h.newest.newest.is;
-          answers = taken_number (items_of end_name.Slave (items w)) (items_of end_name.Master (items w)) f c h.newest;
-          in_session = in_session;
-        };
+        newest = newest-next _ _ _ f g h.newest.newest refl (taken_number _ _ f c h.newest) in_session;
         master_count = ap suc h.master_count;
         slave_count = h.slave_count;
       }),

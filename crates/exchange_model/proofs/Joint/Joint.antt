@@ -2,7 +2,7 @@
 -- the master's, l the safe data bytes of a master's frame, c those of a piece. Pieces don't matter here: what a slave
 -- has uploaded is what the master's own frames carried, up to the item that the slave's newest item answers.
 use Rattle.exchange_model.proofs.Common.{Item, State, frame_of, has_command, phase_of_frame, same_phase}
-use Rattle.std.proofs.Common.{◌≡◌, ℕ, suc, ◌≤◌, List, [], ◌∷◌, ◌++◌, length, take, Bool, true, false, Option, Some, None, if◌then◌else◌, ◌==◌, sym, subst, arith, rules}
+use Rattle.std.proofs.Common.{◌≡◌, ℕ, ◌≤◌, List, [], ◌∷◌, ◌++◌, length, take, Bool, true, false, Option, Some, None, if◌then◌else◌, sym, subst, arith, rules}
 use Rattle.fsoe_base.specs.declared.command.State.TheVariants as state
 use Rattle.fsoe_base.specs.declared.command.Command.TheVariants as command
 use Rattle.exchange_model.proofs.Worlds.Frames.{bytes_in}
@@ -87,10 +87,7 @@ pub record Joint (l c : ℕ) (now : State) (uploads : State → List ℕ) (s m :
 -- an item among the master's has its place
 pub placed_at : (l c n : ℕ) (s m rest : List Item) (j : Item) → AllPlaced l c s m → up_to n m ≡ j ∷ rest → Placed l c s rest j
 placed_at l c n s [] rest j p h = cc
-placed_at l c n s (i ∷ m) rest j p h = placed-head (n == suc (length m)) (placed_at l c n s m rest j p.1) h
-  where
-    placed-head : (b : Bool) → (up_to n m ≡ j ∷ rest → Placed l c s rest j) → (if b then i ∷ m else up_to n m) ≡ j ∷ rest → Placed l c s rest j
-    placed-head b h k = grind arith
+placed_at l c n s (i ∷ m) rest j p h = grind (arith, placed_at l c n s m rest j p.1)
 
 -- a slave that takes a frame uploads its part
 abbrev pub Uploads : ℕ → ℕ → List ℕ → (State → List ℕ) → (State → List ℕ) → Type 0

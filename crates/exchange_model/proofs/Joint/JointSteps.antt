@@ -10,13 +10,7 @@ place-more l c i s rest n h k = search rules
 
 placed-more : (l c : ℕ) (i : Item) (s m : List Item) → AllPlaced l c s m → AllPlaced l c (i ∷ s) m
 placed-more l c i s [] h = tt
-placed-more l c i s (j ∷ m) h = (
-  record {
-    within = λ n e. let k : n ≤ length s = h.0.within n e in omega arith;
-    place = λ n e g. place-more l c i s m n (h.0.within n e) (h.0.place n e g);
-  },
-  placed-more l c i s m h.1,
-)
+placed-more l c i s (j ∷ m) h = search (rules, place-more, placed-more l c i s m h.1)
 
 pub master_adds : (l c : ℕ) (now : State) (uploads : State → List ℕ) (s m : List Item) (i : Item) → Placed l c s m i → Joint l c now uploads s m → Joint l c now uploads s (i ∷ m)
 master_adds l c now uploads s m i h k = search rules

@@ -49,7 +49,7 @@ session-placed : (ms : MasterSettings) (ss : SlaveSettings) (w : List Entry) (by
 session-placed ms ss w bytes load c f given g u =
     let x : Entry = of_master ms w (move.Deliver bytes) (takes_frame c load) f in
     unguarded_placed _ _ (items_of end_name.Slave (items w)) (items_of end_name.Master (items w)) (item_of x w (items w))
-    (λ n e. let k : IsNewest n bytes (items_of end_name.Slave (items w)) = newest-answered w bytes n _ (answers_newest w x bytes c load (record { what_is = refl; did_is = refl }) u) e in let q : n ≡ length (items_of end_name.Slave (items w)) = k.number_is in omega arith)
+    (λ n e. let k : IsNewest n bytes (items_of end_name.Slave (items w)) = newest-answered w bytes n _ (answers_newest w x bytes c load refl refl u) e in let q : n ≡ length (items_of end_name.Slave (items w)) = k.number_is in omega arith)
     (ap is_guarded_in (phase_framed _ command.Session _ f g))
 
 -- what a master's items carried, in either end's lengths
@@ -75,7 +75,7 @@ connection-placed ms ss w bytes load f same r now head =
     let sent : Sent ms (session (bytes_in m)) = subst (Sent ms) (sym (session-frames w)) (pieces_sent ms (deeds end_name.Master w) r) in
     let phase : phase_sent (session (bytes_in m)) ≡ state.Session = ap phase_sent (session-frames w) ∙ now in
     first_placed _ _ (items_of end_name.Slave (items w)) m (item_of x w (items w))
-    (λ n e. let k : IsNewest n bytes (items_of end_name.Slave (items w)) = newest-answered w bytes n _ (answers_newest w x bytes command.Session load (record { what_is = refl; did_is = refl }) refl) e in (k.number_is, ap is_guarded_in (k.phase_is ∙ phase_by bytes command.Session head)))
+    (λ n e. let k : IsNewest n bytes (items_of end_name.Slave (items w)) = newest-answered w bytes n _ (answers_newest w x bytes command.Session load refl refl refl) e in (k.number_is, ap is_guarded_in (k.phase_is ∙ phase_by bytes command.Session head)))
     (λ phase_in k. none-sent ms ss m phase_in same k sent phase)
 
 -- the item of a master that takes the awaited frame
@@ -83,7 +83,7 @@ answer-placed : (ms : MasterSettings) (ss : SlaveSettings) (w : List Entry) (byt
     → command_in bytes ≡ Some c → PlacedIn ss w (item_of (of_master ms w (move.Deliver bytes) (takes_frame c load) f) w (items w))
 answer-placed ms ss w bytes load f c g o head =
     let x : Entry = of_master ms w (move.Deliver bytes) (takes_frame c load) f in
-    let it : TakesItem w x bytes = takes_item w x bytes c load (record { what_is = refl; did_is = refl }) head g o in
+    let it : TakesItem w x bytes = takes_item w x bytes c load refl refl head g o in
     next_placed _ _ (items_of end_name.Slave (items w)) (items_of end_name.Master (items w)) (item_of x w (items w)) it.item it.guarded it.found it.answers
 
 head-in : (s : Setup) (e : List Deed) (bytes load : List ℕ) (c : Command) → IsValid s e bytes c load → command_in bytes ≡ Some c
@@ -160,7 +160,7 @@ slave-guarded : (ms : MasterSettings) (ss : SlaveSettings) (w : List Entry) (byt
 slave-guarded ms ss w bytes load c f t g =
     let x : Entry = of_slave ss w (move.Deliver bytes) (takes_frame c load) f in
     let head : command_in bytes ≡ Some c = head-in (OfSlave ss) (deeds end_name.Slave w) bytes load c t.valid in
-    let it : TakesItem w x bytes = takes_item w x bytes c load (record { what_is = refl; did_is = refl }) head g t.no_other in
+    let it : TakesItem w x bytes = takes_item w x bytes c load refl refl head g t.no_other in
     let phase : phase_of_frame it.item.bytes ≡ phase_of c = ap phase_of_frame it.bytes_are ∙ phase_by bytes c head in
     let before : State → List ℕ = λ phase. uploaded ss phase (deeds end_name.Slave w) in
     let after : State → List ℕ = λ phase. uploaded ss phase (deed (move.Deliver bytes) (takes_frame c load) f ∷ deeds end_name.Slave w) in

@@ -7,11 +7,6 @@ use Rattle.exchange_model.proofs.Worlds.Numbered.{numbered}
 use Rattle.exchange_model.proofs.Joint.Awaited.{Found, awaited_found}
 use Rattle.exchange_model.proofs.Joint.Joint.{is_guarded_in}
 
--- an entry takes these bytes as a frame with this command and load
-pub record Taken (x : Entry) (bytes : List ℕ) (c : Command) (load : List ℕ) : Type 0 where
-  pub what_is : x.what ≡ move.Deliver bytes
-  pub did_is : x.did ≡ takes_frame c load
-
 pub data_guarded : (c : Command) → is_data c ≡ true → is_guarded c ≡ true
 data_guarded c h = grind arith
 
@@ -24,13 +19,13 @@ pub record TakesItem (w : List Entry) (x : Entry) (bytes : List ℕ) : Type 0 wh
   pub found : Found (length (items_of x.end (items w))) (items_of (peer x.end) (items w)) item
   pub answers : (item_of x w (items w)).answers ≡ Some item.number
 
-pub takes_item : (w : List Entry) (x : Entry) (bytes : List ℕ) (c : Command) (load : List ℕ) → Taken x bytes c load → command_in bytes ≡ Some c → is_guarded c ≡ true → is_other (items w) x ≡ false → TakesItem w x bytes
-takes_item w x bytes c load h k l m = search (rules, awaited_found, numbered)
+pub takes_item : (w : List Entry) (x : Entry) (bytes : List ℕ) (c : Command) (load : List ℕ) → x.what ≡ move.Deliver bytes → x.did ≡ takes_frame c load → command_in bytes ≡ Some c → is_guarded c ≡ true → is_other (items w) x ≡ false → TakesItem w x bytes
+takes_item w x bytes c load h k l m n = search (rules, awaited_found, numbered)
 
 -- another frame answers the newest item of the peer, if it has the bytes
-pub answers_newest : (w : List Entry) (x : Entry) (bytes : List ℕ) (c : Command) (load : List ℕ) → Taken x bytes c load → is_guarded c ≡ false
+pub answers_newest : (w : List Entry) (x : Entry) (bytes : List ℕ) (c : Command) (load : List ℕ) → x.what ≡ move.Deliver bytes → x.did ≡ takes_frame c load → is_guarded c ≡ false
     → (item_of x w (items w)).answers ≡ number_if bytes (newest (items_of (peer x.end) (items w)))
-answers_newest w x bytes c load t g = let a = t.what_is in let b = t.did_is in simp (a, b, g)
+answers_newest w x bytes c load a b g = simp (a, b, g)
 
 -- no entry of a run is other
 pub record NoneOther (x : Entry) (w : List Entry) : Type 0 where

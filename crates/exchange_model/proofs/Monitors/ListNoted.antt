@@ -1,6 +1,6 @@
 -- What a monitor with lists has after an entry is what the definitions say of the entries with it, by the newest of
 -- listed items.
-use Rattle.exchange_model.proofs.Common.{End, Entry, Item, ListView, ListsEntry, Sent, Side, answer_among, answer_in, common_steps, delivered, first_of_both, first_other, is_answer_to, is_empty, is_other_to, item_of, items, items_of, kept_of, last_answer, last_sent, later, list_after, list_of, listed, listed_next, listing, lists_after, looked_up, newest, newest_answer, next_sent, number_taken, peer, sent_of, take_more}
+use Rattle.exchange_model.proofs.Common.{End, Entry, Item, ListView, ListsEntry, Side, answer_among, answer_in, common_steps, delivered, first_of_both, first_other, is_answer_to, is_empty, is_other_to, item_of, items, items_of, kept_of, last_answer, last_sent, option_or, list_after, list_of, listed, listed_next, listing, lists_after, looked_up, newest, newest_answer, next_sent, number_taken, peer, sent_of, take_more}
 use Rattle.std.proofs.Common.{◌≡◌, ℕ, suc, List, [], ◌∷◌, ◌++◌, length, Bool, Option, Some, if◌then◌else◌, refl, sym, ap, ap₂, ◌∙◌, ◌+◌, ◌<◌, take, get_or, arith, take_all, rules}
 use Rattle.fsoe_base.specs.declared.command.End.TheVariants as end_name
 use Rattle.exchange_model.specs.declared.list_monitor.Listed.{Listed}
@@ -9,15 +9,12 @@ use Rattle.exchange_model.proofs.Worlds.Numbered.{numbered}
 -- one more item
 pub last_sent_more : (found : List Listed) (i : Listed) → last_sent (found ++ (i ∷ [])) ≡ Some i.sent
 last_sent_more [] i = refl
-last_sent_more (j ∷ found) i = ap (λ o. later o j.sent) (last_sent_more found i)
-
-chosen-later : (b c : Bool) (o : Option Sent) (s t : Sent) → (if b then later (if c then Some s else o) t else (if c then Some s else o)) ≡ (if c then Some s else (if b then later o t else o))
-chosen-later b c o s t = grind arith
+last_sent_more (j ∷ found) i = ap (λ o. option_or o (Some j.sent)) (last_sent_more found i)
 
 pub last_answer_more : (n : ℕ) (found : List Listed) (i : Listed) → last_answer n (found ++ (i ∷ [])) ≡ (if is_answer_to n i then Some i.sent else last_answer n found)
 last_answer_more n [] i = refl
 last_answer_more n (j ∷ found) i =
-    ap (λ o. if is_answer_to n j then later o j.sent else o) (last_answer_more n found i) ∙ chosen-later (is_answer_to n j) (is_answer_to n i) (last_answer n found) i.sent j.sent
+    grind (arith, last_answer_more n found i)
 
 -- the newest of the first items, by the last of them
 pub last_answer_at : (n k : ℕ) (found : List Listed) (i : Listed) (b : Bool) → k < length found → i ≡ get_or found k i → is_answer_to n i ≡ b
@@ -31,14 +28,11 @@ last_sent_at k found i h n = ap last_sent (sym (take_all (k + 1) found (omega ar
 last-is : (found : List Item) → last_sent (listed found) ≡ sent_of (newest found)
 last-is found = search (rules, last_sent_more)
 
-chosen-sent : (b : Bool) (i : Item) (o : Option Item) → (if b then Some (listing i).sent else sent_of o) ≡ sent_of (if b then Some i else o)
-chosen-sent b i o = grind arith
-
 -- the newest that answers
 answer-is : (n : ℕ) (found : List Item) → last_answer n (listed found) ≡ sent_of (newest_answer n found)
 answer-is n [] = refl
 answer-is n (i ∷ found) =
-    last_answer_more n (listed found) (listing i) ∙ (ap (λ o. if is_answer_to n (listing i) then Some (listing i).sent else o) (answer-is n found) ∙ chosen-sent (is_answer_to n (listing i)) i (newest_answer n found))
+    grind (arith, last_answer_more, answer-is n found)
 
 answer-in : (found : List Item) (o : Option Item) → answer_in (listed found) (sent_of o) ≡ sent_of (answer_among found o)
 answer-in found o = search (rules, answer-is)
@@ -67,14 +61,10 @@ mine-is which x w h =
 other-in : (which : End) (x : Entry) (w : List Entry) → x.end ≡ which → first_of_both (first_other w) (is_other_to (looked_up which (list_of w)) x.did.passed (delivered x.what)) (suc (length w)) ≡ first_other (x ∷ w)
 other-in which x w h = search (rules, looked-up-is)
 
-same-lists : (n : ℕ) (other other' : Option ℕ) (a a' b b' : List Listed) → other ≡ other' → a ≡ a' → b ≡ b'
-    → (let v : ListView = record { noted = n; other = other; master = a; slave = b } in v) ≡ record { noted = n; other = other'; master = a'; slave = b' }
-same-lists n other other' a a' b b' h i j = cc
-
 next-is : (which : End) (x : Entry) (w : List Entry) → x.end ≡ which
     → (record (lists_after which (list_of w) x) { noted = suc (length w); other = first_of_both (first_other w) (is_other_to (looked_up which (list_of w)) x.did.passed (delivered x.what)) (suc (length w)) }) ≡ list_of (x ∷ w)
-next-is end_name.Master x w h = same-lists (suc (length w)) _ _ _ _ _ _ (other-in end_name.Master x w h) (mine-is end_name.Master x w h) (theirs-by end_name.Master x w (is_empty x.sent) h)
-next-is end_name.Slave x w h = same-lists (suc (length w)) _ _ _ _ _ _ (other-in end_name.Slave x w h) (theirs-by end_name.Slave x w (is_empty x.sent) h) (mine-is end_name.Slave x w h)
+next-is end_name.Master x w h = let o = other-in end_name.Master x w h in let m = mine-is end_name.Master x w h in let s = theirs-by end_name.Master x w (is_empty x.sent) h in cc
+next-is end_name.Slave x w h = let o = other-in end_name.Slave x w h in let m = theirs-by end_name.Slave x w (is_empty x.sent) h in let s = mine-is end_name.Slave x w h in cc
 
 -- a monitor that steps so lists the entry
 pub lists_by : {old new : ListView} {x : Entry} → new ≡ listed_next old x → ListsEntry old x new

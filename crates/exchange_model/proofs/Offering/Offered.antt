@@ -81,9 +81,6 @@ takes-bit ms ss bit x w t lens h n took one =
 pub both-ways : (b : Bool) (m n : ℕ) → m ≡ n → (if b then m else n) ≡ n
 both-ways b m n h = grind arith
 
-in-all : (later taking before all watchdog : ℕ) → later + 0 < watchdog → taking ≡ before → before ≤ watchdog - 1 → all ≡ later + taking → all ≤ 2 * watchdog - 2
-in-all later taking before all watchdog h i j k = omega arith
-
 -- looking back past the entry that took the data
 further : (ms : MasterSettings) (which : End) (bit : ℕ) (w : List Entry) (t : ShowsBit which bit 0 w) → TakesBit ms bit t.taking t.before → WasOffered which bit (2 * ms.watchdog - 2) w
 further ms which bit w t b =
@@ -98,8 +95,7 @@ further ms which bit w t b =
       by_peer = o.by_peer;
       sent_data = o.sent_data;
       offered = o.offered;
-      lately = in-all (ticks_of which t.later) (ticks_of which (t.taking ∷ o.later)) (ticks_of which o.later) (ticks_of which (t.later ++ (t.taking ∷ o.later))) ms.watchdog
-          (ltb-true (ticks_of which t.later + 0) ms.watchdog in_all) none o.lately (ticks_joined which t.later (t.taking ∷ o.later));
+      lately = omega (arith, ltb-true (ticks_of which t.later + 0) ms.watchdog in_all, ticks_joined which t.later (t.taking ∷ o.later));
     }
 
 -- where a bit of an end's outputs is 1, its peer offered it lately

@@ -1,6 +1,6 @@
 -- What holds of a run holds of its older entries; and the ticks of an end since.
-use Rattle.exchange_model.proofs.Common.{End, Entry, IsWorld, MasterSettings, Move, NoOther, SlaveSettings, same_end, ticked, ticks_of}
-use Rattle.std.proofs.Common.{◌≡◌, ℕ, ◌+◌, List, [], ◌∷◌, ◌++◌, Bool, if◌then◌else◌, arith}
+use Rattle.exchange_model.proofs.Common.{End, Entry, IsWorld, MasterSettings, NoOther, SlaveSettings, ticks_of}
+use Rattle.std.proofs.Common.{◌≡◌, ◌+◌, List, [], ◌∷◌, ◌++◌, arith}
 use Rattle.exchange_model.proofs.Joint.Taking.{NoneOther, none_other}
 
 -- the older entries of a world are one
@@ -13,10 +13,7 @@ pub older_clean : (later w : List Entry) → NoOther (later ++ w) → NoOther w
 older_clean [] w n = n
 older_clean (x ∷ later) w n = let o : NoneOther x (later ++ w) = none_other x (later ++ w) n in older_clean later w o.before
 
-ticks-head : (m : Move) (mine : Bool) (both a b : ℕ) → both ≡ a + b → (if mine then ticked m both else both) ≡ (if mine then ticked m a else a) + b
-ticks-head m mine both a b h = grind arith
-
 -- the ticks among joined entries
 pub ticks_joined : (which : End) (later w : List Entry) → ticks_of which (later ++ w) ≡ ticks_of which later + ticks_of which w
 ticks_joined which [] w = omega arith
-ticks_joined which (x ∷ later) w = ticks-head x.what (same_end which x.end) (ticks_of which (later ++ w)) (ticks_of which later) (ticks_of which w) (ticks_joined which later w)
+ticks_joined which (x ∷ later) w = grind (arith, ticks_joined which later w)

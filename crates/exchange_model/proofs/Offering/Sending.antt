@@ -29,11 +29,12 @@ sent-head : (k : ℕ) (who : End) (j : Item) (x : Entry) (w : List Entry) (none 
     → newest_answer k (items_of who (if none then items w else item_of x w (items w) ∷ items w)) ≡ Some j → SentItem who j (x ∷ w)
 sent-head k who j x w none h l = search (rules, one-later, sent-now)
 
-sent-item : (k : ℕ) (who : End) (j : Item) (w : List Entry) → newest_answer k (items_of who (items w)) ≡ Some j → SentItem who j w
+-- the entry that sent an item which answers another one
+pub sent-item : (k : ℕ) (who : End) (j : Item) (w : List Entry) → newest_answer k (items_of who (items w)) ≡ Some j → SentItem who j w
 sent-item k who j [] h = cc
 sent-item k who j (x ∷ w) h = sent-head k who j x w (is_empty x.sent) (λ e. sent-item k who j w e) h
 
-sent-answer : (who : End) (j : Item) (w : List Entry) (mine : List Item) → answer_among (items_of who (items w)) (newest mine) ≡ Some j → SentItem who j w
+pub sent-answer : (who : End) (j : Item) (w : List Entry) (mine : List Item) → answer_among (items_of who (items w)) (newest mine) ≡ Some j → SentItem who j w
 sent-answer who j w mine h = search (rules, sent-item)
 
 number-within : (bytes : List ℕ) (count k : ℕ) (o : Option Item) → ((i : Item) → o ≡ Some i → i.number ≤ count) → number_if bytes o ≡ Some k → k ≤ count
@@ -58,6 +59,14 @@ grown-length old more h = grind arith
 older-items : (which : End) (later w : List Entry) → length (items_of which (items w)) ≤ length (items_of which (items (later ++ w)))
 older-items which [] w = omega arith
 older-items which (x ∷ later) w = omega (arith, older-items which later w, grown-length _ _ (grown which x (later ++ w)))
+
+-- an end had no more items before an item was sent
+pub older-than : (which who : End) (j : Item) (w : List Entry) (at : SentItem who j w) → length (items_of which (items at.before)) ≤ length (items_of which (items w))
+older-than which who j w at =
+    let a = grown-length _ _ (grown which at.sending at.before) in
+    let b = older-items which at.later (at.sending ∷ at.before) in
+    let c : length (items_of which (items w)) ≡ length (items_of which (items (at.later ++ (at.sending ∷ at.before)))) = ap (λ (v : List Entry). length (items_of which (items v))) at.parts_are in
+    omega arith
 
 -- no item more, no frame sent
 sends-none : (which : End) (x : Entry) (later w : List Entry) (none : Bool) → same_end which x.end ≡ true → is_empty x.sent ≡ none
@@ -84,18 +93,17 @@ pub record SentLately (s : Setup) (which : End) (j : Item) (w : List Entry) : Ty
   pub at : SentItem (peer which) j w
   pub counted : ticks_of which at.later ≤ ticks s (deeds which w)
 
--- the end that awaits an item sent its newest one before it
-answered-before : (which : End) (j : Item) (w : List Entry) → awaited (items w) which ≡ Some j → (at : SentItem (peer which) j w) → length (items_of which (items w)) ≤ length (items_of which (items at.before))
-answered-before which j w h at =
-    let f : Found (length (items_of which (items w))) (items_of (peer which) (items w)) j = awaited_found (items_of which (items w)) (items_of (peer which) (items w)) j (numbered which w) (numbered (peer which) w) h in
-    let is : (item_of at.sending at.before (items at.before)).answers ≡ Some (length (items_of which (items w))) = ap (λ (i : Item). i.answers) at.is_item ∙ f.answers in
-    let k = answered-within at.sending.end (delivered at.sending.what) at.sending.did.took at.before (length (items_of which (items w))) is in
-    subst (λ (it : End). length (items_of which (items w)) ≤ length (items_of it (items at.before))) (ap peer at.by_end ∙ peer-back which) k
+-- an item was sent after the one that it answers
+pub answered-before : (which : End) (n : ℕ) (j : Item) (w : List Entry) → j.answers ≡ Some n → (at : SentItem (peer which) j w) → n ≤ length (items_of which (items at.before))
+answered-before which n j w h at =
+    let k = answered-within at.sending.end (delivered at.sending.what) at.sending.did.took at.before n (ap (λ (i : Item). i.answers) at.is_item ∙ h) in
+    subst (λ (it : End). n ≤ length (items_of it (items at.before))) (ap peer at.by_end ∙ peer-back which) k
 
 pub sent_lately : (s : Setup) (which : End) (j : Item) (w : List Entry) → awaited (items w) which ≡ Some j → SentLately s which j w
 sent_lately s which j w h =
     let at : SentItem (peer which) j w = sent-answer (peer which) j w (items_of which (items w)) h in
-    let a : length (items_of which (items w)) ≤ length (items_of which (items at.before)) = answered-before which j w h at in
+    let f : Found (length (items_of which (items w))) (items_of (peer which) (items w)) j = awaited_found (items_of which (items w)) (items_of (peer which) (items w)) j (numbered which w) (numbered (peer which) w) h in
+    let a : length (items_of which (items w)) ≤ length (items_of which (items at.before)) = answered-before which (length (items_of which (items w))) j w f.answers at in
     let b : length (items_of which (items at.before)) ≤ length (items_of which (items (at.sending ∷ at.before))) = grown-length _ _ (grown which at.sending at.before) in
     let c : length (items_of which (items w)) ≡ length (items_of which (items (at.later ++ (at.sending ∷ at.before)))) = ap (λ (v : List Entry). length (items_of which (items v))) at.parts_are in
     record {

@@ -1,6 +1,6 @@
 -- The entry whose data an end shows, where a bit of its outputs is 1.
 use Rattle.exchange_model.proofs.Common.{Command, End, Entry, Took, bit_of, common_steps, data_taken, in_time, of_end, outputs_after, outputs_by, same_end, ticked, ticks_of}
-use Rattle.std.proofs.Common.{◌≡◌, ℕ, ◌+◌, slice_index, List, [], ◌∷◌, ◌++◌, replicate, Bool, true, false, Option, Some, if◌then◌else◌, refl, ap, ◌∙◌, arith, rules}
+use Rattle.std.proofs.Common.{◌≡◌, ℕ, ◌+◌, slice_index, List, [], ◌∷◌, ◌++◌, replicate, Bool, true, false, Some, if◌then◌else◌, refl, ap, ◌∙◌, arith, rules}
 use Rattle.fsoe_base.specs.declared.command.Command.TheVariants as command
 use Rattle.exchange_model.proofs.Worlds.Projection.{same}
 
@@ -41,9 +41,6 @@ one-later which bit n x w t =
       is_in_time = ap (λ (k : ℕ). in_time k t.taking.terms) (ticks-since which x (ticks_of which t.later) n (same_end which x.end)) ∙ t.is_in_time;
     }
 
-data-took : (took : Option Took) (t : Took) → took ≡ Some t → t.command ≡ command.ProcessData → data_taken took ≡ Some t
-data-took took t h k = ap data_taken h ∙ simp k
-
 -- the newest entry took a frame
 shown-now : (which : End) (bit l n : ℕ) (x : Entry) (w : List Entry) (t : Took) (c : Command) (young : Bool) → same_end which x.end ≡ true → x.did.took ≡ Some t → t.command ≡ c → in_time n x.terms ≡ young
     → bit_of (outputs_by (replicate l 0) n x.terms c t.load) bit ≡ true → ShowsBit which bit n (x ∷ w)
@@ -55,7 +52,7 @@ shown-now which bit l n x w t command.ProcessData true mine is which_command k h
       parts_are = refl;
       own = same which x.end mine;
       took = t;
-      took_is = data-took x.did.took t is which_command;
+      took_is = ap data_taken is ∙ simp which_command;
       has_bit = simp k at h;
       is_in_time = let all : 0 + n ≡ n = omega arith in ap (λ (m : ℕ). in_time m x.terms) all ∙ k;
     }

@@ -1,57 +1,42 @@
 -- A slave that uploaded what a master downloaded has the master's terms.
-use Rattle.exchange_model.proofs.Common.{MasterSettings, OfMaster, Profile, SlaveSettings, Terms, append-nil, common_steps, id_len, length-drop, length-take, mul-le-mul_left, number_at, padded, parameter_payload, piece, pieces, replicate-append-replicate, take-add, take-append_seam, take_all, terms, terms_in, word_is}
-use Rattle.std.proofs.Common.{◌≡◌, ℕ, suc, zero, ◌+◌, ◌-◌, ◌*◌, ◌/◌, ◌%◌, ◌<◌, ◌≤◌, List, [], ◌++◌, length, take, drop, replicate, true, sym, ap, ap₂, ◌∙◌, arith, append_assoc, rules}
+use Rattle.exchange_model.proofs.Common.{MasterSettings, OfMaster, Profile, SlaveSettings, Terms, drop-replicate, id_len, length-append, length-replicate, mul-le-mul_left, number_at, padded, parameter_payload, pieces, take-add, take-append_seam, take-replicate, take_all, terms, terms_in, word_is}
+use Rattle.std.proofs.Common.{◌≡◌, ℕ, suc, zero, ◌+◌, ◌-◌, ◌*◌, ◌/◌, ◌%◌, ◌<◌, ◌≤◌, List, [], ◌∷◌, ◌++◌, length, take, drop, replicate, true, refl, sym, ap, ap₂, ◌∙◌, arith, rules}
 use Rattle.exchange_model.proofs.Alone.Framed.{connection_of, parameters_of}
 use Rattle.exchange_model.proofs.Alone.Pieces.{front}
 use Rattle.exchange_model.proofs.Alone.Uploads.{Tested}
 
--- the first m bytes of a payload, and zeros where it has fewer
-abbrev filled : ℕ → List ℕ → List ℕ
-filled m p = take m p ++ replicate (m - length p) 0
+-- the first bytes, filled up with zeros, are those of the list with zeros after it
+take-filled : (q : List ℕ) (c n : ℕ) → c ≤ length q + n → padded (take c q) c ≡ take c (q ++ replicate n 0)
+take-filled q zero n h = refl
+take-filled [] (suc c) n h = let e : suc c - 0 ≡ suc c = omega arith in ap (λ k. replicate k 0) e ∙ sym (take-replicate (suc c) n 0 (omega arith))
+take-filled (x ∷ q) (suc c) n h =
+    let e : suc c - suc (length (take c q)) ≡ c - length (take c q) = omega arith in
+    ap (λ k. x ∷ (take c q ++ replicate k 0)) e ∙ ap (λ t. x ∷ t) (take-filled q c n (omega arith))
 
-zeros-more : (j c k filler : ℕ) → j + c ≡ k → replicate j filler ++ replicate c filler ≡ replicate k filler
-zeros-more j c k filler h = replicate-append-replicate j c filler ∙ ap (λ k. replicate k filler) h
+-- so is a piece
+piece-filled : (p : List ℕ) (c m n : ℕ) → m + c ≤ length p + n → padded (take c (drop m p)) c ≡ take c (drop m (p ++ replicate n 0))
+piece-filled p c zero n h = take-filled p c n (omega arith)
+piece-filled [] c (suc m) n h = take-filled [] c (n - suc m) (omega arith) ∙ ap (take c) (sym (drop-replicate (suc m) n 0))
+piece-filled (x ∷ p) c (suc m) n h = piece-filled p c m n (omega arith)
 
--- one more piece of a payload that has ended
-past-its-end : (p : List ℕ) (c m n : ℕ) → length p ≤ m → length p ≤ n → (m - length p) + c ≡ n - length p → filled m p ++ padded (take c (drop m p)) c ≡ filled n p
-past-its-end p c m n h k l = grind (arith, common_steps, zeros-more)
-
--- one more piece of a payload that has more bytes
-before-its-end : (p : List ℕ) (c m n : ℕ) → m ≤ length p → n ≡ m + c → filled m p ++ padded (take c (drop m p)) c ≡ filled n p
-before-its-end p c m n h e =
-    let first : filled m p ≡ take m p = (let z : m - length p ≡ 0 = omega arith in ap (λ k. take m p ++ replicate k 0) z) ∙ append-nil (take m p) in
-    let bytes : take m p ++ take c (drop m p) ≡ take n p = sym (take-add m c p) ∙ ap (λ n. take n p) (sym e) in
-    let zeros : replicate (c - length (take c (drop m p))) 0 ≡ replicate (n - length p) 0 =
-    (let k : c - length (take c (drop m p)) ≡ n - length p = omega (arith, length-take c (drop m p), length-drop m p) in ap (λ k. replicate k 0) k) in
-    let joined : filled m p ++ padded (take c (drop m p)) c ≡ take m p ++ padded (take c (drop m p)) c = ap (λ t. t ++ padded (take c (drop m p)) c) first in
-    let moved : take m p ++ padded (take c (drop m p)) c ≡ (take m p ++ take c (drop m p)) ++ replicate (c - length (take c (drop m p))) 0 = sym (append_assoc (take m p) (take c (drop m p)) (replicate (c - length (take c (drop m p))) 0)) in
-    joined ∙ (moved ∙ ap₂ (λ (t u : List ℕ). t ++ u) bytes zeros)
-
-next-piece : (p : List ℕ) (c m n : ℕ) → n ≡ m + c → filled m p ++ padded (take c (drop m p)) c ≡ filled n p
-next-piece p c m n h = search (rules, past-its-end, before-its-end)
-
--- the first k pieces are the first bytes of the payload, then zeros
-front-take : (p : List ℕ) (c k : ℕ) → front p c k ≡ filled (k * c) p
-front-take p c zero =
-    let h : zero * c ≡ 0 = omega arith in
-    let k : 0 - length p ≡ 0 = omega arith in
-    sym (ap (λ n. take n p ++ replicate (n - length p) 0) h ∙ ap (λ n. replicate n 0) k)
-front-take p c (suc k) =
+-- the first k pieces are the first bytes of the payload with zeros after it
+pub front_take : (p : List ℕ) (c k n : ℕ) → k * c ≤ length p + n → front p c k ≡ take (k * c) (p ++ replicate n 0)
+front_take p c zero n h = let e : 0 ≡ zero * c = omega arith in ap (λ m. take m (p ++ replicate n 0)) e
+front_take p c (suc k) n h =
     let a : suc k - 1 ≡ k = omega arith in
-    let e : suc k * c ≡ k * c + c = omega arith in
-    ap (λ t. t ++ padded (piece p c (suc k)) c) (front-take p c k)
-    ∙ (ap (λ m. filled (k * c) p ++ padded (take c (drop (m * c) p)) c) a
-    ∙ next-piece p c (k * c) (suc k * c) e)
-
-enough : (p : List ℕ) (c k : ℕ) → 0 < c → pieces p c ≤ k → length p ≤ k * c
-enough p c k h g = let m : c * ((length p + c - 1) / c) ≤ c * k = mul-le-mul_left c g in omega arith
+    let e : k * c + c ≡ suc k * c = omega arith in
+    ap₂ (λ (t u : List ℕ). t ++ u) (front_take p c k n (omega arith)) (ap (λ m. padded (take c (drop (m * c) p)) c) a ∙ piece-filled p c (k * c) n (omega arith))
+    ∙ (sym (take-add (k * c) c (p ++ replicate n 0)) ∙ ap (λ m. take m (p ++ replicate n 0)) e)
 
 -- all pieces are the payload, and zeros after it
 pub front_whole : (p : List ℕ) (c k : ℕ) → 0 < c → pieces p c ≤ k → front p c k ≡ p ++ replicate (k * c - length p) 0
-front_whole p c k h g = front-take p c k ∙ ap (λ t. t ++ replicate (k * c - length p) 0) (take_all (k * c) p (enough p c k h g))
+front_whole p c k h g =
+    let n : ℕ = k * c - length p in
+    let m : c * ((length p + c - 1) / c) ≤ c * k = mul-le-mul_left c g in
+    front_take p c k n (omega arith) ∙ take_all (k * c) (p ++ replicate n 0) (omega (arith, length-append p (replicate n 0), length-replicate {A = ℕ} n 0))
 
 -- two bytes say their number
-number-back : (n : ℕ) → n % 256 + 256 * (n / 256) ≡ n
+pub number-back : (n : ℕ) → n % 256 + 256 * (n / 256) ≡ n
 number-back n = omega arith
 
 app-back : (app zs : List ℕ) → take (length app % 256 + 256 * (length app / 256)) (app ++ zs) ≡ app

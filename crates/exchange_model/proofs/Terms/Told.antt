@@ -1,6 +1,6 @@
 -- Both ends tell equal terms in state Data: those of the master's settings.
 use Rattle.exchange_model.proofs.Common.{Command, Deed, End, Entry, IsNextEntry, IsWorld, Item, MasterSettings, OfMaster, OfSlave, SameLengths, SlaveSettings, State, Terms, command_in, deed_in, deeds, is_data, items, items_of, phase_of_data, piece_len, receives, same_end, state_of, terms, terms_in, terms_of, told_in, uploaded}
-use Rattle.std.proofs.Common.{◌≡◌, ℕ, suc, ◌<◌, List, [], ◌∷◌, length, Bool, true, false, Some, ◌==◌, if◌then◌else◌, refl, sym, ap, subst, ◌∙◌, rules}
+use Rattle.std.proofs.Common.{◌≡◌, ℕ, ◌<◌, List, [], ◌∷◌, true, false, Some, if◌then◌else◌, refl, sym, ap, subst, ◌∙◌, arith, rules}
 use Rattle.fsoe_base.specs.declared.command.End.TheVariants as end_name
 use Rattle.fsoe_base.specs.declared.command.State.TheVariants as state
 use Rattle.exchange_model.proofs.Worlds.Projection.{next_told, deeds_are_run}
@@ -20,23 +20,17 @@ pub record Tells (t : Terms) (i : Item) : Type 0 where
 -- what a master had sent up to one of its items
 up-to-sent : (ms : MasterSettings) (n : ℕ) (m : List Item) → AllSent ms (bytes_in m) → Sent ms (session (bytes_in (up_to n m)))
 up-to-sent ms n [] h = h
-up-to-sent ms n (i ∷ m) h = up-to-head (n == suc (length m)) (up-to-sent ms n m h.1)
-  where
-    up-to-head : (b : Bool) → Sent ms (session (bytes_in (up_to n m))) → Sent ms (session (bytes_in (if b then i ∷ m else up_to n m)))
-    up-to-head true k = h.0
-    up-to-head false k = k
-
-some-piece : (ms : MasterSettings) → 0 < piece_len (OfMaster ms)
-some-piece ms = search rules
+up-to-sent ms n (i ∷ m) h = grind (arith, up-to-sent ms n m h.1)
 
 -- a slave that mirrors a master in Data has both payloads whole
 whole-terms : (ms : MasterSettings) (ss : SlaveSettings) (t : List Item) (uploads : State → List ℕ) → SameLengths ms ss → Sent ms (session (bytes_in t)) → Mirrors (receives (OfSlave ss)) (piece_len (OfSlave ss)) state.Data uploads t → Tested ss (uploads state.Parameter)
     → terms_in ss.profile (uploads state.Connection) (uploads state.Parameter) ≡ terms_of ms
 whole-terms ms ss t uploads same h k u =
+    let some : 0 < piece_len (OfMaster ms) = search rules in
     let o = order_at _ state.Data _ _ _ _ (session_phase (bytes_in t) ∙ k.phase_is) h.order in
     agree ms ss _ _ (uploads state.Connection) (uploads state.Parameter)
-    (k.same state.Connection refl ∙ (carried_is ms ss state.Connection t same ∙ (h.connection ∙ front_whole (connection_of ms) (piece_len (OfMaster ms)) _ (some-piece ms) o.0)))
-    (k.same state.Parameter refl ∙ (carried_is ms ss state.Parameter t same ∙ (h.parameters ∙ front_whole (parameters_of ms) (piece_len (OfMaster ms)) _ (some-piece ms) o.1))) u
+    (k.same state.Connection refl ∙ (carried_is ms ss state.Connection t same ∙ (h.connection ∙ front_whole (connection_of ms) (piece_len (OfMaster ms)) _ some o.0)))
+    (k.same state.Parameter refl ∙ (carried_is ms ss state.Parameter t same ∙ (h.parameters ∙ front_whole (parameters_of ms) (piece_len (OfMaster ms)) _ some o.1))) u
 
 -- a slave in Data has the master's terms
 pub terms_agree : (ms : MasterSettings) (ss : SlaveSettings) (w : List Entry) → SameLengths ms ss → IsWorld ms ss w → Related ms ss w → state_of (OfSlave ss) (deeds end_name.Slave w) ≡ state.Data → terms (OfSlave ss) (deeds end_name.Slave w) ≡ terms_of ms

@@ -1,17 +1,11 @@
 -- The entries over a longer schedule: those over its first events come first.
-use Rattle.exchange_model.proofs.Common.{Entry, Event, MasterSettings, SlaveSettings, entry_at, going_on, world, world_after}
-use Rattle.std.proofs.Common.{◌≡◌, suc, ◌+◌, List, [], ◌∷◌, ◌++◌, length, Option, Some, None, refl, arith, rules}
-
-whole_on : (ms : MasterSettings) (ss : SlaveSettings) (log more : List Event) (w : List Entry) (next : Option Entry)
-    → ((x : Entry) → length (world_after ms ss log (x ∷ w)) ≡ length (x ∷ w) + length log → world_after ms ss (log ++ more) (x ∷ w) ≡ world_after ms ss more (world_after ms ss log (x ∷ w)))
-    → length (going_on w next (world_after ms ss log)) ≡ length w + suc (length log)
-    → going_on w next (world_after ms ss (log ++ more)) ≡ world_after ms ss more (going_on w next (world_after ms ss log))
-whole_on ms ss log more w next h k = grind arith
+use Rattle.exchange_model.proofs.Common.{Entry, Event, MasterSettings, SlaveSettings, entry_at, world, world_after}
+use Rattle.std.proofs.Common.{◌≡◌, ◌+◌, List, [], ◌∷◌, ◌++◌, length, Some, None, refl, arith, rules}
 
 after_whole : (ms : MasterSettings) (ss : SlaveSettings) (log more : List Event) (w : List Entry) → length (world_after ms ss log w) ≡ length w + length log
     → world_after ms ss (log ++ more) w ≡ world_after ms ss more (world_after ms ss log w)
 after_whole ms ss [] more w whole = refl
-after_whole ms ss (event ∷ log) more w whole = whole_on ms ss log more w (entry_at ms ss w event) (λ x. after_whole ms ss log more (x ∷ w)) whole
+after_whole ms ss (event ∷ log) more w whole = grind (arith, λ (x : Entry). after_whole ms ss log more (x ∷ w))
 
 -- where each of these events has its entry, the run goes on from there
 pub world_on : (ms : MasterSettings) (ss : SlaveSettings) (log more : List Event) → length (world ms ss log) ≡ length log → world ms ss (log ++ more) ≡ world_after ms ss more (world ms ss log)

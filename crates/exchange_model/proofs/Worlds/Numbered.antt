@@ -25,10 +25,7 @@ next_number which x w h = ap (λ (it : End). suc (length (items_of it (items w))
 pub grown : (which : End) (x : Entry) (w : List Entry) → Grown (items_of which (items w)) (items_of which (items (x ∷ w)))
 grown which x w = grown-by which (item_of x w (items w)) (items w) (same_end which x.end) (is_empty x.sent) refl (next_number which x w)
 
-numbered-grown : (old new : List Item) → Grown old new → Numbered old → Numbered new
-numbered-grown old new h k = grind arith
-
 -- the items of an end are numbered
 pub numbered : (which : End) (w : List Entry) → Numbered (items_of which (items w))
 numbered which [] = tt
-numbered which (x ∷ w) = numbered-grown _ _ (grown which x w) (numbered which w)
+numbered which (x ∷ w) = grind (arith, grown which x w, numbered which w)
