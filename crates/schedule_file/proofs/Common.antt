@@ -16,13 +16,13 @@ pub use Rattle.param_load.specs.declared.master_settings.MasterSettings.{MasterS
 pub use Rattle.param_load.specs.declared.profile.Profile.{Profile}
 pub use Rattle.param_load.specs.declared.slave_settings.SlaveSettings.{SlaveSettings}
 pub use Rattle.schedule_file.specs.Event.{Fits, FitsEnd, InRange, OnStep, RuleInRange, profile_of}
-pub use Rattle.schedule_file.specs.EventLine.{altered_line, deliver_line, delivered_len, hold_line, nonce_line, not_zero, put_line, raw_line, reference_of, switch_of}
+pub use Rattle.schedule_file.specs.EventLine.{altered_line, delivered_len, nonce_line, reference_of, switch_of}
 pub use Rattle.schedule_file.specs.EventText.{IsOfTypes, event_text, reference_text, switch_text}
-pub use Rattle.schedule_file.specs.Field.{bytes_said, fields_of, is_number, is_space, number_said, some_bytes}
+pub use Rattle.schedule_file.specs.Field.{bytes_said, fields_of, is_space, number_said, some_bytes}
 pub use Rattle.schedule_file.specs.Fields.{by_word, map_ok, next_field, no_field, number_16, number_32, one_field, one_hex_field, value_or}
 pub use Rattle.schedule_file.specs.FieldsRead.{Becomes, fields_after, not_hex}
 pub use Rattle.schedule_file.specs.Header.{Heading, IsMasterOf, IsSlaveOf, fields_taken, heading_after, heading_new, heading_with, profile_given, profile_taken, rule_place, title_taken}
-pub use Rattle.schedule_file.specs.HeaderLine.{any_line, header_line, lengths_line, listed_line, master_line, profile_line, range_line, rule_line, slave_line}
+pub use Rattle.schedule_file.specs.HeaderLine.{header_line, lengths_line, master_line, profile_line, range_line, rule_line, slave_line}
 pub use Rattle.schedule_file.specs.HeaderPart.{highs_of, list_with, lows_of, master_with_app, profile_for, ranges_with, rule_begun, rule_with_bytes, rule_with_pairs, slave_with_bytes, slave_with_pairs}
 pub use Rattle.schedule_file.specs.Input.{AtEnd, InputCause, InputFormat, NoLine, Refused, Stop, WholeHeaderOf, event_of, header_in, header_of, header_read, header_step, heading_profile, input_by, input_of, input_read, is_full, lines_in, lines_of, open_line, own_length, said_after, schedule_format, steps, texts, whole_line, with_room}
 pub use Rattle.schedule_file.specs.PairEvent.{end_letter, event_said, pair_line, pair_said, pair_said_by, pair_word_of}
@@ -45,7 +45,7 @@ pub use Rattle.std.proofs.lemmas.Bool.Decides.{nat_tests}
 pub use Rattle.std.proofs.lemmas.Fmt.{decimal_digit, decimal_nonempty, digits_decimal, digits_value-decimal, first_decimal}
 pub use Rattle.std.proofs.lemmas.Grind.{common_steps}
 pub use Rattle.std.proofs.lemmas.List.{drop_more, get_or-take, get_or_default, length-take, length_push, map-append, take-append-drop, take_more, take_rest}
-pub use Rattle.std.proofs.lemmas.List.Elements.{All-append, All-cons, All-nil, All-take}
+pub use Rattle.std.proofs.lemmas.List.Elements.{All-append, All-cons, All-head, All-nil, All-tail}
 pub use Rattle.std.proofs.lemmas.List.Splits.{join_with_byte-slice_split, length-slice_split, slice_split-cons_no, slice_split-cons_yes, slice_split_at, slice_split_none}
 pub use Rattle.std.proofs.lemmas.Option.{IfSome_then, get_or_from_slice_get, slice_get-map, slice_get_within}
 pub use Rattle.std.proofs.lemmas.Result.{IfOk-at_ok, IfOk-weaker}

@@ -11,7 +11,6 @@ pub mod AfterEnd
 pub mod Headed
 pub mod Sound
 pub mod HexAlone
-pub mod Rooms
 pub mod Fitting
 pub mod OneSetting
 pub mod Pairs

@@ -1,14 +1,14 @@
 -- Each line of a header leaves fewer to come.
-use Rattle.schedule_file.proofs.Common.{AppRule, Becomes, Err, HeaderKind, HeaderLine, Heading, IfOk, IfOk-at_ok, IfOk-weaker, IsTrue, LineCause, Ok, OnOk, Place, Result, RuleLine, Word, and_parts, common_steps, header_line, heading_with, highs_of, leb-true, lengths_line, list_with, lows_of, map_ok, master_line, master_with_app, may_stand, nat_le, no_field, one_hex_field, profile_line, profile_taken, range_line, ranges_with, rule_begun, rule_len, rule_line, rule_place, rule_with_bytes, rule_with_pairs, slave_line, slave_with_bytes, slave_with_pairs}
+use Rattle.schedule_file.proofs.Common.{AppRule, Becomes, Err, HeaderKind, HeaderLine, Heading, IfOk, IfOk-weaker, IsTrue, LineCause, Ok, OnOk, Place, Result, RuleLine, Word, and_parts, common_steps, header_line, heading_with, highs_of, leb-true, lengths_line, list_with, lows_of, map_ok, master_line, master_with_app, may_stand, nat_le, no_field, one_hex_field, profile_line, profile_taken, range_line, ranges_with, rule_begun, rule_len, rule_line, rule_place, rule_with_bytes, rule_with_pairs, slave_line, slave_with_bytes, slave_with_pairs}
 use Rattle.schedule_file.specs.Fields.{◌>>=◌}
-use Rattle.std.proofs.Common.{◌≡◌, ℕ, ◌+◌, ◌-◌, ◌/◌, ◌≤◌, ◌<◌, Bool, true, List, [], ◌∷◌, ◌++◌, length, arith, refl, rules}
+use Rattle.std.proofs.Common.{◌≡◌, ℕ, ◌+◌, ◌-◌, ◌/◌, ◌≤◌, ◌<◌, Bool, true, List, [], ◌∷◌, ◌++◌, length, length-append, arith, refl, rules}
 use Rattle.std.specs.Prelude.{if◌then◌else◌}
 use Rattle.param_load.specs.declared.app_rule.AppRule.TheVariants as app_rule
 use Rattle.schedule_file.specs.LinesLeft.{left_after, lines_left}
 use Rattle.schedule_file.specs.declared.header_line.HeaderLine.TheVariants as says
 use Rattle.schedule_file.specs.declared.line_cause.LineCause.TheVariants as cause
 use Rattle.schedule_file.specs.declared.place.Word.TheVariants as word
-use Rattle.schedule_file.proofs.Sound.{IfOk-map, hex_sound, range_sound}
+use Rattle.schedule_file.proofs.Sound.{IfOk-map, hex_sound, ok_if, range_sound, so_is}
 
 -- how many lines may be left, at least, where a line with this word may stand
 abbrev least : Word → ℕ → ℕ → ℕ
@@ -33,12 +33,9 @@ profile-fewer : (p : Place) (h : Heading) (n : ℕ) → IsTrue (may_stand h.kind
 profile-fewer p h n k = grind arith
 
 -- lists with what one more line adds
-list_with-at : (list bytes : List ℕ) (b : Bool) → b ≡ nat_le (length list + length bytes) 512
-    → IfOk (if b then Ok (list ++ bytes) else Err cause.Range) (λ all. (length all ≡ length list + length bytes) × (length all ≤ 512))
-list_with-at list bytes b h = grind (arith, common_steps)
-
 list_with-longer : (list bytes : List ℕ) → IfOk (list_with list bytes) (λ all. (length all ≡ length list + length bytes) × (length all ≤ 512))
-list_with-longer list bytes = list_with-at list bytes (nat_le (length list + length bytes) 512) refl
+list_with-longer list bytes =
+    ok_if (nat_le (length list + length bytes) 512) (list ++ bytes) cause.Range _ (λ e. (length-append list bytes, omega (arith, length-append list bytes, leb-true (length list + length bytes) 512 e)))
 
 length-lows_of : (pairs : List ℕ) → length (lows_of pairs) ≡ length pairs / 2
 length-lows_of [] = refl
@@ -92,7 +89,6 @@ heading_with-fewer h w fields line stands e =
     rw (← e) at (line_fewer h w fields stands (left-least h.kind h.place w (length h.master.app) (rule_len h.slave.rule) stands))
 
 -- the same of a call that takes the line
-pub Becomes-heading_with-fewer : (result : Result (Unit {0}) LineCause) (h h' : Heading) (w : Word) (fields : List (List ℕ)) (line : HeaderLine) → IsTrue (may_stand h.kind h.place w) → Ok line ≡ header_line w fields → Becomes result h' (heading_with h line)
+pub heading_fewer : (result : Result (Unit {0}) LineCause) (h h' : Heading) (w : Word) (fields : List (List ℕ)) (line : HeaderLine) → IsTrue (may_stand h.kind h.place w) → Ok line ≡ header_line w fields → Becomes result h' (heading_with h line)
     → OnOk result (lines_left h' < lines_left h)
-Becomes-heading_with-fewer (Ok u) h h' w fields line stands e said = IfOk-at_ok (λ x. lines_left x < lines_left h) said (heading_with-fewer h w fields line stands e)
-Becomes-heading_with-fewer (Err e') h h' w fields line stands e said = tt
+heading_fewer result h h' w fields line stands e said = so_is result h' (heading_with h line) (λ x. lines_left x < lines_left h) (heading_with-fewer h w fields line stands e) said

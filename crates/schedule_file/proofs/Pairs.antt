@@ -1,6 +1,6 @@
 -- What lines of several pairs say.
-use Rattle.schedule_file.proofs.Common.{Becomes, End, Err, Fits, Heading, IfOk, IfOk-at_ok, Lengths, LineCause, None, Ok, OnOk, OnStep, Option, PairWord, PairsLine, PairsLineFits, Profile, Result, ScheduleLine, Some, all_ascii_digits, common_steps, event_said, get_or_from_slice_get, is_ascii_digit, length_of, list_all, map-append, next_field, number_said, numbered, numbered_line, of_pair, option_map, pair_word_of, pairs_begun, profile_of, said_to, said_to_number, slice_get, slice_get-map, slice_get_within, take_more, unlinked, value_or}
-use Rattle.std.proofs.Common.{◌≡◌, ℕ, zero, suc, ◌+◌, ◌<◌, List, [], ◌∷◌, ◌++◌, map, take, length, refl, sym, ap, ◌∙◌, add-one, arith}
+use Rattle.schedule_file.proofs.Common.{All-append, All-cons, All-nil, End, IsPair, Fits, Heading, IfOk, Lengths, LineCause, None, Ok, OnStep, Option, PairWord, PairsLineFits, Profile, Result, ScheduleLine, Some, all_ascii_digits, common_steps, event_said, get_or_from_slice_get, is_ascii_digit, length_of, list_all, map-append, next_field, number_said, numbered, numbered_line, of_pair, option_map, pair_word_of, pairs_begun, profile_of, said_to, said_to_number, slice_get, slice_get-map, slice_get_within, take_more, unlinked, value_or}
+use Rattle.std.proofs.Common.{◌≡◌, ℕ, zero, suc, ◌+◌, ◌<◌, List, [], ◌∷◌, ◌++◌, map, take, length, All, subst, refl, sym, ap, ◌∙◌, add-one, arith}
 use Rattle.std.specs.Prelude.{◌⊎◌}
 use Rattle.fsoe_base.specs.declared.command.End.TheVariants as side
 use Rattle.param_load.specs.declared.profile.Profile.TheVariants as profile
@@ -9,7 +9,6 @@ use Rattle.schedule_file.specs.declared.pairs_header.PairsStage.{PairsStage}
 use Rattle.schedule_file.specs.declared.pairs_header.PairsStage.TheVariants as stage
 use Rattle.schedule_file.specs.declared.event.ScheduleLine.TheVariants as line
 use Rattle.schedule_file.specs.declared.line_cause.LineCause.TheVariants as cause
-use Rattle.schedule_file.specs.declared.pair_event.PairWord.TheVariants as word
 use Rattle.schedule_file.proofs.Fitting.{said_fits}
 use Rattle.schedule_file.proofs.Sound.{each}
 
@@ -32,15 +31,7 @@ unlinked-is lengths profiles word fields lm ls pm ps =
 
 -- the event of a line, where it is that of one pair, fits this
 event_fits : (sends : End → ℕ) (profiles : End → Profile) (word : PairWord) (fields : List (List ℕ)) → IfOk (event_said sends profiles word fields) (OnStep (Fits sends profiles))
-event_fits sends profiles (word.Deliver to) fields = said_fits sends profiles (Some (word.Deliver to)) fields
-event_fits sends profiles (word.Altered to) fields = said_fits sends profiles (Some (word.Altered to)) fields
-event_fits sends profiles (word.Raw to) fields = said_fits sends profiles (Some (word.Raw to)) fields
-event_fits sends profiles (word.Tick at) fields = said_fits sends profiles (Some (word.Tick at)) fields
-event_fits sends profiles (word.Put at) fields = said_fits sends profiles (Some (word.Put at)) fields
-event_fits sends profiles (word.Hold at) fields = said_fits sends profiles (Some (word.Hold at)) fields
-event_fits sends profiles (word.Nonce at) fields = said_fits sends profiles (Some (word.Nonce at)) fields
-event_fits sends profiles (word.Local at) fields = said_fits sends profiles (Some (word.Local at)) fields
-event_fits sends profiles word.End fields = tt
+event_fits sends profiles word fields = grind (arith, said_fits sends profiles (Some word) fields)
 
 one_fits : (sends : List (End → ℕ)) (profiles : List (End → Profile)) (pair : ℕ) (s : End → ℕ) (p : End → Profile) (r : Result ScheduleLine LineCause)
     → numbered pair sends ≡ Some s → numbered pair profiles ≡ Some p → IfOk r (OnStep (Fits s p)) → IfOk (of_pair pair r) (PairsLineFits sends profiles)
@@ -60,12 +51,6 @@ pub numbered_fits : (sends : List (End → ℕ)) (profiles : List (End → Profi
 numbered_fits sends profiles digits fields =
     each (next_field fields) _ _ (λ second. each (value_or cause.Word (pair_word_of second.0)) _ _ (λ word. number_fits sends profiles (number_said 65535 digits) word second.1))
 
--- what a call read fits
-pub so_fits : (result : Result (Unit {0}) LineCause) (new : PairsLine) (sends : List (End → ℕ)) (profiles : List (End → Profile)) (digits : List ℕ) (fields : List (List ℕ)) → Becomes result new (numbered_line sends profiles digits fields)
-    → OnOk result (PairsLineFits sends profiles new)
-so_fits (Ok u) new sends profiles digits fields said = IfOk-at_ok (PairsLineFits sends profiles) said (numbered_fits sends profiles digits fields)
-so_fits (Err e) new sends profiles digits fields said = tt
-
 -- the pairs before one, and this one
 next_found : {X : Type 0} (pairs : List X) (before : ℕ) (x : X) → numbered (before + 1) pairs ≡ Some x → slice_get pairs before ≡ Some x
 next_found pairs before x found = rw (add-one before) at found
@@ -81,5 +66,8 @@ map-next f g kept new pairs before a b e is found same =
     ∙ sym (map-append g (take before pairs) (b ∷ [])) ∙ ap (map g) (sym (take-next pairs before b (next_found pairs before b found)))
 
 -- a header that has pairs has those before the last one, and the last one
+pub pairs_pushed : (pairs more : List Heading) (last : Heading) → All IsPair pairs → IsPair last → more ≡ pairs ++ last ∷ [] → All IsPair more
+pairs_pushed pairs more last are is e = subst (All IsPair) (sym e) (All-append IsPair pairs (last ∷ []) are (All-cons IsPair last [] is (All-nil IsPair)))
+
 pub room_before : (s : PairsStage) (before : List Heading) (last : Heading) (most : ℕ) → length (pairs_begun s before last) < most → (s ≡ stage.Pairs) ⊎ (s ≡ stage.Done) → length before + 1 < most
 room_before s before last most h k = grind (arith, common_steps)

@@ -1,5 +1,5 @@
 -- The line of an event is read as that event.
-use Rattle.schedule_file.proofs.Common.{All-cons, All-nil, End, Event, Fits, IsBytes, IsOfTypes, MOST_DATA, MOST_FRAME, Ok, PairWord, Profile, Some, all_ascii_digits, allows_id, altered_line, and_parts, bytes_said, cases_lt, decimal, decimal_digit, decimal_nonempty, decode_of-encode_lower, decode_of-ok, deliver_line, delivered_len, digits_decimal, digits_value, digits_value-decimal, encode_lower, end_letter, event_text, fields_of, first_decimal, hold_line, is_ascii_digit, is_hex_digit, is_space, join_with_byte, nat_tests, nonce_line, number_said, numerals_by_value, pair_line, pair_said, pair_word_of, put_line, raw_line, reference_of, reference_text, slice_split_at, slice_split_none, some_bytes, switch_of, switch_text, tells_all_ascii_digits}
+use Rattle.schedule_file.proofs.Common.{All-cons, All-nil, End, Event, Fits, IsBytes, IsOfTypes, MOST_DATA, MOST_FRAME, Ok, PairWord, Profile, Some, all_ascii_digits, altered_line, and_parts, bytes_said, cases_lt, decimal, decimal_digit, decimal_nonempty, decode_of-encode_lower, decode_of-ok, delivered_len, digits_decimal, digits_value, digits_value-decimal, encode_lower, end_letter, event_text, fields_of, first_decimal, is_ascii_digit, is_hex_digit, is_space, join_with_byte, nat_tests, number_said, numerals_by_value, pair_line, pair_said, pair_word_of, reference_of, reference_text, slice_split_at, slice_split_none, some_bytes, switch_of, switch_text, tells_all_ascii_digits}
 use Rattle.std.proofs.Common.{◌≡◌, ℕ, ◌<◌, ◌≤◌, ◌^◌, Bool, true, false, List, [], ◌∷◌, length, get_or, All, inl, inr, refl, ap, ◌∙◌, arith, rules}
 use Rattle.std.specs.Prelude.{◌⊎◌}
 use Rattle.fsoe_base.specs.declared.command.End.TheVariants as side
@@ -82,25 +82,10 @@ no_space-switch : (on : Bool) → HasNoSpace (switch_text on)
 no_space-switch on = grind arith
 
 -- what the fields after the word say
-deliver_read : (to : End) (back : ℕ) (reference : List ℕ) → reference_of reference ≡ Some back → deliver_line to (reference ∷ []) ≡ Ok (line.Step (event.Deliver to back))
-deliver_read to back reference e = rw e refl
-
 altered_read : (sends : End → ℕ) (to : End) (back pos mask : ℕ) (reference place digits : List ℕ)
     → number_said 65535 place ≡ Some pos → reference_of reference ≡ Some back → bytes_said 1 digits ≡ Some (mask ∷ []) → pos < delivered_len sends to
     → altered_line to sends (reference ∷ place ∷ digits ∷ []) ≡ Ok (line.Step (event.Altered to back pos mask))
 altered_read sends to back pos mask reference place digits e f g lt = rw (e, f, g) (grind (arith, nat_tests))
-
-raw_read : (to : End) (frame field : List ℕ) → bytes_said MOST_FRAME field ≡ Some frame → raw_line to (field ∷ []) ≡ Ok (line.Step (event.Raw to frame))
-raw_read to frame field e = rw e refl
-
-put_read : (at : End) (count : ℕ) (load field : List ℕ) → bytes_said MOST_DATA field ≡ Some load → length load ≡ count → put_line at count (field ∷ []) ≡ Ok (line.Step (event.Put at load))
-put_read at count load field e right = rw e (grind (arith, nat_tests))
-
-hold_read : (at : End) (on : Bool) (field : List ℕ) → switch_of field ≡ Some on → hold_line at (field ∷ []) ≡ Ok (line.Step (event.Hold at on))
-hold_read at on field e = rw e refl
-
-nonce_read : (at : End) (profile : Profile) (id : ℕ) (field : List ℕ) → number_said 4294967295 field ≡ Some id → allows_id profile id ≡ true → nonce_line at profile (field ∷ []) ≡ Ok (line.Step (event.Nonce at id))
-nonce_read at profile id field e allowed = rw (e, allowed) refl
 
 -- a line says what its word says with the fields after it
 line_said : (sends : End → ℕ) (profiles : End → Profile) (first : ℕ) (named : End → PairWord) (at : End) (fields : List (List ℕ)) → is_space first ≡ false
@@ -111,7 +96,7 @@ line_said sends profiles first named at fields h k l m = search (rules, fields_j
 pub read_back : (sends : End → ℕ) (profiles : End → Profile) (event : Event) → IsOfTypes event → Fits sends profiles event → pair_line sends profiles (event_text event) ≡ Ok (line.Step event)
 read_back sends profiles (event.Deliver to back) typed fits =
     line_said sends profiles 100 word.Deliver to (reference_text back ∷ []) refl refl refl (no_space-reference back fits.0.1, tt)
-    ∙ deliver_read to back (reference_text back) (reference_of-text back fits.0.0 fits.0.1)
+    ∙ rw (reference_of-text back fits.0.0 fits.0.1) refl
 read_back sends profiles (event.Altered to back pos mask) typed fits =
     let place : List ℕ = decimal pos in
     let digits : List ℕ = encode_lower (mask ∷ []) in
@@ -122,15 +107,15 @@ read_back sends profiles (event.Altered to back pos mask) typed fits =
     (reference_of-text back fits.0.0 fits.0.1) (bytes_said-hex 1 (mask ∷ []) is_byte (omega arith) (omega arith)) fits.1
 read_back sends profiles (event.Raw to frame) typed fits =
     line_said sends profiles 114 word.Raw to (encode_lower frame ∷ []) refl refl refl (no_space-hex frame typed, tt)
-    ∙ raw_read to frame (encode_lower frame) (bytes_said-hex MOST_FRAME frame typed fits.0.0 fits.0.1)
+    ∙ rw (bytes_said-hex MOST_FRAME frame typed fits.0.0 fits.0.1) refl
 read_back sends profiles (event.Tick at) typed fits = line_said sends profiles 116 word.Tick at [] refl refl refl tt
 read_back sends profiles (event.Put at load) typed fits =
     line_said sends profiles 112 word.Put at (encode_lower load ∷ []) refl refl refl (no_space-hex load typed, tt)
-    ∙ put_read at (sends at) load (encode_lower load) (bytes_said-hex MOST_DATA load typed fits.0.0 fits.0.1) fits.1
+    ∙ rw (bytes_said-hex MOST_DATA load typed fits.0.0 fits.0.1) (grind (arith, nat_tests, fits.1))
 read_back sends profiles (event.Hold at failsafe) typed fits =
     line_said sends profiles 104 word.Hold at (switch_text failsafe ∷ []) refl refl refl (no_space-switch failsafe, tt)
-    ∙ hold_read at failsafe (switch_text failsafe) (switch_of-text failsafe)
+    ∙ rw (switch_of-text failsafe) refl
 read_back sends profiles (event.Nonce at id) typed fits =
     line_said sends profiles 110 word.Nonce at (decimal id ∷ []) refl refl refl (no_space-decimal id (omega (arith, typed)), tt)
-    ∙ nonce_read at (profiles at) id (decimal id) (number_said-decimal 4294967295 id (omega (arith, typed)) (omega (arith, typed))) fits.1
+    ∙ rw (number_said-decimal 4294967295 id (omega (arith, typed)) (omega (arith, typed)), fits.1) refl
 read_back sends profiles (event.Local at) typed fits = line_said sends profiles 122 word.Local at [] refl refl refl tt

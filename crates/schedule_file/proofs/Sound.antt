@@ -1,5 +1,5 @@
 -- What a header says once it is done is such as settings may have.
-use Rattle.schedule_file.proofs.Common.{AppRule, Err, HeaderKind, HeaderLine, Heading, IfOk, IfOk-at_ok, IfOk-weaker, IfSome, IfSome_then, InRange, IsMasterOf, IsSlaveOf, IsTrue, Lengths, LineCause, MasterSettings, Ok, Place, Profile, Result, RuleInRange, RuleLine, SlaveSettings, Word, admitted, allows_id, and_parts, any_line, bytes_eq, codes, fields_of, fields_taken, header_line, header_word_of, heading_after, heading_new, heading_with, highs_of, input_of, is_acceptable, is_length, is_start, leb-true, lengths_line, list_with, listed_line, lows_of, map_ok, master_line, master_with_app, nat_le, nat_tests, next_field, no_field, number_16, one_field, one_hex_field, pointwise, profile_for, profile_given, profile_line, profile_taken, range_line, rule_begun, rule_line, rule_with_bytes, rule_with_pairs, schedule_format, slave_line, slave_with_bytes, slave_with_pairs, title_taken}
+use Rattle.schedule_file.proofs.Common.{AppRule, Becomes, Err, HeaderKind, HeaderLine, Heading, IfOk, IfOk-at_ok, IfOk-weaker, IfSome, IfSome_then, InRange, IsMasterOf, IsSlaveOf, IsTrue, Lengths, LineCause, MasterSettings, Ok, OnOk, Place, Profile, Result, RuleInRange, RuleLine, SlaveSettings, Word, admitted, allows_id, and_parts, by_word, bytes_eq, fields_of, fields_taken, header_line, header_word_of, heading_after, heading_new, heading_with, highs_of, input_of, is_acceptable, is_length, is_start, lengths_line, list_with, lows_of, map_ok, master_line, master_with_app, nat_le, nat_tests, next_field, no_field, number_16, one_field, one_hex_field, pointwise, profile_for, profile_given, profile_line, profile_taken, range_line, rule_begun, rule_line, rule_with_bytes, rule_with_pairs, schedule_format, slave_line, slave_with_bytes, slave_with_pairs, title_taken}
 use Rattle.schedule_file.specs.Fields.{◌>>=◌}
 use Rattle.std.proofs.Common.{◌≡◌, ℕ, ◌+◌, ◌/◌, ◌%◌, ◌≤◌, ◌<◌, Bool, true, false, List, [], ◌∷◌, ◌++◌, length, arith, refl, sym, rules}
 use Rattle.std.specs.Prelude.{◌&&◌, ◌==◌, if◌then◌else◌}
@@ -9,7 +9,6 @@ use Rattle.schedule_file.specs.declared.header_line.HeaderLine.TheVariants as sa
 use Rattle.schedule_file.specs.declared.header_line.LengthsLine.{LengthsLine}
 use Rattle.schedule_file.specs.declared.header_line.MasterLine.{MasterLine}
 use Rattle.schedule_file.specs.declared.header_line.SlaveLine.{SlaveLine}
-use Rattle.schedule_file.specs.declared.header_line.RuleLine.TheVariants as rule
 use Rattle.schedule_file.specs.declared.line_cause.LineCause.TheVariants as cause
 use Rattle.schedule_file.specs.declared.place.Place.TheVariants as place
 use Rattle.schedule_file.specs.declared.place.Word.TheVariants as word
@@ -61,6 +60,16 @@ pub ok_if : {A : Type 0} (b : Bool) (x : A) (e : LineCause) (P : A → Type 0) �
 ok_if true x e P h = h refl
 ok_if false x e P h = tt
 
+-- what the fields of a line say is such a value, where what each word says is
+pub worded : {A : Type 0} (cause : LineCause) (said : List ℕ → List (List ℕ) → Result A LineCause) (P : A → Type 0) → ((first : List ℕ) (fields : List (List ℕ)) → IfOk (said first fields) P) → (fields : List (List ℕ)) → IfOk (by_word cause said fields) P
+worded cause said P are [] = tt
+worded cause said P are (first ∷ fields) = are first fields
+
+-- what a call changed is such a value, where what it says is
+pub so_is : {A : Type 0} (result : Result (Unit {0}) LineCause) (new : A) (said : Result A LineCause) (P : A → Type 0) → IfOk said P → Becomes result new said → OnOk result (P new)
+so_is (Ok u) new said P is same = IfOk-at_ok P same is
+so_is (Err e) new said P is same = tt
+
 lengths_sound : (fields : List (List ℕ)) → IfOk (lengths_line fields) (λ line. IsTrue (is_length line.master) × IsTrue (is_length line.slave))
 lengths_sound fields =
     each (next_field fields) _ _ (λ first. each (one_field first.1) _ _ (λ second. each (number_16 first.0) _ _ (λ master. each (number_16 second) _ _ (λ slave. ok_if (is_length master && is_length slave) _ cause.Length _ (λ e. and_parts (is_length master) (is_length slave) e)))))
@@ -71,23 +80,8 @@ master_sound fields = grind arith
 slave_sound : (fields : List (List ℕ)) → IfOk (slave_line fields) (λ line. (0 < line.hand) × (0 < line.most))
 slave_sound fields = search rules
 
-any_sound : (fields : List (List ℕ)) → IfOk (any_line fields) RuleInRange
-any_sound fields = each (one_field fields) _ _ (λ field. each (number_16 field) _ _ (λ n. ok_if (nat_le n 512) (rule.Any n) cause.Range _ (λ e. leb-true n 512 e)))
-
-listed_by : (exact ranges : Bool) → IfOk (if exact then Ok rule.Exact else if ranges then Ok rule.Ranges else Err cause.Range) RuleInRange
-listed_by true ranges = tt
-listed_by false true = tt
-listed_by false false = tt
-
-listed_sound : (form : List ℕ) (fields : List (List ℕ)) → IfOk (listed_line form fields) RuleInRange
-listed_sound form fields = each (no_field fields) _ _ (λ none. listed_by (bytes_eq form (codes "exact")) (bytes_eq form (codes "ranges")))
-
-rule_by : (any : Bool) (form : List ℕ) (fields : List (List ℕ)) → IfOk (if any then any_line fields else listed_line form fields) RuleInRange
-rule_by true form fields = any_sound fields
-rule_by false form fields = listed_sound form fields
-
 rule_sound : (fields : List (List ℕ)) → IfOk (rule_line fields) RuleInRange
-rule_sound fields = each (next_field fields) _ _ (λ form. rule_by (bytes_eq form.0 (codes "any")) form.0 form.1)
+rule_sound fields = grind (arith, nat_tests)
 
 pub hex_within : (most : ℕ) (fields : List (List ℕ)) → IfOk (one_hex_field most fields) (λ bytes. (0 < length bytes) × (length bytes ≤ most))
 hex_within most fields = grind arith

@@ -58,10 +58,6 @@ FitsEnd end count profile (event.Local at) = at ≡ end
 FitsEnd end count profile (event.Deliver to back) = ⊥
 FitsEnd end count profile (event.Altered to back pos mask) = ⊥
 
--- the same of an end with these lengths
-abbrev pub FitsNode : End → Lengths → Profile → Event → Type 0
-FitsNode end lengths profile event = FitsEnd end (length_of lengths end) profile event
-
 -- the event of a line, where it has one, is such
 abbrev pub OnStep : (Event → Type 0) → ScheduleLine → Type 0
 OnStep P (line.Step event) = P event
@@ -73,7 +69,7 @@ PairLineFits sends profiles said = OnStep (Fits sends profiles) said
 
 -- the event of a line, where it has one, fits the node
 abbrev pub LineFits : End → Lengths → Profile → ScheduleLine → Type 0
-LineFits end lengths profile said = OnStep (FitsNode end lengths profile) said
+LineFits end lengths profile said = OnStep (FitsEnd end (length_of lengths end) profile) said
 
 -- a rule for any bytes is for at most 512
 abbrev pub RuleInRange : RuleLine → Type 0

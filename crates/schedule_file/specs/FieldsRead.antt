@@ -1,15 +1,9 @@
 -- What readers of a line's fields answer.
 use Rattle.std.specs.Prelude.{◌≡◌, ℕ, List, [], ◌∷◌, Option, Some, None, Result, Ok, Err, MatchResult}
 use denote.Ref.{Bor}
-use Rattle.fsoe_base.specs.declared.command.End.{End}
-use Rattle.param_load.specs.declared.profile.Profile.{Profile}
-use Rattle.schedule_file.specs.declared.event.ScheduleLine.{ScheduleLine}
 use Rattle.schedule_file.specs.declared.line_cause.LineCause.{LineCause}
 use Rattle.schedule_file.specs.declared.line_cause.LineCause.TheVariants as cause
-use Rattle.schedule_file.specs.declared.node_event.Word.{Word}
-use Rattle.schedule_file.specs.declared.node_event.Word.TheVariants as word
 use Rattle.schedule_file.specs.Field.{fields_of}
-use Rattle.schedule_file.specs.NodeEvent.{node_said}
 
 -- a call answers as a definition says: what it changed is then the value that is said, or it gives the cause
 abbrev pub Becomes : {A B : Type 0} → Result B LineCause → A → Result A LineCause → Type 0
@@ -33,8 +27,3 @@ fields_after (Some rest) = fields_of rest.now
 -- parts of a line that are the field and those after it that are said
 abbrev pub AreFields : Result (Bor (List ℕ) × Option (Bor (List ℕ))) LineCause → Result (List ℕ × List (List ℕ)) LineCause → Type 0
 AreFields result said = MatchResult result (λ it. said ≡ Ok (it.0.now, fields_after it.1)) (λ cause. said ≡ Err cause)
-
--- what the word of an event says with its fields to a node: `end` is the word of none
-abbrev pub node_event_said : End → ℕ → Profile → Word → List (List ℕ) → Result ScheduleLine LineCause
-node_event_said end count profile word.End fields = Err cause.Word
-node_event_said end count profile word fields = node_said end count profile (Some word) fields

@@ -26,17 +26,23 @@ lengths_line fields = do
   slave ← number_16 second
   if is_length master && is_length slave then Ok (record { master = master; slave = slave }) else Err cause.Length
 
--- the four numbers of an end: three of 16 bits, and its session id
-abbrev pub end_numbers : List (List ℕ) → Result (ℕ × ℕ × ℕ × ℕ) LineCause
-end_numbers fields = do
+-- the four fields of an end
+abbrev pub four_fields : List (List ℕ) → Result (List ℕ × List ℕ × List ℕ × List ℕ) LineCause
+four_fields fields = do
   first ← next_field fields
   second ← next_field first.1
   third ← next_field second.1
   fourth ← one_field third.1
-  a ← number_16 first.0
-  b ← number_16 second.0
-  c ← number_16 third.0
-  nonce ← number_32 fourth
+  Ok (first.0, second.0, third.0, fourth)
+
+-- the four numbers of an end: three of 16 bits, and its session id
+abbrev pub end_numbers : List (List ℕ) → Result (ℕ × ℕ × ℕ × ℕ) LineCause
+end_numbers fields = do
+  texts ← four_fields fields
+  a ← number_16 texts.0
+  b ← number_16 texts.1
+  c ← number_16 texts.2
+  nonce ← number_32 texts.3
   Ok (a, b, c, nonce)
 
 -- the connection id and the watchdog of a master aren't 0

@@ -1,26 +1,23 @@
 -- What it means that a maker stands for a number of which so many events were made.
-use Rattle.std.specs.Prelude.{◌≡◌, ℕ, zero, suc, ◌-◌, ◌==◌, ◌%◌, min, if◌then◌else◌, Option, Some, None}
+use Rattle.std.specs.Prelude.{◌≡◌, ℕ, zero, suc, ◌-◌, ◌==◌, ◌%◌, min, Bool, true, false, if◌then◌else◌}
 use Rattle.rand_pcg.specs.Lcg.{Lcg}
 use Rattle.schedule_file.specs.Made.{generator_of, generator_after, event_at}
 use Rattle.schedule_file.specs.declared.event.Event.{Event}
-use Rattle.schedule_file.specs.declared.maker.Turn.{Turn}
-use Rattle.schedule_file.specs.declared.maker.Turn.TheVariants as turn
 
--- what contracts see of a maker: the next event in turn, how many events are in turn before those by words, None where
--- all are, and the generator
+-- what contracts see of a maker: whether all its events are in turn, how many in turn were made, and the generator
 pub record MakerView : Type 0 where
-  pub turn : Turn
-  pub left : Option ℕ
+  pub endless : Bool
+  pub turns : ℕ
   pub words : Lcg
 
--- the next event in turn after so many
-abbrev pub turn_after : ℕ → Turn
-turn_after count = if count == 0 then turn.Tick else if count % 2 == 1 then turn.ToSlave else turn.ToMaster
+-- of endless events in turn, 1 and 2 stand for each odd and each later even count
+abbrev pub endless_turns : ℕ → ℕ
+endless_turns count = if count == 0 then 0 else 2 - count % 2
 
 -- a maker after so many events of a number
 abbrev pub maker_after : ℕ → ℕ → MakerView
-maker_after zero count = record { turn = turn_after count; left = None; words = generator_of 0 }
-maker_after (suc number) count = record { turn = turn_after (min count 4); left = Some (4 - count); words = generator_after (suc number) (count - 4) }
+maker_after zero count = record { endless = true; turns = endless_turns count; words = generator_of 0 }
+maker_after (suc number) count = record { endless = false; turns = min count 4; words = generator_after (suc number) (count - 4) }
 
 -- a maker stands for a number of which so many events were made
 abbrev pub IsMaker : ℕ → ℕ → MakerView → Type 0

@@ -1,44 +1,39 @@
 //! What the fields of an event's line say that stand after its word: one reader for each kind of event. Each writes the
 //! event over `event`, which is as it was after an error. So what a line says is made in its place.
-ghost use Rattle.std.specs.Prelude.{◌≡◌, ◌≤◌, ◌<◌, [], ◌∷◌, IfSome, OnOk, OnErr, option_map};
+ghost use Rattle.std.specs.Prelude.{◌≡◌, ◌≤◌, [], ◌∷◌, OnErr, option_map};
 ghost use Rattle.fsoe_base.specs.LengthsOf.{length_of};
-ghost use Rattle.fsoe_base.specs.declared.command.End.{End};
-ghost use Rattle.param_load.specs.declared.profile.Profile.{Profile};
-ghost use Rattle.schedule_file.specs.Event.{Fits};
 ghost use Rattle.schedule_file.specs.EventLine.{switch_of, reference_of, delivered_len, bare_line, deliver_line, altered_line, raw_line, put_line, hold_line, nonce_line};
 ghost use Rattle.schedule_file.specs.Field.{bytes_said};
 ghost use Rattle.schedule_file.specs.FieldsRead.{fields_after, Becomes};
 
 use crate::event::{Event, MAX_BACK, ScheduleLine};
-use crate::field::{bytes_field, next_field, no_field, number, number_16, number_32, one_field};
+use crate::field::{
+    bytes_field, find_word, next_field, no_field, number_16, number_32, one_field, read_number,
+};
 use crate::hex_digits::read_hex;
 use crate::line_cause::LineCause;
 use fsoe_base::{End, FrameBuf, Image, Lengths, MOST_FRAME};
 use param_load::Profile;
 
+/// The texts of a switch.
+const SWITCHES: [(&[u8], bool); 2] = [(b"0", false), (b"1", true)];
+
 /// Off or on: `0` or `1`.
 pub fn read_switch(text: &[u8]) -> Option<bool>
     ensures { result ≡ switch_of text.now }
 {
-    if text == b"0".as_slice() {
-        Some(false)
-    } else if text == b"1".as_slice() {
-        Some(true)
-    } else {
-        None
-    }
+    find_word(&SWITCHES, text)
 }
 
 /// How many frames back, from 1 to 64.
 fn read_reference(text: &[u8]) -> Option<u8>
-    ensures value { result ≡ reference_of text.now }
-    ensures range { IfSome result (λ back. (0 < back) × (back ≤ MAX_BACK)) }
+    ensures { result ≡ reference_of text.now }
 {
     let (sign, digits) = text.split_first()?;
     if *sign != b'-' {
         return None;
     }
-    let back = number(digits, MAX_BACK)?;
+    let back = read_number(digits, u64::from(MAX_BACK))?;
     if back == 0 {
         return None;
     }
@@ -84,7 +79,6 @@ pub fn read_altered(
     event: &mut Event,
 ) -> Result<(), LineCause>
     ensures value { Becomes result (ScheduleLine.Step event.new) (altered_line to (length_of lengths.now) (fields_after fields.entry)) }
-    ensures fits { (profiles : End → Profile) → OnOk result (Fits (length_of lengths.now) profiles event.new) }
     ensures unwritten { OnErr result (event.new ≡ event.old) }
 {
     let (reference, rest) = next_field(fields)?;

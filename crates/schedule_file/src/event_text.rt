@@ -2,7 +2,7 @@
 ghost use Rattle.std.specs.Prelude.{◌≡◌, ◌+◌, ◌*◌, ◌≤◌, ◌∷◌, ◌++◌, length, decimal};
 ghost use Rattle.hex.specs.Hex.{encode_lower};
 ghost use Rattle.schedule_file.specs.Event.{IsWritable};
-ghost use Rattle.schedule_file.specs.EventText.{switch_text, reference_text, event_text};
+ghost use Rattle.schedule_file.specs.EventText.{reference_text, event_text};
 ghost use Rattle.schedule_file.specs.PairEvent.{end_letter};
 
 use crate::event::Event;
@@ -56,14 +56,6 @@ fn push_hex(bytes: &[u8], out: &mut LineBuf)
     out.push_hex(bytes);
 }
 
-fn push_switch(on: bool, out: &mut LineBuf)
-    requires { length out.old ≤ 100 }
-    ensures { out.new ≡ out.old ++ (32 ∷ switch_text on) }
-{
-    out.push(b' ');
-    out.push(if on { b'1' } else { b'0' });
-}
-
 /// Writes the line of an event in a schedule of both ends, without its newline, to `out`, whose old contents are lost.
 /// A reference is from 1 to 64, a frame has from 1 to 255 bytes and a put from 1 to 126. `read_event` reads the line as
 /// the same event under all lengths and profiles that the event fits.
@@ -98,7 +90,8 @@ pub fn write_event(event: &Event, out: &mut LineBuf)
         }
         Event::Hold { at, failsafe } => {
             write_word(b'h', *at, out);
-            push_switch(*failsafe, out);
+            out.push(b' ');
+            out.push(b'0' + u8::from(*failsafe));
         }
         Event::Nonce { at, id } => {
             write_word(b'n', *at, out);

@@ -54,16 +54,6 @@ pub fn read_number(text: &[u8], most: u64) -> Option<u64>
     Some(value as u64)
 }
 
-/// The same with at most 32 bits.
-pub fn number(text: &[u8], most: u32) -> Option<u32>
-    ensures { result ≡ number_said most text.now }
-{
-    match read_number(text, u64::from(most)) {
-        Some(n) => Some(n as u32),
-        None => None,
-    }
-}
-
 /// The most bytes of a hexadecimal field in a header.
 pub const MAX_HEX: usize = 256;
 
@@ -123,7 +113,7 @@ pub fn find_word<T: Copy>(words: &[(&[u8], T)], text: &[u8]) -> Option<T>
 pub fn number_16(text: &[u8]) -> Result<u16, LineCause>
     ensures { result ≡ number_16 text.now }
 {
-    let n = number(text, u32::from(u16::MAX)).ok_or(LineCause::Number)?;
+    let n = read_number(text, u64::from(u16::MAX)).ok_or(LineCause::Number)?;
     Ok(n as u16)
 }
 
@@ -131,7 +121,8 @@ pub fn number_16(text: &[u8]) -> Result<u16, LineCause>
 pub fn number_32(text: &[u8]) -> Result<u32, LineCause>
     ensures { result ≡ number_32 text.now }
 {
-    number(text, u32::MAX).ok_or(LineCause::Number)
+    let n = read_number(text, u64::from(u32::MAX)).ok_or(LineCause::Number)?;
+    Ok(n as u32)
 }
 
 /// The next field, and what follows the space after it. `Fields` where there is none.
@@ -145,6 +136,7 @@ pub fn next_field(fields: Option<&[u8]>) -> Result<(&[u8], Option<&[u8]>), LineC
 }
 
 /// The end of the fields. `Fields` where there is one more.
+#[tactic(auto, using(crate::proofs::OneField::no_field_some))]
 pub fn no_field(fields: Option<&[u8]>) -> Result<(), LineCause>
     ensures { result ≡ no_field (fields_after fields.entry) }
 {
@@ -155,6 +147,7 @@ pub fn no_field(fields: Option<&[u8]>) -> Result<(), LineCause>
 }
 
 /// The only field. `Fields` where there is none, or more than one.
+#[tactic(auto, using(crate::proofs::OneField::one_field_two))]
 pub fn one_field(fields: Option<&[u8]>) -> Result<&[u8], LineCause>
     ensures { IsField result (one_field (fields_after fields.entry)) }
 {

@@ -2,13 +2,12 @@
 ghost use Rattle.std.specs.Prelude.{◌≡◌, ◌<◌, IsTrue, IfOk, OnOk, OnErr};
 ghost use Rattle.schedule_file.specs.Field.{fields_of};
 ghost use Rattle.schedule_file.specs.FieldsRead.{Becomes};
-ghost use Rattle.schedule_file.specs.Header.{heading_new, heading_after, wants_profile, profile_given, heading_with, profile_taken, title_taken, heading_is_whole, rule_place, IsMasterOf, IsSlaveOf};
+ghost use Rattle.schedule_file.specs.Header.{heading_new, heading_after, wants_profile, profile_given, heading_with, profile_taken, heading_is_whole, rule_place, IsMasterOf, IsSlaveOf};
 ghost use Rattle.schedule_file.specs.HeaderKind.{has_end};
 ghost use Rattle.schedule_file.specs.Event.{InRange};
 ghost use Rattle.schedule_file.specs.LinesLeft.{lines_left};
 ghost use Rattle.schedule_file.specs.NodeHeader.{heading_begun, kind_after, node_heading_after, is_end_line, may_end};
 ghost use Rattle.schedule_file.specs.PairsHeader.{pair_begun};
-ghost use Rattle.schedule_file.specs.Place.{is_start};
 
 use crate::field::cut;
 use crate::header_kind::HeaderKind;
@@ -19,7 +18,7 @@ use crate::header_part::{MasterPart, SlavePart};
 use crate::line_cause::LineCause;
 use crate::place::{Place, Word};
 use fsoe_base::{End, Lengths};
-use param_load::{MasterSettings, Profiles, SlaveSettings};
+use param_load::{MasterSettings, Profile, Profiles, SlaveSettings};
 use std::marker::Model;
 
 /// A header that is read line by line, without newlines, from its first line to `go`. The fields of a line are
@@ -113,7 +112,7 @@ impl Header {
     pub fn is_done(&self) -> bool
         ensures { result ≡ heading_is_whole self.now }
     {
-        self.place.is_last()
+        matches!(self.place, Place::Done)
     }
 
     /// Reads the next line. Returns true if and only if it is `go`, which ends the header. An error is the first of
@@ -178,13 +177,18 @@ impl Header {
         self.place.admits(self.kind, Word::Go)
     }
 
+    #[tactic(auto, using(crate::proofs::Sound::said_in_range, crate::proofs::LinesLeft::heading_fewer))]
     fn read(&mut self, line: &[u8]) -> Result<(), LineCause>
         ensures next { Becomes result self.new (heading_after self.old line.now) }
         ensures kind { self.new.kind ≡ self.old.kind }
         ensures fewer { OnOk result (lines_left self.new < lines_left self.old) }
     {
         if self.place.is_start() {
-            return self.read_title(line);
+            if line != self.kind.title() {
+                return Err(LineCause::Header);
+            }
+            self.place = Place::Title;
+            return Ok(());
         }
         let (first, fields) = cut(line);
         let word = self.place.admit(self.kind, first)?;
@@ -193,28 +197,14 @@ impl Header {
         self.take(says)
     }
 
-    fn read_title(&mut self, line: &[u8]) -> Result<(), LineCause>
-        requires { IsTrue (is_start self.old.place) }
-        ensures next { Becomes result self.new (title_taken self.old line.now) }
-        ensures kind { self.new.kind ≡ self.old.kind }
-        ensures fewer { OnOk result (lines_left self.new < lines_left self.old) }
-    {
-        if line == self.kind.title() {
-            self.place = Place::Title;
-            Ok(())
-        } else {
-            Err(LineCause::Header)
-        }
-    }
-
     /// Whether the end whose line was read last is in profile Two for its nonce, so that its `profile` has to come
     /// next.
     pub fn wants_profile(&self) -> bool
         ensures { result ≡ wants_profile self.now.place self.now.master self.now.slave }
     {
         match self.place {
-            Place::Master => self.master.is_two(),
-            Place::Slave => self.slave.is_two(),
+            Place::Master => matches!(self.master.profile(), Profile::Two(_)),
+            Place::Slave => matches!(self.slave.profile(), Profile::Two(_)),
             _ => false,
         }
     }

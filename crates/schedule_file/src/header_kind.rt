@@ -4,7 +4,7 @@ ghost use Rattle.std.specs.Prelude.{◌≡◌};
 use fsoe_base::End;
 
 /// What a header describes: both ends of a pair, or the node at one end.
-#[derive(Clone, Copy, PartialEq, Eq)]
+#[derive(Clone, Copy)]
 pub enum HeaderKind {
     /// Both ends of a pair.
     Pair,

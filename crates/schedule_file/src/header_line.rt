@@ -1,10 +1,11 @@
 //! What one header line says, by its fields.
-ghost use Rattle.std.specs.Prelude.{◌≡◌};
+ghost use Rattle.std.specs.Prelude.{◌≡◌, MatchResult, Ok, Err};
 ghost use Rattle.schedule_file.specs.FieldsRead.{fields_after};
-ghost use Rattle.schedule_file.specs.HeaderLine.{lengths_line, end_numbers, master_line, slave_line, profile_line, any_line, listed_line, rule_line, range_line, header_line};
+ghost use Rattle.schedule_file.specs.HeaderLine.{lengths_line, four_fields, end_numbers, master_line, slave_line, profile_line, any_line, rule_line, range_line, header_line};
 
 use crate::field::{
-    HexBytes, MAX_HEX, next_field, no_field, number_16, number_32, one_field, one_hex_field,
+    HexBytes, MAX_HEX, find_word, next_field, no_field, number_16, number_32, one_field,
+    one_hex_field,
 };
 use crate::header_part::MAX_APP;
 use crate::line_cause::LineCause;
@@ -73,14 +74,23 @@ fn read_lengths(fields: Option<&[u8]>) -> Result<LengthsLine, LineCause>
     }
 }
 
-/// The four numbers of an end: three of 16 bits, and its session id.
-fn read_end_numbers(fields: Option<&[u8]>) -> Result<(u16, u16, u16, u32), LineCause>
-    ensures { result ≡ end_numbers (fields_after fields.entry) }
+/// The four fields of an end.
+fn four_fields(fields: Option<&[u8]>) -> Result<(&[u8], &[u8], &[u8], &[u8]), LineCause>
+    ensures { let said = four_fields (fields_after fields.entry) in
+        MatchResult result (λ it. said ≡ Ok (it.0.now, it.1.now, it.2.now, it.3.now)) (λ cause. said ≡ Err cause) }
 {
     let (first, rest) = next_field(fields)?;
     let (second, rest) = next_field(rest)?;
     let (third, rest) = next_field(rest)?;
-    let nonce = one_field(rest)?;
+    let fourth = one_field(rest)?;
+    Ok((first, second, third, fourth))
+}
+
+/// The four numbers of an end: three of 16 bits, and its session id.
+fn read_end_numbers(fields: Option<&[u8]>) -> Result<(u16, u16, u16, u32), LineCause>
+    ensures { result ≡ end_numbers (fields_after fields.entry) }
+{
+    let (first, second, third, nonce) = four_fields(fields)?;
     Ok((
         number_16(first)?,
         number_16(second)?,
@@ -142,19 +152,8 @@ fn read_any(fields: Option<&[u8]>) -> Result<RuleLine, LineCause>
     }
 }
 
-/// What stands after `rule` and another form than `any`.
-fn read_listed(form: &[u8], fields: Option<&[u8]>) -> Result<RuleLine, LineCause>
-    ensures { result ≡ listed_line form.now (fields_after fields.entry) }
-{
-    no_field(fields)?;
-    if form == b"exact".as_slice() {
-        Ok(RuleLine::Exact)
-    } else if form == b"ranges".as_slice() {
-        Ok(RuleLine::Ranges)
-    } else {
-        Err(LineCause::Range)
-    }
-}
+/// The forms of a rule whose bytes come in lines of their own.
+const LISTED: [(&[u8], RuleLine); 2] = [(b"exact", RuleLine::Exact), (b"ranges", RuleLine::Ranges)];
 
 /// `any <n>`, `exact` or `ranges`.
 fn read_rule(fields: Option<&[u8]>) -> Result<RuleLine, LineCause>
@@ -162,10 +161,10 @@ fn read_rule(fields: Option<&[u8]>) -> Result<RuleLine, LineCause>
 {
     let (form, rest) = next_field(fields)?;
     if form == b"any".as_slice() {
-        read_any(rest)
-    } else {
-        read_listed(form, rest)
+        return read_any(rest);
     }
+    no_field(rest)?;
+    find_word(&LISTED, form).ok_or(LineCause::Range)
 }
 
 /// Pairs of a lowest and a highest value, at least one.
@@ -184,14 +183,14 @@ pub fn read_header_line(word: Word, fields: Option<&[u8]>) -> Result<HeaderLine,
     ensures { result ≡ header_line word (fields_after fields.entry) }
 {
     match word {
-        Word::Lengths => Ok(HeaderLine::Lengths(read_lengths(fields)?)),
-        Word::Master => Ok(HeaderLine::Master(read_master(fields)?)),
-        Word::Profile => Ok(HeaderLine::Profile(read_profile(fields)?)),
-        Word::App => Ok(HeaderLine::App(one_hex_field(fields, MAX_HEX)?)),
-        Word::Slave => Ok(HeaderLine::Slave(read_slave(fields)?)),
-        Word::Rule => Ok(HeaderLine::Rule(read_rule(fields)?)),
-        Word::Bytes => Ok(HeaderLine::Bytes(one_hex_field(fields, MAX_HEX)?)),
-        Word::Range => Ok(HeaderLine::Range(read_range(fields)?)),
+        Word::Lengths => read_lengths(fields).map(HeaderLine::Lengths),
+        Word::Master => read_master(fields).map(HeaderLine::Master),
+        Word::Profile => read_profile(fields).map(HeaderLine::Profile),
+        Word::App => one_hex_field(fields, MAX_HEX).map(HeaderLine::App),
+        Word::Slave => read_slave(fields).map(HeaderLine::Slave),
+        Word::Rule => read_rule(fields).map(HeaderLine::Rule),
+        Word::Bytes => one_hex_field(fields, MAX_HEX).map(HeaderLine::Bytes),
+        Word::Range => read_range(fields).map(HeaderLine::Range),
         Word::Go => {
             no_field(fields)?;
             Ok(HeaderLine::Go)

@@ -4,7 +4,7 @@ ghost use Rattle.param_load.specs.AppRule.{is_acceptable};
 ghost use Rattle.param_load.specs.Profile.{allows_id};
 ghost use Rattle.schedule_file.specs.FieldsRead.{Becomes};
 ghost use Rattle.schedule_file.specs.Event.{RuleInRange};
-ghost use Rattle.schedule_file.specs.HeaderPart.{is_two, profile_for, master_begun, slave_begun, list_with, ranges_with, rule_begun, master_with_app, slave_with_bytes, slave_with_pairs};
+ghost use Rattle.schedule_file.specs.HeaderPart.{profile_for, master_begun, slave_begun, list_with, ranges_with, rule_begun, master_with_app, slave_with_bytes, slave_with_pairs};
 
 use crate::header_line::{MasterLine, RuleLine, SlaveLine};
 use crate::line_cause::LineCause;
@@ -108,13 +108,6 @@ impl MasterPart {
         self.profile
     }
 
-    /// Whether the profile is Two.
-    pub fn is_two(&self) -> bool
-        ensures { result ≡ is_two self.now.profile }
-    {
-        matches!(self.profile, Profile::Two(_))
-    }
-
     /// The word of a `profile` line.
     pub fn set_profile(&mut self, word: u16)
         ensures { self.new ≡ record self.old { profile = Profile.Two word } }
@@ -203,13 +196,6 @@ impl SlavePart {
         ensures { result ≡ self.now.profile }
     {
         self.profile
-    }
-
-    /// Whether the profile is Two.
-    pub fn is_two(&self) -> bool
-        ensures { result ≡ is_two self.now.profile }
-    {
-        matches!(self.profile, Profile::Two(_))
     }
 
     /// The word of a `profile` line.

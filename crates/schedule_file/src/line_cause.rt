@@ -62,17 +62,6 @@ impl LineCause {
     pub fn order(self) -> u8
         ensures { result ≡ cause_order self }
     {
-        match self {
-            LineCause::Header => 0,
-            LineCause::Word => 1,
-            LineCause::Fields => 2,
-            LineCause::Number => 3,
-            LineCause::NoLink => 4,
-            LineCause::Reference => 5,
-            LineCause::Hex => 6,
-            LineCause::Length => 7,
-            LineCause::Range => 8,
-            LineCause::Position => 9,
-        }
+        self as u8
     }
 }

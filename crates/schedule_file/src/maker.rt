@@ -1,6 +1,6 @@
 //! A schedule that is made from a number.
-ghost use Rattle.std.specs.Prelude.{◌≡◌, if◌then◌else◌};
-ghost use Rattle.schedule_file.specs.Made.{event_of_word, is_switch_on, load_of, mask_of, place_of};
+ghost use Rattle.std.specs.Prelude.{◌≡◌, suc, if◌then◌else◌};
+ghost use Rattle.schedule_file.specs.Made.{event_in_turn, event_of_word, is_switch_on, load_of, mask_of, place_of};
 ghost use Rattle.schedule_file.specs.Event.{FitsMade};
 ghost use Rattle.fsoe_base.specs.declared.command.End.TheVariants as side;
 ghost use Rattle.schedule_file.specs.declared.event.Event.TheVariants as event;
@@ -13,76 +13,40 @@ use rand_core::utils::NextWord;
 use rand_pcg::Pcg32;
 use std::marker::Model;
 
-/// The next event in turn.
-#[derive(Clone, Copy)]
-enum Turn {
-    /// The first tick of the master.
-    Tick,
-    /// The master's last frame comes to the slave.
-    ToSlave,
-    /// The slave's last frame comes to the master.
-    ToMaster,
-}
-
 /// Makes the events of a number's schedule, one after another, without an end.
 #[derive(Drop)]
 pub struct Maker {
-    turn: Turn,
-    /// How many events in turn come before those by the generator; None if all are in turn.
-    left: Option<u8>,
+    /// Whether all events are in turn.
+    endless: bool,
+    /// How many events in turn were made. Of endless ones 1 and 2 stand for each odd and each later even count.
+    turns: u8,
     words: Pcg32,
 }
 
 impl Model for Maker {
+    ghost use Rattle.std.specs.Prelude.{◌≤◌};
     ghost use Rattle.schedule_file.specs.Maker.{MakerView};
 
     ghost Value = { MakerView };
 
-    ghost view = { λ m. record { turn = m.turn; left = m.left; words = m.words } };
-}
+    ghost view = { λ m. record { endless = m.endless; turns = m.turns; words = m.words } };
 
-impl Turn {
-    ghost use Rattle.std.specs.Prelude.{◌≡◌, ℕ, suc};
-    ghost use Rattle.schedule_file.specs.Made.{event_in_turn};
-    ghost use Rattle.schedule_file.specs.Event.{FitsMade};
-    ghost use Rattle.schedule_file.specs.Maker.{turn_after};
-
-    /// Writes the event of this turn to `out`.
-    fn event(self, out: &mut Event)
-        ensures value { (count : ℕ) → self ≡ turn_after count → out.new ≡ event_in_turn (suc count) }
-        ensures fits { FitsMade out.new }
-    {
-        match self {
-            Turn::Tick => *out = Event::Tick { at: End::Master },
-            Turn::ToSlave => deliver(End::Slave, 1, out),
-            Turn::ToMaster => deliver(End::Master, 1, out),
-        }
-    }
-
-    /// The turn after this one.
-    fn next(self) -> Turn
-        ensures { (count : ℕ) → self ≡ turn_after count → result ≡ turn_after (suc count) }
-    {
-        match self {
-            Turn::Tick | Turn::ToMaster => Turn::ToSlave,
-            Turn::ToSlave => Turn::ToMaster,
-        }
-    }
+    ghost invariant = { λ m. m.turns ≤ 4 };
 }
 
 impl Maker {
-    ghost use Rattle.std.specs.Prelude.{◌≡◌, ℕ, suc};
-    ghost use Rattle.schedule_file.specs.Made.{event_in_turn, made_master, made_slave};
+    ghost use Rattle.schedule_file.specs.Made.{made_master, made_slave};
     ghost use Rattle.schedule_file.specs.Event.{FitsMade};
-    ghost use Rattle.schedule_file.specs.Maker.{IsMaker, Makes, turn_after};
+    ghost use Rattle.schedule_file.specs.Maker.{IsMaker, Makes};
 
     /// Creates the maker of a number's events, of which none is made yet.
+    #[tactic(auto, using(crate::proofs::Making::new_of))]
     pub fn new(number: u64) -> Maker
         ensures { IsMaker number 0 result }
     {
         Maker {
-            turn: Turn::Tick,
-            left: if number == 0 { None } else { Some(4) },
+            endless: number == 0,
+            turns: 0,
             words: Pcg32::seed_from_u64(number),
         }
     }
@@ -98,29 +62,21 @@ impl Maker {
     }
 
     /// Writes the next event of the number to `out`, whose old contents are lost. It fits ends with these `settings`.
+    #[tactic(auto, using(crate::proofs::Making::by_word))]
     pub fn next_into(&mut self, out: &mut Event)
         ensures makes { Makes self.old out.new self.new }
         ensures fits { FitsMade out.new }
     {
-        match self.left {
-            None => self.take_turn(out),
-            Some(0) => event_of(self.words.next_word(), out),
-            Some(left) => {
-                self.left = Some(left - 1);
-                self.take_turn(out)
-            }
+        if self.turns == 4 {
+            event_of(self.words.next_word(), out);
+            return;
         }
-    }
-
-    fn take_turn(&mut self, out: &mut Event)
-        ensures event { (count : ℕ) → self.old.turn ≡ turn_after count → out.new ≡ event_in_turn (suc count) }
-        ensures turn { (count : ℕ) → self.old.turn ≡ turn_after count → self.new.turn ≡ turn_after (suc count) }
-        ensures fits { FitsMade out.new }
-        ensures left { self.new.left ≡ self.old.left }
-        ensures words { self.new.words ≡ self.old.words }
-    {
-        self.turn.event(out);
-        self.turn = self.turn.next();
+        event_in_turn(self.turns, out);
+        if self.endless && self.turns == 2 {
+            self.turns = 1;
+        } else {
+            self.turns += 1;
+        }
     }
 
     /// Returns the settings of both ends in each number's schedule. Two safe data bytes each way, connection 1, address
@@ -134,6 +90,20 @@ impl Maker {
             MasterSettings::new(lengths, 1, 2, 100, AppBytes::new(), 1).unwrap(),
             SlaveSettings::new(lengths, 2, 100, 1000, AppRule::Any(0), 2).unwrap(),
         )
+    }
+}
+
+/// Writes to `out` the event that comes after so many in turn.
+fn event_in_turn(turns: u8, out: &mut Event)
+    ensures value { out.new ≡ event_in_turn (suc turns) }
+    ensures fits { FitsMade out.new }
+{
+    if turns == 0 {
+        *out = Event::Tick { at: End::Master };
+    } else if turns % 2 == 1 {
+        deliver(End::Slave, 1, out);
+    } else {
+        deliver(End::Master, 1, out);
     }
 }
 

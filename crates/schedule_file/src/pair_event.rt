@@ -1,9 +1,9 @@
 //! What an event line of both ends says.
 ghost use Rattle.std.specs.Prelude.{◌≡◌, IfOk, OnOk, OnErr};
 ghost use Rattle.fsoe_base.specs.LengthsOf.{length_of};
-ghost use Rattle.schedule_file.specs.Event.{Fits, PairLineFits, profile_of};
+ghost use Rattle.schedule_file.specs.Event.{PairLineFits, profile_of};
 ghost use Rattle.schedule_file.specs.FieldsRead.{fields_after, Becomes};
-ghost use Rattle.schedule_file.specs.PairEvent.{pair_word_of, event_said, pair_line};
+ghost use Rattle.schedule_file.specs.PairEvent.{pair_word_of, event_said, pair_line, pair_said};
 
 use crate::event::{Event, ScheduleLine};
 use crate::event_line::{
@@ -99,33 +99,33 @@ pub fn read_event_into(
     ensures unwritten { OnErr result (says.new ≡ says.old) }
 {
     let (first, fields) = cut(line);
-    match read_pair_word(first) {
-        Some(PairWord::End) => read_end(fields, says),
-        Some(word) => read_over(word, fields, lengths, profiles, says),
-        None => Err(LineCause::Word),
-    }
+    read_said(read_pair_word(first), fields, lengths, profiles, says)
 }
 
-/// An event by its word, written over what a line said.
-fn read_over(
-    word: PairWord,
+/// What a word says with its fields, written over what a line said, which is as it was after an error. Without a word:
+/// `Word`.
+pub fn read_said(
+    word: Option<PairWord>,
     fields: Option<&[u8]>,
     lengths: &Lengths,
     profiles: &Profiles,
     says: &mut ScheduleLine,
 ) -> Result<(), LineCause>
-    ensures value { Becomes result says.new (event_said (length_of lengths.now) (profile_of profiles.now) word (fields_after fields.entry)) }
-    ensures fits { OnOk result (PairLineFits (length_of lengths.now) (profile_of profiles.now) says.new) }
+    ensures value { Becomes result says.new (pair_said (length_of lengths.now) (profile_of profiles.now) word (fields_after fields.entry)) }
     ensures unwritten { OnErr result (says.new ≡ says.old) }
 {
-    match says {
-        ScheduleLine::Step(event) => read_step(word, fields, lengths, profiles, event),
-        ScheduleLine::End => read_first(word, fields, lengths, profiles, says),
+    match word {
+        None => Err(LineCause::Word),
+        Some(PairWord::End) => read_end(fields, says),
+        Some(word) => match says {
+            ScheduleLine::Step(event) => read_step(word, fields, lengths, profiles, event),
+            ScheduleLine::End => read_first(word, fields, lengths, profiles, says),
+        },
     }
 }
 
-/// The same where no event was said before. A function clears the room of all its locals, so that this one, which makes
-/// an event, stands by itself.
+/// An event by its word, where none was said before. A function clears the room of all its locals, so that this one,
+/// which makes an event, stands by itself.
 #[inline(never)]
 fn read_first(
     word: PairWord,
@@ -135,7 +135,6 @@ fn read_first(
     says: &mut ScheduleLine,
 ) -> Result<(), LineCause>
     ensures value { Becomes result says.new (event_said (length_of lengths.now) (profile_of profiles.now) word (fields_after fields.entry)) }
-    ensures fits { OnOk result (PairLineFits (length_of lengths.now) (profile_of profiles.now) says.new) }
     ensures unwritten { OnErr result (says.new ≡ says.old) }
 {
     let mut event = Event::Tick { at: End::Slave };
@@ -153,7 +152,6 @@ pub fn read_step(
     event: &mut Event,
 ) -> Result<(), LineCause>
     ensures value { Becomes result (ScheduleLine.Step event.new) (event_said (length_of lengths.now) (profile_of profiles.now) word (fields_after fields.entry)) }
-    ensures fits { OnOk result (Fits (length_of lengths.now) (profile_of profiles.now) event.new) }
     ensures unwritten { OnErr result (event.new ≡ event.old) }
 {
     match word {

@@ -5,11 +5,11 @@ ghost use Rattle.std.specs.List.{list_all};
 ghost use Rattle.fsoe_base.specs.LengthsOf.{length_of};
 ghost use Rattle.schedule_file.specs.Event.{profile_of};
 ghost use Rattle.schedule_file.specs.FieldsRead.{fields_after, Becomes};
-ghost use Rattle.schedule_file.specs.PairsEvent.{common_line, first_cause, is_digits, numbered, numbered_line, pairs_line, refused_for, unlinked};
+ghost use Rattle.schedule_file.specs.PairsEvent.{first_cause, is_digits, numbered, numbered_line, pairs_line, refused_for, unlinked};
 ghost use Rattle.schedule_file.specs.PairsFit.{PairsLineFits};
 
 use crate::event::Event;
-use crate::field::{cut, next_field, no_field, number};
+use crate::field::{cut, next_field, read_number};
 use crate::line_cause::LineCause;
 use crate::pair_event::{PairWord, read_pair_word, read_step};
 use crate::pairs_line::{PairsLine, PairsSaid};
@@ -97,31 +97,13 @@ fn read_numbered(
     let Some(word) = read_pair_word(second) else {
         return Err(LineCause::Word);
     };
-    let Some(pair) = number(digits, u32::from(u16::MAX)) else {
+    let Some(pair) = read_number(digits, u64::from(u16::MAX)) else {
         return Err(refused_for(LineCause::Number, word, rest));
     };
     let pair = pair as u16;
     match (find_lengths(pair, lengths), find_profiles(pair, profiles)) {
         (Some(lengths), Some(profiles)) => said.read_one(pair, word, rest, lengths, profiles),
         _ => Err(refused_for(LineCause::NoLink, word, rest)),
-    }
-}
-
-/// A tick of all pairs, or the end.
-fn read_common(first: &[u8], fields: Option<&[u8]>, said: &mut PairsSaid) -> Result<(), LineCause>
-    ensures value { Becomes result said.new (common_line first.now (fields_after fields.entry)) }
-    ensures unwritten { OnErr result (said.new ≡ said.old) }
-{
-    if first == b"t".as_slice() {
-        no_field(fields)?;
-        said.set_tick();
-        Ok(())
-    } else if first == b"end".as_slice() {
-        no_field(fields)?;
-        said.set_end();
-        Ok(())
-    } else {
-        Err(LineCause::Word)
     }
 }
 
@@ -158,6 +140,6 @@ pub fn read_pairs_event_into(
     if is_digits(first) {
         read_numbered(first, fields, lengths, profiles, said)
     } else {
-        read_common(first, fields, said)
+        said.read_common(first, fields)
     }
 }

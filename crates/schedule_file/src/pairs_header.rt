@@ -175,6 +175,7 @@ impl PairsHeader {
     }
 
     /// Goes on with the next pair.
+    #[tactic(auto, using(crate::proofs::Pairs::room_before, crate::proofs::Pairs::pairs_pushed))]
     fn begin_pair(&mut self)
         requires { length (pairs_of self.old) < MOST_PAIRS }
         ensures { self.new ≡ record { stage = PairsStage.Pairs; before = pairs_of self.old; last = pair_begun } }

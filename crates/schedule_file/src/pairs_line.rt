@@ -4,11 +4,11 @@ ghost use Rattle.fsoe_base.specs.LengthsOf.{length_of};
 ghost use Rattle.schedule_file.specs.Event.{profile_of};
 ghost use Rattle.schedule_file.specs.FieldsRead.{fields_after, Becomes};
 ghost use Rattle.schedule_file.specs.PairEvent.{event_said};
-ghost use Rattle.schedule_file.specs.PairsEvent.{of_pair};
+ghost use Rattle.schedule_file.specs.PairsEvent.{common_line, of_pair};
 ghost use Rattle.schedule_file.specs.PairsLine.{pairs_event_of};
-ghost use Rattle.schedule_file.specs.PairsFit.{line_of_event};
 
 use crate::event::Event;
+use crate::field::no_field;
 use crate::line_cause::LineCause;
 use crate::pair_event::{PairWord, read_step};
 use fsoe_base::{End, Lengths};
@@ -86,19 +86,28 @@ impl PairsSaid {
         }
     }
 
-    /// Says the end.
-    pub(crate) fn set_end(&mut self)
-        ensures { self.new ≡ PairsLine.End }
+    /// Says a tick of all pairs or the end, by the word of a line and the fields after it. After an error it says what it
+    /// said.
+    pub(crate) fn read_common(
+        &mut self,
+        first: &[u8],
+        fields: Option<&[u8]>,
+    ) -> Result<(), LineCause>
+        ensures value { Becomes result self.new (common_line first.now (fields_after fields.entry)) }
+        ensures unwritten { OnErr result (self.new ≡ self.old) }
     {
-        self.ended = true;
-    }
-
-    /// Says a tick.
-    pub(crate) fn set_tick(&mut self)
-        ensures { self.new ≡ PairsLine.Tick }
-    {
-        self.ended = false;
-        self.event = PairsEvent::Tick;
+        if first == b"t".as_slice() {
+            no_field(fields)?;
+            self.ended = false;
+            self.event = PairsEvent::Tick;
+            Ok(())
+        } else if first == b"end".as_slice() {
+            no_field(fields)?;
+            self.ended = true;
+            Ok(())
+        } else {
+            Err(LineCause::Word)
+        }
     }
 
     /// Says the event of a pair by its word and the fields after it. After an error it says what it said.
@@ -113,37 +122,21 @@ impl PairsSaid {
         ensures value { Becomes result self.new (of_pair pair (event_said (length_of lengths.now) (profile_of profiles.now) word (fields_after fields.entry))) }
         ensures unwritten { OnErr result (self.new ≡ self.old) }
     {
-        read_one_over(pair, word, fields, lengths, profiles, &mut self.event)?;
+        match &mut self.event {
+            PairsEvent::One {
+                pair: last_pair,
+                event,
+            } => {
+                read_step(word, fields, lengths, profiles, event)?;
+                *last_pair = pair;
+            }
+            PairsEvent::Tick => {
+                let mut event = Event::Tick { at: End::Slave };
+                read_step(word, fields, lengths, profiles, &mut event)?;
+                self.event = PairsEvent::One { pair, event };
+            }
+        }
         self.ended = false;
         Ok(())
     }
-}
-
-/// The event of a pair, written over what happened, which is as it was after an error.
-fn read_one_over(
-    number: u16,
-    word: PairWord,
-    fields: Option<&[u8]>,
-    lengths: &Lengths,
-    profiles: &Profiles,
-    over: &mut PairsEvent,
-) -> Result<(), LineCause>
-    ensures value { Becomes result (line_of_event over.new) (of_pair number (event_said (length_of lengths.now) (profile_of profiles.now) word (fields_after fields.entry))) }
-    ensures unwritten { OnErr result (over.new ≡ over.old) }
-{
-    match over {
-        PairsEvent::One { pair, event } => {
-            read_step(word, fields, lengths, profiles, event)?;
-            *pair = number;
-        }
-        PairsEvent::Tick => {
-            let mut event = Event::Tick { at: End::Slave };
-            read_step(word, fields, lengths, profiles, &mut event)?;
-            *over = PairsEvent::One {
-                pair: number,
-                event,
-            };
-        }
-    }
-    Ok(())
 }

@@ -45,7 +45,7 @@ impl Word {
 }
 
 /// How far a header is read: the line that was read last.
-#[derive(Clone, Copy, Debug)]
+#[derive(Clone, Copy)]
 pub enum Place {
     /// No line yet.
     Start,
@@ -73,20 +73,13 @@ pub enum Place {
 }
 
 impl Place {
-    ghost use Rattle.schedule_file.specs.Place.{header_word_of, is_start, is_last, may_stand, admitted};
+    ghost use Rattle.schedule_file.specs.Place.{header_word_of, is_start, may_stand, admitted};
 
     /// Whether no line is read.
     pub fn is_start(self) -> bool
         ensures { result ≡ is_start self }
     {
         matches!(self, Place::Start)
-    }
-
-    /// Whether `go` is read.
-    pub fn is_last(self) -> bool
-        ensures { result ≡ is_last self }
-    {
-        matches!(self, Place::Done)
     }
 
     /// Whether a line with this first word may come next in a header of this kind.
