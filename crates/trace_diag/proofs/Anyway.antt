@@ -1,5 +1,5 @@
 -- An end answers the frame on its way whatever is put before, so that the frames of a run come in turn.
-use Rattle.trace_diag.proofs.Common.{Accepts, Command, Deed, End, Entry, Event, HasNoReset, MasterSettings, Move, OfMaster, OfSlave, Partner, Setup, TakesDelivery, back_th, begun, deeds, delivery, did_on, end_of, entry_on, frames_of, going_on, is_empty, judged, judged_session, next_entry, partner, quiet, sent_in, set_for, world_after}
+use Rattle.trace_diag.proofs.Common.{same_Some, Accepts, Command, Deed, End, Entry, Event, HasNoReset, MasterSettings, Move, OfMaster, OfSlave, Partner, Setup, TakesDelivery, back_th, begun, deeds, delivery, did_on, end_of, entry_on, frames_of, going_on, is_empty, judged, judged_session, next_entry, partner, quiet, sent_in, set_for, world_after}
 use Rattle.std.proofs.Common.{◌≡◌, ℕ, ◌+◌, List, [], ◌∷◌, ◌++◌, length, Bool, false, Option, Some, None, IsSome, refl, sym, ap, subst, ◌∙◌, arith, if◌then◌else◌, rules}
 use Rattle.fsoe_base.specs.declared.command.Code.{Code}
 use Rattle.fsoe_base.specs.declared.command.End.TheVariants as end_name
@@ -32,15 +32,12 @@ record SendsAfter (s : Setup) (e : List Deed) (o : Option (List ℕ)) : Type 0 w
   pub some : is_empty entry.sent ≡ false
   pub ended : entry.end ≡ end_of s
 
-some-entry : (a b : Entry) → Some a ≡ Some b → a ≡ b
-some-entry a b e = cc
-
 sends-after : (s : Setup) (e : List Deed) (b : Bool) (load : List ℕ) (o : Option (List ℕ)) (x : Entry) → entry_on s e (delivery o) ≡ Some x → HasNoReset x → TakesDelivery x → SendsAfter s (set_deeds b load e) o
 sends-after s e b load None x is none takes = absurd (cc is)
 sends-after s e b load (Some f) x is none takes =
     let what : Move = move.Deliver f in
     let did : Did = did_on s (set_deeds b load e) what in
-    let x-is : next_entry s e what ≡ x = some-entry (next_entry s e what) x is in
+    let x-is : next_entry s e what ≡ x = same_Some (next_entry s e what) x is in
     let same : did ≡ did_on s e what = same-did s e b load f in
     let no_reset : did.reset ≡ None = ap (λ (d : Did). d.reset) same ∙ (ap (λ (x : Entry). x.did.reset) x-is ∙ none) in
     let taken : IsSome did.took = subst (λ (d : Did). IsSome d.took) (sym same) (subst (λ (x : Entry). TakesDelivery x) (sym x-is) takes refl) in

@@ -1,63 +1,20 @@
 -- Where two ends send the frames of a trace, no row of the table applies to any of them.
-use Rattle.trace_diag.proofs.Common.{Accepts, Difference, End, Entry, Event, Field, Frame, MasterSettings, Noted, OfMaster, Partner, answer_events, append_assoc, before, chain_of, command_byte, command_in, common_steps, count_crcs, count_groups, entry_at, events_before, field_of, first_difference, first_of_both, frame_len, frame_of, going_on, halves, is_length, is_reset_frame, length-append, length-replicate, length_of, partner, read_schedule, reset_crcs, reset_frame, reset_load, same_end, same_itself, sealed_by, sent_in, slave_of, turn, turned, whole, width, world, world_after, world_on}
-use Rattle.std.proofs.Common.{◌≡◌, ℕ, ◌+◌, List, [], ◌∷◌, ◌++◌, length, drop, replicate, Bool, true, false, if◌then◌else◌, Option, None, IsTrue, refl, sym, ap, ap₂, subst, ◌∙◌, arith, rules}
+use Rattle.trace_diag.proofs.Common.{Accepts, Difference, End, Entry, Event, Field, MasterSettings, Noted, Partner, answer_events, append_assoc, before, command_in, common_steps, entry_at, events_before, field_of, first_difference, first_of_both, frame_len, frame_of, going_on, length-append, length_of, partner, read_schedule, reset_frame, same_end, same_itself, sent_in, turn, turned, whole, world, world_after, world_on}
+use Rattle.std.proofs.Common.{◌≡◌, ℕ, List, [], ◌∷◌, ◌++◌, length, drop, Bool, true, false, if◌then◌else◌, Option, None, refl, sym, ap, ap₂, subst, ◌∙◌, arith, rules}
 use Rattle.fsoe_base.specs.declared.command.End.TheVariants as end_name
+use Rattle.trace_diag.proofs.Along.{same_head}
 use Rattle.trace_diag.proofs.Anyway.{sends_anyway, SendsMore}
-use Rattle.trace_diag.proofs.Frames.{read_as}
 use Rattle.trace_diag.proofs.LockStep.{first_runs, next_runs}
-use Rattle.trace_diag.proofs.MasterRows.{master_right, IsPlain}
-use Rattle.trace_diag.proofs.NextFrames.{NextFrame, ResetNext, MasterNext, SlaveNext}
-use Rattle.trace_diag.proofs.NoField.{in_turn_none, IsRight}
-use Rattle.trace_diag.proofs.PayloadBytes.{AllLong}
-use Rattle.trace_diag.proofs.RowsBack.{reset_right}
-use Rattle.trace_diag.proofs.SlaveRows.{slave_right}
+use Rattle.trace_diag.proofs.NextFrames.{reset_is_next, NextFrame}
+use Rattle.trace_diag.proofs.NoField.{in_turn_none}
+use Rattle.trace_diag.proofs.PayloadBytes.{all_long, valid_at, AllLong}
+use Rattle.trace_diag.proofs.SentRows.{IsPlain}
 use Rattle.trace_diag.proofs.Walk.{at_first, first_reset, more, world_of, At, More}
 
--- the parts of a Reset frame with the code 0
-abbrev pub reset_parts_of : ℕ → Frame
-reset_parts_of l = record { cmd = 0x2A; load = reset_load 0 l; crcs = reset_crcs (reset_load 0 l); conn = 0 }
-
-load-long : (l : ℕ) → length (reset_load 0 l) ≡ l
-load-long l = search (rules, length-replicate)
-
-pub load_zeros : (l : ℕ) → reset_load 0 l ≡ replicate l 0
-load_zeros l = grind arith
-
-pub reset_parts : (l : ℕ) → IsTrue (is_length l) → frame_of l (reset_frame 0 l) ≡ reset_parts_of l
-reset_parts l h = search (rules, read_as, load-long, count_crcs, count_groups, halves)
-
-pub valid_of : (ms : MasterSettings) (which : End) → IsTrue (is_length (length_of ms.lengths which))
-valid_of ms which = grind arith
-
-pub reset_long : (ms : MasterSettings) (r : Partner ms) (which : End) → length (reset_frame 0 (length_of ms.lengths which)) ≡ frame_len (length_of ms.lengths which)
-reset_long ms r end_name.Master = (is_reset_frame (slave_of ms r) [] ms.lengths.valid_master refl).is_read.has_length
-reset_long ms r end_name.Slave = (is_reset_frame (OfMaster ms) [] ms.lengths.valid_slave refl).is_read.has_length
-
 -- no row applies to the frame that comes next
-pub next_none : (ms : MasterSettings) (r : Partner ms) (t : List Noted) (g : List ℕ) (taken : List (List ℕ)) (at : End) → IsPlain ms → turn t ≡ at → NextFrame ms r t g taken at
-    → field_of ms.lengths t (record { from = at; frame = g }) ≡ None
-next_none ms r t g taken at plain turned-to (ResetNext _ due is) =
-    in_turn_none ms.lengths (before ms.lengths t) (record { from = at; frame = g }) (record {
-      turn = ap (same_end at) turned-to ∙ same_itself at;
-      long = ap (length {A = ℕ}) is ∙ reset_long ms r at;
-      right = subst (λ (f : Frame). IsRight (width ms) (before ms.lengths t) at f) (sym (ap (frame_of (length_of ms.lengths at)) is ∙ reset_parts (length_of ms.lengths at) (valid_of ms at)))
-          (reset_right (width ms) (before ms.lengths t) at (reset_parts_of (length_of ms.lengths at)) (length_of ms.lengths at) due refl refl (load_zeros (length_of ms.lengths at)) refl);
-    })
-next_none ms r t g taken at plain turned-to (MasterNext m) =
-    in_turn_none ms.lengths (before ms.lengths t) (record { from = end_name.Master; frame = g }) (record {
-      turn = ap (same_end end_name.Master) turned-to;
-      long = m.long;
-      right = subst (λ (f : Frame). IsRight (width ms) (before ms.lengths t) end_name.Master f) (sym m.frame)
-          (master_right ms ms.nonce (before ms.lengths t) m.on.command m.on.a m.on.b m.on.d (sealed_by (chain_of ms.lengths t) m.on.conn (command_byte m.on.command) m.on.load) m.on.in_session plain m.due refl m.carries refl);
-    })
-next_none ms r t g taken at plain turned-to (SlaveNext m) =
-    in_turn_none ms.lengths (before ms.lengths t) (record { from = end_name.Slave; frame = g }) (record {
-      turn = ap (same_end end_name.Slave) turned-to;
-      long = m.long;
-      right = subst (λ (f : Frame). IsRight (width ms) (before ms.lengths t) end_name.Slave f) (sym m.frame)
-          (slave_right ms m.on.id (before ms.lengths t) m.on.command m.on.a m.on.b m.on.d (sealed_by (turned (chain_of ms.lengths t)) m.on.conn (command_byte m.on.command) m.on.load) m.on.in_session plain m.due refl
-          (ap (λ (f : Frame). length f.load) (sym m.frame) ∙ (whole ms.lengths.slave g ms.lengths.valid_slave m.long).load) m.on.replies refl);
-    })
+next-none : (ms : MasterSettings) (r : Partner ms) (t : List Noted) (g : List ℕ) (at : End) → turn t ≡ at → NextFrame ms r t g at → field_of ms.lengths t (record { from = at; frame = g }) ≡ None
+next-none ms r t g at turned n =
+    in_turn_none ms.lengths (before ms.lengths t) (record { from = at; frame = g }) (record { turn = ap (same_end at) turned ∙ same_itself at; long = n.long; right = n.next.right })
 
 -- these frames are at the beginning of those
 pub record Begins (part all : List Noted) : Type 0 where
@@ -87,9 +44,6 @@ same-end-of later later' part part' e long =
     let as-many : length later ≡ length later' = omega (arith, ap (length {A = Noted}) e, length-append later part, length-append later' part', long) in
     sym (drop-front later part) ∙ (ap (drop (length later)) e ∙ (ap (λ (n : ℕ). drop n (later' ++ part')) as-many ∙ drop-front later' part'))
 
-pub same_frames : (a b : Noted) (s t : List Noted) → a ∷ s ≡ b ∷ t → (a ≡ b) × (s ≡ t)
-same_frames a b s t e = (cc, cc)
-
 -- the world stands at the end of a trace, whose frames it sent, and no row applies to any of them
 pub record Good (ms : MasterSettings) (r : Partner ms) (t : List Noted) : Type 0 where
   pub at : At ms r t
@@ -99,26 +53,26 @@ pub record Good (ms : MasterSettings) (r : Partner ms) (t : List Noted) : Type 0
 pub none_more : (first : Option Difference) (field : Option Field) (n : ℕ) → first ≡ None → field ≡ None → first_of_both first field n ≡ None
 none_more first field n h k = ap₂ (λ (a : Option Difference) (b : Option Field). first_of_both a b n) h k
 
-pub good_first : (ms : MasterSettings) (r : Partner ms) → IsPlain ms → Good ms r (first_reset ms ∷ [])
-good_first ms r plain = record {
+pub good_first : (ms : MasterSettings) (r : Partner ms) → Good ms r (first_reset ms ∷ [])
+good_first ms r = record {
   at = at_first ms r;
   sent = (first_runs ms r (first_reset ms)).1;
-  none = none_more None _ _ refl (next_none ms r [] (reset_frame 0 ms.lengths.master) [] end_name.Master plain refl (ResetNext end_name.Master refl refl));
+  none = none_more None _ _ refl (next-none ms r [] (reset_frame 0 ms.lengths.master) end_name.Master refl (reset_is_next ms r [] end_name.Master refl));
 }
 
 -- the next frame is the one that is sent
-pub good_more : (ms : MasterSettings) (r : Partner ms) (x y : Noted) (t : List Noted) → IsPlain ms → (g : Good ms r (y ∷ t)) (m : More ms r x (y ∷ t)) → x ≡ record { from = turn (y ∷ t); frame = m.steps.answers.reaches.entry.sent } → Good ms r (x ∷ y ∷ t)
-good_more ms r x y t plain g m is = record {
+pub good_more : (ms : MasterSettings) (r : Partner ms) (x y : Noted) (t : List Noted) (g : Good ms r (y ∷ t)) (m : More ms r x (y ∷ t)) → x ≡ record { from = turn (y ∷ t); frame = m.steps.answers.reaches.entry.sent } → Good ms r (x ∷ y ∷ t)
+good_more ms r x y t g m is = record {
   at = m.at is;
   sent = m.sent ∙ ap₂ (λ (z : Noted) (u : List Noted). z ∷ u) (sym is) g.sent;
-  none = none_more (first_difference ms.lengths (y ∷ t)) (field_of ms.lengths (y ∷ t) x) _ g.none (ap (field_of ms.lengths (y ∷ t)) is ∙ next_none ms r (y ∷ t) _ _ (turn (y ∷ t)) plain refl m.next);
+  none = none_more (first_difference ms.lengths (y ∷ t)) (field_of ms.lengths (y ∷ t) x) _ g.none (ap (field_of ms.lengths (y ∷ t)) is ∙ next-none ms r (y ∷ t) _ (turn (y ∷ t)) refl m.next);
 }
 
 -- one more frame of a trace, where two ends sent the trace over its schedule and further events
 good-on : (ms : MasterSettings) (r : Partner ms) (x y : Noted) (t : List Noted) (extra : List Event) (later : List Noted) → Accepts ms r → IsPlain ms → length x.frame ≡ frame_len (length_of ms.lengths x.from)
     → sent_in (world ms (partner ms r) (read_schedule ms.lengths (x ∷ y ∷ t) ++ extra)) ≡ later ++ x ∷ y ∷ t → Good ms r (y ∷ t) → Good ms r (x ∷ y ∷ t)
 good-on ms r x y t extra later accepts plain long e g =
-    good_more ms r x y t plain g m (sym (same_frames _ x (y ∷ t) (y ∷ t) (aligned _ (ap₂ (λ (z : Noted) (u : List Noted). z ∷ u) refl g.sent) (next_runs ms r x y t accepts fits g.at.runs).0.whole m.sent)).0)
+    good_more ms r x y t g m (sym (same_head _ x (y ∷ t) (y ∷ t) (aligned _ (ap₂ (λ (z : Noted) (u : List Noted). z ∷ u) refl g.sent) (next_runs ms r x y t accepts fits g.at.runs).whole m.sent)))
   where
     at : End
     at = turn (y ∷ t)
@@ -149,10 +103,10 @@ good-on ms r x y t extra later accepts plain long e g =
         (ap (length {A = Entry}) goes ∙ (s.whole ∙ omega (arith, g.at.runs.whole, length-append log events))) (ap sent_in goes ∙ s.sent)
 
     from-turn : at ≡ x.from
-    from-turn = ap (λ (z : Noted). z.from) (same_frames (record { from = at; frame = s.frame }) x (y ∷ t) (y ∷ t) came).0
+    from-turn = ap (λ (z : Noted). z.from) (same_head (record { from = at; frame = s.frame }) x (y ∷ t) (y ∷ t) came)
 
     fits : length (frame_of (length_of ms.lengths at) x.frame).load ≡ length_of ms.lengths at
-    fits = (whole (length_of ms.lengths at) x.frame (valid_of ms at) (long ∙ ap (λ (e : End). frame_len (length_of ms.lengths e)) (sym from-turn))).load
+    fits = (whole (length_of ms.lengths at) x.frame (valid_at ms.lengths at) (long ∙ ap (λ (e : End). frame_len (length_of ms.lengths e)) (sym from-turn))).load
 
     m : More ms r x (y ∷ t)
     m = more ms r x y t accepts plain fits g.at
@@ -164,9 +118,9 @@ good ms r x [] extra later accepts plain long e =
     let runs = first_runs ms r x in
     let b : Begins (sent_in (world_of ms r (x ∷ []))) (sent_in (world_after ms (partner ms r) extra (world_of ms r (x ∷ [])))) = sent-before ms r extra (world_of ms r (x ∷ [])) in
     let all : b.later ++ first_reset ms ∷ [] ≡ later ++ x ∷ [] = search (rules, world_on) in
-    subst (λ (x : Noted). Good ms r (x ∷ [])) (same_frames (first_reset ms) x [] [] (same-end-of b.later later (first_reset ms ∷ []) (x ∷ []) all refl)).0 (good_first ms r plain)
+    subst (λ (x : Noted). Good ms r (x ∷ [])) (same_head (first_reset ms) x [] [] (same-end-of b.later later (first_reset ms ∷ []) (x ∷ []) all refl)) (good_first ms r)
 good ms r x (y ∷ t) extra later accepts plain long e =
     let events : List Event = events_before ms.lengths (y ∷ t) x.frame in
-    good-on ms r x y t extra later accepts plain long.0 e
-    (good ms r y t (events ++ extra) (later ++ x ∷ []) accepts plain long.1
+    good-on ms r x y t extra later accepts plain (all_long ms.lengths x (y ∷ t) long).0 e
+    (good ms r y t (events ++ extra) (later ++ x ∷ []) accepts plain (all_long ms.lengths x (y ∷ t) long).1
     (ap (λ (log : List Event). sent_in (world ms (partner ms r) log)) (sym (append_assoc (read_schedule ms.lengths (y ∷ t)) events extra)) ∙ (e ∙ sym (append_assoc later (x ∷ []) (y ∷ t)))))

@@ -1,19 +1,22 @@
 -- Which phase the master's next frame is of, by the pieces that it sent.
-use Rattle.trace_diag.proofs.Common.{Command, FirstConnection, FirstParameter, FirstValues, FirstZeros, IsBegun, MasterSettings, MoreConnection, MoreParameter, MoreSession, Profile, State, Turn, all_come, connection_payload, connection_pieces, front, front_begun, front_long, goes_on, id_len, nat_tests, not_yet, number_at, parameter_payload, parameter_pieces, phase_of, pieces_for, session_payload, session_pieces, some_width, width}
+use Rattle.trace_diag.proofs.Common.{Command, FirstConnection, FirstParameter, FirstValues, FirstZeros, IsBegun, MasterSettings, MoreConnection, MoreParameter, MoreSession, Profile, State, Turn, all_come, connection_payload, connection_pieces, front, front_begun, front_long, goes_on, id_len, nat_tests, not_yet, number_at, parameter_payload, parameter_pieces, pay, phase_of, pieces_for, session_payload, session_pieces, some_width, width}
 use Rattle.end_model.specs.Payloads.{whole}
-use Rattle.std.proofs.Common.{◌≡◌, ℕ, ◌+◌, ◌*◌, ◌<◌, ◌≤◌, nat_le, List, [], length, Bool, true, false, refl, ap, subst, ◌∙◌, arith, if◌then◌else◌, rules}
+use Rattle.std.proofs.Common.{◌≡◌, ℕ, ◌+◌, ◌*◌, ◌<◌, ◌≤◌, nat_le, List, length, Bool, true, false, refl, ap, subst, ◌∙◌, arith, if◌then◌else◌, rules}
 use Rattle.fsoe_base.specs.declared.command.State.TheVariants as state
 use Rattle.param_load.specs.declared.profile.Profile.TheVariants as profile
 use Rattle.end_model.proofs.WholeUploads.{by_count}
 use Rattle.exchange_model.proofs.Honest.UploadTests.{parameters_count}
-use Rattle.trace_diag.proofs.MasterRows.{IsPlain}
+use Rattle.trace_diag.proofs.SentRows.{IsPlain}
+
+-- of so many pieces of the three payloads, those of a phase
+abbrev pub pieces_in : State → ℕ → ℕ → ℕ → ℕ
+pieces_in state.Session a b d = a
+pieces_in state.Connection a b d = b
+pieces_in _ a b d = d
 
 -- the first pieces of the payload of a phase, of which so many were sent
 abbrev pub front_in : MasterSettings → State → ℕ → ℕ → ℕ → List ℕ
-front_in ms state.Session a b d = front (session_payload ms.nonce ms.profile) (width ms) a
-front_in ms state.Connection a b d = front (connection_payload ms.conn ms.address) (width ms) b
-front_in ms state.Parameter a b d = front (parameter_payload ms.watchdog ms.profile ms.app) (width ms) d
-front_in ms _ a b d = []
+front_in ms p a b d = front (pay ms ms.nonce p) (width ms) (pieces_in p a b d)
 
 not-done : (n c k : ℕ) (p : List ℕ) → 0 < c → k < pieces_for n c → nat_le n (length (front p c k)) ≡ false
 not-done n c k p h g = let f : k * c < n = not_yet n c k h g in let e = front_long p c k in grind (arith, nat_tests)

@@ -1,15 +1,19 @@
 -- Inputs with traces: a header that is done has valid lengths, frames are from 1 to 255 bytes, and each input has a
 -- report.
-use Rattle.trace_diag.proofs.Common.{All-append, All-cons, All-head, All-nil, All-tail, AreBytes, AreOfBytes, AtEnd, DiagnosisStands, Difference, Ended, EndsWhole, InputCause, IsVerdict, Lengths, Noted, NotesFrame, Refused, ReportsSoFar, Stop, TraceHeading, TraceStands, TraceView, WholeHeaderOf, append-nil, before_more, first_difference, frame_said, header_in, header_read, header_step, heading_new, input_by, input_read, is_length, judge_reporting, length-reverse, lengths_taken, line_taken, lines_of, refused_at, reverse-append, settings_told, steps, trace_format, trace_heading_after, trace_is_whole, trace_line, trace_said, with_room}
-use Rattle.std.proofs.Common.{◌≡◌, ◌<◌, ◌+◌, ◌-◌, ◌^◌, ◌&&◌, ℕ, List, [], ◌∷◌, ◌++◌, length, map, reverse, Bool, true, false, Option, Some, None, IfSome, Result, Ok, Err, IsTrue, refl, sym, ap, subst, ◌∙◌, arith, if◌then◌else◌, rules}
+use Rattle.trace_diag.proofs.Common.{All-append, All-cons, All-head, All-nil, All-tail, AreBytes, AreOfBytes, AtEnd, DiagnosisStands, Difference, Ended, EndsWhole, InputCause, IsVerdict, Lengths, Noted, NotesFrame, Refused, ReportsSoFar, Stop, TraceHeading, TraceStands, TraceView, WholeHeaderOf, append-nil, first_difference, frame_said, header_in, header_read, header_step, heading_new, input_by, input_read, is_length, judge_reporting, length-reverse, lengths_taken, line_taken, lines_of, refused_at, reverse-append, settings_told, trace_format, trace_heading_after, trace_is_whole, trace_line, trace_said}
+use Rattle.std.proofs.Common.{◌≡◌, ◌<◌, ◌+◌, ◌-◌, ◌^◌, ◌&&◌, ℕ, List, [], ◌∷◌, ◌++◌, length, reverse, Bool, true, false, Option, Some, None, IfOk, IfSome, Result, Ok, Err, IsTrue, refl, sym, ap, subst, ◌∙◌, arith, if◌then◌else◌, rules}
 use Rattle.std.specs.Str.{bytes_eq}
+use Rattle.std.proofs.lemmas.Result.{IfOk-at_ok}
 use Rattle.std.specs.Prelude.{codes}
 use Rattle.hex.proofs.HexLemmas.{decode_of-ok}
 use Rattle.hex.specs.Hex.{decode_of}
 use Rattle.hex.specs.declared.error.FromHexError.{FromHexError}
 use Rattle.fsoe_base.specs.declared.lengths.TheConstants.{MOST_FRAME}
+use Rattle.schedule_file.proofs.Fitting.{input_is}
+use Rattle.schedule_file.proofs.Headed.{either}
+use Rattle.schedule_file.proofs.Sound.{each, IfOk-every, IfOk-map}
 use Rattle.schedule_file.specs.Field.{bytes_said, fields_of, some_bytes}
-use Rattle.schedule_file.specs.Fields.{map_ok, by_word, no_field, value_or, ◌>>=◌}
+use Rattle.schedule_file.specs.Fields.{map_ok, by_word, no_field, value_or}
 use Rattle.schedule_file.specs.HeaderLine.{lengths_line}
 use Rattle.schedule_file.specs.declared.header_line.LengthsLine.{LengthsLine}
 use Rattle.schedule_file.specs.declared.line_cause.LineCause.{LineCause}
@@ -24,20 +28,6 @@ use Rattle.trace_diag.specs.declared.verdict.Verdict.{Verdict}
 use Rattle.trace_diag.specs.declared.verdict.Verdict.TheVariants as verdict
 use Rattle.trace_diag.proofs.Theorem.{conforms_where_none, differs_first}
 
--- what holds of what is said, where something is
-abbrev HoldsOf : {A : Type 0} → (A → Type 0) → Result A LineCause → Type 0
-HoldsOf P (Ok x) = P x
-HoldsOf P (Err why) = Unit {0}
-
-then-holds : {A B : Type 0} (P : B → Type 0) (r : Result A LineCause) (f : A → Result B LineCause) → ((x : A) → HoldsOf P (f x)) → HoldsOf P (r >>= f)
-then-holds P r f h = grind arith
-
-map-holds : {A B : Type 0} (Q : A → Type 0) (P : B → Type 0) (f : A → B) (r : Result A LineCause) → HoldsOf Q r → ((x : A) → Q x → P (f x)) → HoldsOf P (map_ok f r)
-map-holds Q P f r h k = grind arith
-
-if-holds : {A : Type 0} (P : A → Type 0) (b : Bool) (x y : Result A LineCause) → HoldsOf P x → HoldsOf P y → HoldsOf P (if b then x else y)
-if-holds P b x y h k = grind arith
-
 -- valid lengths
 abbrev AreValid : ℕ → ℕ → Type 0
 AreValid master slave = IsTrue (is_length master) × IsTrue (is_length slave)
@@ -45,26 +35,22 @@ AreValid master slave = IsTrue (is_length master) × IsTrue (is_length slave)
 abbrev HasLengths : TraceHeading → Type 0
 HasLengths h = AreValid h.master h.slave
 
-valid-if : (m s : ℕ) (a b : Bool) → is_length m ≡ a → is_length s ≡ b → HoldsOf (λ (l : LengthsLine). AreValid l.master l.slave) (if a && b then Ok (record { master = m; slave = s }) else Err cause.Length)
+valid-if : (m s : ℕ) (a b : Bool) → is_length m ≡ a → is_length s ≡ b → IfOk (if a && b then Ok (record { master = m; slave = s }) else Err cause.Length) (λ (l : LengthsLine). AreValid l.master l.slave)
 valid-if m s a b h k = grind arith
 
-lengths-valid : (fields : List (List ℕ)) → HoldsOf (λ (l : LengthsLine). AreValid l.master l.slave) (lengths_line fields)
-lengths-valid fields = search (rules, then-holds, valid-if)
+lengths-valid : (fields : List (List ℕ)) → IfOk (lengths_line fields) (λ (l : LengthsLine). AreValid l.master l.slave)
+lengths-valid fields = search (rules, each, valid-if)
 
-any-holds : {A : Type 0} (r : Result A LineCause) → HoldsOf (λ x. Unit {0}) r
-any-holds r = grind arith
-
-line-holds : (at : Stage) (h : TraceHeading) (text word : List ℕ) (fields : List (List ℕ)) → HasLengths h → HoldsOf HasLengths (line_taken at h text word fields)
-line-holds stage.Start h text word fields k = if-holds HasLengths (bytes_eq text (codes "fsoe 1 trace")) (Ok (record h { stage = stage.Title })) (Err cause.Header) k tt
+line-holds : (at : Stage) (h : TraceHeading) (text word : List ℕ) (fields : List (List ℕ)) → HasLengths h → IfOk (line_taken at h text word fields) HasLengths
+line-holds stage.Start h text word fields k = either (bytes_eq text (codes "fsoe 1 trace")) (Ok (record h { stage = stage.Title })) (Err cause.Header) HasLengths k tt
 line-holds stage.Title h text word fields k =
-    if-holds HasLengths (bytes_eq word (codes "lengths")) (map_ok lengths_taken (lengths_line fields)) (Err cause.Header)
-    (map-holds (λ (l : LengthsLine). AreValid l.master l.slave) HasLengths lengths_taken (lengths_line fields) (lengths-valid fields) (λ l valid. valid)) tt
+    either (bytes_eq word (codes "lengths")) (map_ok lengths_taken (lengths_line fields)) (Err cause.Header) HasLengths (IfOk-map (lengths_line fields) lengths_taken HasLengths (lengths-valid fields)) tt
 line-holds stage.Lengths h text word fields k =
-    if-holds HasLengths (bytes_eq word (codes "go")) (map_ok (λ none. record h { stage = stage.Done }) (no_field fields)) (Err cause.Header)
-    (map-holds (λ x. Unit {0}) HasLengths (λ none. record h { stage = stage.Done }) (no_field fields) (any-holds (no_field fields)) (λ x u. k)) tt
+    either (bytes_eq word (codes "go")) (map_ok (λ none. record h { stage = stage.Done }) (no_field fields)) (Err cause.Header) HasLengths
+    (IfOk-map (no_field fields) (λ none. record h { stage = stage.Done }) HasLengths (IfOk-every (no_field fields) (λ none. HasLengths (record h { stage = stage.Done })) (λ none. k))) tt
 line-holds _ h text word fields k = tt
 
-fields-hold : (h : TraceHeading) (text : List ℕ) (fields : List (List ℕ)) → HasLengths h → HoldsOf HasLengths (by_word cause.Header (line_taken h.stage h text) fields)
+fields-hold : (h : TraceHeading) (text : List ℕ) (fields : List (List ℕ)) → HasLengths h → IfOk (by_word cause.Header (line_taken h.stage h text) fields) HasLengths
 fields-hold h text fields k = search (rules, line-holds)
 
 -- a header that is done has valid lengths, and no input ends in its header
@@ -73,7 +59,7 @@ IsHeaded (Ok headed) = HasLengths headed.heading
 IsHeaded (Err AtEnd) = ⊥
 IsHeaded (Err (Refused number why)) = Unit {0}
 
-step-headed : (number : ℕ) (rest : List (Result (List ℕ) InputCause)) (go_on : TraceHeading → Result (WholeHeaderOf TraceHeading) Stop) (r : Result TraceHeading LineCause) → HoldsOf HasLengths r
+step-headed : (number : ℕ) (rest : List (Result (List ℕ) InputCause)) (go_on : TraceHeading → Result (WholeHeaderOf TraceHeading) Stop) (r : Result TraceHeading LineCause) → IfOk r HasLengths
     → ((h : TraceHeading) → HasLengths h → IsHeaded (go_on h)) → IsHeaded (header_step trace_is_whole number rest go_on r)
 step-headed number rest go_on r k l = grind arith
 
@@ -148,17 +134,6 @@ takes_frame old new x number piece notes none = record {
       };
 }
 
--- what holds of the bytes of a field holds of the frame that a line says
-abbrev IsSaidSo : (List ℕ → Type 0) → TraceLine → Type 0
-IsSaidSo P line = IfSome (frame_said line) (λ x. P x.frame)
-
--- bytes that are said in hexadecimal are such
-abbrev IsFieldSo : (List ℕ → Type 0) → Type 0
-IsFieldSo P = (text : List ℕ) → HoldsOf P (value_or cause.Hex (bytes_said MOST_FRAME text))
-
-said-so : (P : List ℕ → Type 0) (fields : List (List ℕ)) → IsFieldSo P → HoldsOf (IsSaidSo P) (by_word cause.Word trace_said fields)
-said-so P fields h = grind arith
-
 -- there is room for one frame more
 pub few_noted : (v : TraceView) (x : Noted) (number : ℕ) → MayCome (DiagnosisStands v) trace_format x number → v.frames < 2 ^ 64 - 1
 few_noted v x number m = omega (arith, length-reverse m.log)
@@ -181,37 +156,26 @@ pub close_whole : (v : TraceView) (h : TraceHeading) (log : List Noted) (text : 
     → EndsWhole true ended.status ended.place
 close_whole v h log text told ended k l m = grind arith
 
--- frames that lines say are bytes
-some-bytes-are : (text bytes : List ℕ) (b : Bool) → decode_of text ≡ Ok bytes → HoldsOf AreBytes (value_or cause.Hex (if b then Some bytes else None))
+-- the frame that a line says is one of bytes
+some-bytes-are : (text bytes : List ℕ) (b : Bool) → decode_of text ≡ Ok bytes → IfOk (value_or cause.Hex (if b then Some bytes else None)) AreBytes
 some-bytes-are text bytes true e = (decode_of-ok text bytes e).3
 some-bytes-are text bytes false e = tt
 
-decoded-bytes : (text : List ℕ) (r : Result (List ℕ) FromHexError) → decode_of text ≡ r → HoldsOf AreBytes (value_or cause.Hex (some_bytes MOST_FRAME r))
-decoded-bytes text r h = search (rules, some-bytes-are)
+field-bytes : (text : List ℕ) (r : Result (List ℕ) FromHexError) → decode_of text ≡ r → IfOk (value_or cause.Hex (some_bytes MOST_FRAME r)) AreBytes
+field-bytes text r h = search (rules, some-bytes-are)
 
-abbrev AllSaid : List (Result TraceLine LineCause) → Type 0
-AllSaid [] = Unit {0}
-AllSaid (r ∷ said) = HoldsOf (IsSaidSo AreBytes) r × AllSaid said
+line-bytes : (fields : List (List ℕ)) → ((text : List ℕ) → IfOk (value_or cause.Hex (bytes_said MOST_FRAME text)) AreBytes) → IfOk (by_word cause.Word trace_said fields) (λ line. IfSome (frame_said line) (λ x. AreBytes x.frame))
+line-bytes fields h = grind arith
 
-all-said : (lines : List (List ℕ)) → AllSaid (map trace_line lines)
-all-said [] = tt
-all-said (text ∷ lines) = (said-so AreBytes (fields_of text) (λ field. decoded-bytes field (decode_of field) refl), all-said lines)
+frame-bytes : (h : TraceHeading) (text : List ℕ) (line : TraceLine) (x : Noted) → trace_line text ≡ Ok line → frame_said line ≡ Some x → AreBytes x.frame
+frame-bytes h text line x says is =
+    subst (λ (o : Option Noted). IfSome o (λ x. AreBytes x.frame)) is
+    (IfOk-at_ok (λ line. IfSome (frame_said line) (λ x. AreBytes x.frame)) says (line-bytes (fields_of text) (λ field. field-bytes field (decode_of field) refl)))
 
-more-bytes : (o : Option Noted) (more : List Noted) → IfSome o (λ x. AreBytes x.frame) → AreOfBytes more → AreOfBytes (before_more o more)
-more-bytes o more h k = grind arith
-
-steps-bytes : (said : List (Result TraceLine LineCause)) → AllSaid said → AreOfBytes (steps frame_said said)
-steps-bytes (Ok line ∷ said) h = more-bytes (frame_said line) (steps frame_said said) h.0 (steps-bytes said h.1)
-steps-bytes _ h = All-nil (λ x. AreBytes x.frame)
-
-room-if : (full : Bool) (x : Noted) (more : List Noted) → AreBytes x.frame → AreOfBytes more → AreOfBytes (if full then [] else x ∷ more)
-room-if full x more h k = grind arith
-
-room-bytes : (is_full : List Noted → Bool) (log events : List Noted) → AreOfBytes events → AreOfBytes (with_room is_full log events)
-room-bytes is_full log [] all = All-nil (λ x. AreBytes x.frame)
-room-bytes is_full log (x ∷ more) all =
-    room-if (is_full log) x (with_room is_full (log ++ x ∷ []) more) (All-head (λ x. AreBytes x.frame) x more all) (room-bytes is_full (log ++ x ∷ []) more (All-tail (λ x. AreBytes x.frame) x more all))
+any-bytes : (r : Result (WholeHeaderOf TraceHeading) Stop) → IfSome (input_by trace_format r).heading (λ h. AreOfBytes (input_by trace_format r).events) → AreOfBytes (input_by trace_format r).events
+any-bytes (Ok whole) h = h
+any-bytes (Err stop) h = All-nil (λ x. AreBytes x.frame)
 
 -- the frames of an input are bytes
 pub input_bytes : (bytes : List ℕ) → AreOfBytes (input_read trace_format bytes).events
-input_bytes bytes = search (rules, room-bytes, steps, steps-bytes, all-said)
+input_bytes bytes = any-bytes (header_read trace_format bytes) (input_is trace_format (λ h x. AreBytes x.frame) frame-bytes (header_read trace_format bytes))

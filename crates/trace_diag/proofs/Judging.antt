@@ -1,5 +1,5 @@
 -- The judge of a trace stands for the frames that were noted, and its verdict is that on them.
-use Rattle.trace_diag.proofs.Common.{All-cons, AreBytes, AreOfBytes, Before, Difference, DiffersFirst, End, Field, IsConforming, KnowsUnless, Lengths, Noted, NotesFrame, TraceStands, TraceView, before, field_by, field_of, first_difference, first_of_both, frame_of, kept_from, length_of, piece_len, settings_by, turn}
+use Rattle.trace_diag.proofs.Common.{All-cons, AreBytes, Before, Difference, DiffersFirst, End, Field, IsConforming, KnowsUnless, Lengths, Noted, NotesFrame, TraceStands, TraceView, before, field_by, field_of, first_difference, first_of_both, frame_of, kept_from, length_of, piece_len, settings_by, turn}
 use Rattle.std.proofs.Common.{◌≡◌, ℕ, ◌+◌, List, [], ◌∷◌, length, take, Option, Some, None, is_some, false, refl, sym, ap, ap₂, subst, ◌∙◌, arith, rules}
 use Rattle.trace_diag.specs.declared.verdict.ReadOff.{ReadOff}
 use Rattle.trace_diag.proofs.Keeping.{kept_goes}
@@ -11,9 +11,6 @@ use Rattle.trace_diag.proofs.Theorem.{conforms_where_none, differs_first}
 -- no frame was noted
 pub none_noted : (lengths : Lengths) (known : Before) → known ≡ before lengths [] → TraceStands lengths [] (record { lengths = lengths; frames = 0; differs = None; known = known })
 none_noted lengths known is = record { lengths_are = refl; count = refl; bytes = λ i d h. absurd (omega (arith, h)); first = refl; knows = is }
-
-bytes-and : (x : Noted) (t : List Noted) → AreBytes x.frame → AreOfBytes t → AreOfBytes (x ∷ t)
-bytes-and x t h all = All-cons (λ x. AreBytes x.frame) x t h all
 
 pub none_where : (o : Option Difference) → is_some o ≡ false → o ≡ None
 none_where o h = grind arith
@@ -36,7 +33,7 @@ noted_right old x known are differs field goes = record {
       record {
         lengths_are = s.lengths_are;
         count = ap (λ (n : ℕ). n + 1) s.count ∙ omega arith;
-        bytes = bytes-and x t are s.bytes;
+        bytes = All-cons (λ x. AreBytes x.frame) x t are s.bytes;
         first = differs ∙ ap₂ (λ (o : Option Difference) (field : Option Field). first_of_both o field (length t + 1)) (sym none) (sym here);
         knows = subst (λ (o : Option Difference). KnowsUnless o lengths (x ∷ t) known) (sym differs)
             (goes

@@ -1,13 +1,14 @@
 -- What is kept of a trace is what looking back over it says, with one more frame that is as it must be too.
 use Rattle.trace_diag.proofs.Common.{Before, Chain, Command, End, Frame, Lengths, Noted, State, before, chain_after, chain_of, chain_with, command_byte, conn_in, conn_with, connection_from, connection_with, first_conn, frame_of, frames_from, fresh, goes_on, has_command, kept_from, length_of, newest_load, newest_piece, option_or, parameters_from, parameters_with, payload_from, peer, phase_due, phase_from, phase_of, phase_of_frame, phase_when, piece_asked, piece_len, piece_of, piece_place, place_when, same_end, same_itself, same_phase, turn, whole}
-use Rattle.std.proofs.Common.{◌≡◌, ℕ, ◌+◌, ◌<◌, ◌≤◌, List, [], ◌∷◌, ◌++◌, length, take, drop, Bool, true, Option, refl, sym, ap, ap₂, ◌∙◌, arith, if◌then◌else◌, rules}
+use Rattle.std.proofs.Common.{◌≡◌, ℕ, ◌+◌, ◌<◌, ◌≤◌, List, [], ◌∷◌, ◌++◌, length, take, drop, Bool, Option, refl, sym, ap, ap₂, ◌∙◌, arith, if◌then◌else◌, rules}
 use Rattle.fsoe_base.specs.declared.command.Command.TheVariants as command
 use Rattle.fsoe_base.specs.declared.command.End.TheVariants as end_name
 use Rattle.fsoe_base.specs.declared.command.State.TheVariants as state
 use Rattle.trace_diag.proofs.Heads.{head_of, HasHead}
 use Rattle.trace_diag.proofs.NoField.{IsInTurn}
-use Rattle.trace_diag.proofs.PayloadRows.{due_is, is_from, same_end_is, IsFrom}
+use Rattle.trace_diag.proofs.PayloadRows.{due_is, is_from, master_place, same_end_is, IsFrom}
 use Rattle.trace_diag.proofs.RowsHold.{piece_long, AllInTurn}
+use Rattle.trace_diag.proofs.SentRows.{same_state, CarriesOwn}
 
 -- the phases in order
 abbrev rank : State → ℕ
@@ -68,9 +69,9 @@ chain-more lengths t which x from h =
     ∙ (chain-is lengths (chain_of lengths t) which head.command head.tail
     ∙ ap₂ (λ (p : State) (bytes : List ℕ). chain_after p (chain_of lengths t) which (frame_of (length_of lengths which) bytes)) (sym head.due) (sym head.is))
 
-payload-mine : (lengths : Lengths) (phase : State) (x : Noted) (t : List Noted) → x.from ≡ end_name.Master → payload_from lengths end_name.Master phase (x ∷ t)
-    ≡ (if same_phase phase (phase_of_frame x.frame) then payload_from lengths end_name.Master phase t ++ take (piece_len lengths) (frame_of lengths.master x.frame).load else payload_from lengths end_name.Master phase t)
-payload-mine lengths phase x t h = grind arith
+payload-mine : (lengths : Lengths) (phase p : State) (x : Noted) (t : List Noted) → x.from ≡ end_name.Master → phase_of_frame x.frame ≡ p → payload_from lengths end_name.Master phase (x ∷ t)
+    ≡ (if same_phase phase p then payload_from lengths end_name.Master phase t ++ take (piece_len lengths) (frame_of lengths.master x.frame).load else payload_from lengths end_name.Master phase t)
+payload-mine lengths phase p x t h k = grind arith
 
 payload-theirs : (lengths : Lengths) (phase : State) (x : Noted) (t : List Noted) → x.from ≡ end_name.Slave → payload_from lengths end_name.Master phase (x ∷ t) ≡ payload_from lengths end_name.Master phase t
 payload-theirs lengths phase x t h = grind arith
@@ -96,37 +97,28 @@ master-kept lengths x t from h =
     ∙ (ap (λ (bytes : List ℕ). option_or (first_conn lengths.master (frames_from end_name.Master t)) (conn_in lengths.master bytes)) head.is
     ∙ (conn-is lengths.master head.command head.tail (first_conn lengths.master (frames_from end_name.Master t)) f.conn (ap (λ (bytes : List ℕ). (frame_of lengths.master bytes).conn) (sym head.is))
     ∙ ap (λ (p : State). conn_with p (first_conn lengths.master (frames_from end_name.Master t)) f.conn) (sym head.due))))
-    (ap (take 4) (payload-mine lengths state.Connection x t from)
-    ∙ (ap (λ (p : State). take 4 (if same_phase state.Connection p then connection_from lengths t ++ take (piece_len lengths) f.load else connection_from lengths t)) of-phase ∙ connection-is p (connection_from lengths t) (take (piece_len lengths) f.load)))
-    (ap (take 6) (payload-mine lengths state.Parameter x t from)
-    ∙ (ap (λ (p : State). take 6 (if same_phase state.Parameter p then parameters_from lengths t ++ take (piece_len lengths) f.load else parameters_from lengths t)) of-phase ∙ parameters-are p (parameters_from lengths t) (take (piece_len lengths) f.load)))
+    (ap (take 4) (payload-mine lengths state.Connection p x t from of-phase) ∙ connection-is p (connection_from lengths t) (take (piece_len lengths) f.load))
+    (ap (take 6) (payload-mine lengths state.Parameter p x t from of-phase) ∙ parameters-are p (parameters_from lengths t) (take (piece_len lengths) f.load))
     (ap₂ (λ (p : State) (e : End). piece_asked lengths (x ∷ t) p e) due turned-to
     ∙ piece-is lengths (x ∷ t) p (take (piece_len lengths) f.load) (ap (λ (frames : List (List ℕ)). take (piece_len lengths) (newest_load lengths.master frames)) (frames-mine x t from)))
     (chain-more lengths t end_name.Master x from h)
 
-own-phase : (p : State) → same_phase p p ≡ true
-own-phase p = grind arith
-
 -- the bytes of the payload in hand, with the piece that is answered
-came-long : (lengths : Lengths) (y : Noted) (t : List Noted) (p : State) → IsFrom lengths t end_name.Master y → y.from ≡ end_name.Master → phase_of_frame y.frame ≡ p → rank state.Reset < rank p → rank p < rank state.Data
+came-long : (lengths : Lengths) (y : Noted) (t : List Noted) (p : State) → IsFrom lengths t end_name.Master y → y.from ≡ end_name.Master → phase_of_frame y.frame ≡ p
     → length (payload_from lengths end_name.Master p (y ∷ t)) ≡ length (payload_from lengths end_name.Master p t) + piece_len lengths
-came-long lengths y t p h from of-phase some few =
-    ap (length {A = ℕ}) (payload-mine lengths p y t from)
-    ∙ (piece_long lengths end_name.Master y (payload_from lengths end_name.Master p t) (same_phase p (phase_of_frame y.frame)) (whole lengths.master y.frame lengths.valid_master h.long).load
-    ∙ ap (λ (b : Bool). length (payload_from lengths end_name.Master p t) + (if b then piece_len lengths else 0)) (ap (same_phase p) of-phase ∙ own-phase p))
+came-long lengths y t p h from of-phase =
+    ap (length {A = ℕ}) (payload-mine lengths p p y t from of-phase)
+    ∙ (piece_long lengths end_name.Master y (payload_from lengths end_name.Master p t) (same_phase p p) (whole lengths.master y.frame lengths.valid_master h.long).load
+    ∙ ap (λ (b : Bool). length (payload_from lengths end_name.Master p t) + (if b then piece_len lengths else 0)) (same_state p))
 
-goes-by : (p : State) (u : List ℕ) (n : ℕ) (v : List ℕ) → (rank state.Reset < rank p → rank p < rank state.Data → length u ≡ n) → (p ≡ state.Parameter → take 6 u ≡ v) → goes_on p u ≡ phase_when p n v
+goes-by : (p : State) (u : List ℕ) (n : ℕ) (v : List ℕ) → (CarriesOwn end_name.Master p → length u ≡ n) → (p ≡ state.Parameter → take 6 u ≡ v) → goes_on p u ≡ phase_when p n v
 goes-by p u n v h k = search rules
 
-placed-by : (p : State) (place : State → ℕ) (n : ℕ) (v : List ℕ) → (rank state.Reset < rank p → rank p < rank state.Data → place p ≡ n) → ((q : State) → rank p < rank q → place q ≡ 0) → place state.Data ≡ 0 → place (phase_when p n v) ≡ place_when p n v
+placed-by : (p : State) (place : State → ℕ) (n : ℕ) (v : List ℕ) → (CarriesOwn end_name.Master p → place p ≡ n) → ((q : State) → rank p < rank q → place q ≡ 0) → place state.Data ≡ 0 → place (phase_when p n v) ≡ place_when p n v
 placed-by p place n v h k l = grind arith
 
--- in a handshake the place of the master's next piece is the length of what came
-master-place : (lengths : Lengths) (t : List Noted) (p : State) → rank state.Reset < rank p → rank p < rank state.Data → piece_place lengths t p end_name.Master ≡ length (payload_from lengths end_name.Master p t)
-master-place lengths t p h k = grind arith
-
-slave-place : (lengths : Lengths) (t : List Noted) (p : State) → rank state.Reset < rank p → rank p < rank state.Data → piece_place lengths t p end_name.Slave ≡ length (payload_from lengths end_name.Master p (drop 1 t))
-slave-place lengths t p h k = grind arith
+slave-place : (lengths : Lengths) (t : List Noted) (p : State) → CarriesOwn end_name.Master p → piece_place lengths t p end_name.Slave ≡ length (payload_from lengths end_name.Master p (drop 1 t))
+slave-place lengths t p own = grind arith
 
 none-placed : (lengths : Lengths) (t : List Noted) (q : State) → payload_from lengths end_name.Master q t ≡ [] → piece_place lengths t q end_name.Master ≡ 0
 none-placed lengths t q h = grind arith
@@ -143,13 +135,13 @@ slave-kept lengths x y t from h y-from y-is none =
     let p : State = phase_due lengths (y ∷ t) in
     let of-phase : phase_of_frame y.frame ≡ p = ap (λ (e : End). phase_from lengths (y ∷ t) e (phase_of_frame y.frame)) (sym h.turn_is) in
     let theirs : (phase : State) → payload_from lengths end_name.Master phase (x ∷ y ∷ t) ≡ payload_from lengths end_name.Master phase (y ∷ t) = λ phase. payload-theirs lengths phase x (y ∷ t) from in
-    let long : rank state.Reset < rank p → rank p < rank state.Data → length (payload_from lengths end_name.Master p (x ∷ y ∷ t)) ≡ k.place + c = search (rules, came-long, piece_place, slave-place) in
+    let long : CarriesOwn end_name.Master p → length (payload_from lengths end_name.Master p (x ∷ y ∷ t)) ≡ k.place + c = search (rules, came-long, piece_place, slave-place) in
     let six : p ≡ state.Parameter → take 6 (payload_from lengths end_name.Master p (x ∷ y ∷ t)) ≡ k.parameters = λ is. ap (take 6) (theirs p) ∙ ap (λ (p : State). take 6 (payload_from lengths end_name.Master p (y ∷ t))) is in
     let due : phase_due lengths (x ∷ y ∷ t) ≡ phase_when p (k.place + c) k.parameters = due-after lengths (y ∷ t) end_name.Slave x h ∙ goes-by p (payload_from lengths end_name.Master p (x ∷ y ∷ t)) (k.place + c) k.parameters long six in
     let turned-to : turn (x ∷ y ∷ t) ≡ end_name.Master = ap peer h.turn_is in
     same-kept (before lengths (x ∷ y ∷ t)) (kept_from c k end_name.Slave (frame_of lengths.slave x.frame)) turned-to due
     (ap₂ (λ (p : State) (e : End). piece_place lengths (x ∷ y ∷ t) p e) due turned-to
-    ∙ placed-by p (λ p. piece_place lengths (x ∷ y ∷ t) p end_name.Master) (k.place + c) k.parameters (λ some few. master-place lengths (x ∷ y ∷ t) p some few ∙ long some few) (λ q less. none-placed lengths (x ∷ y ∷ t) q (theirs q ∙ none q less)) refl)
+    ∙ placed-by p (λ p. piece_place lengths (x ∷ y ∷ t) p end_name.Master) (k.place + c) k.parameters (λ own. master_place lengths (x ∷ y ∷ t) p own ∙ long own) (λ q less. none-placed lengths (x ∷ y ∷ t) q (theirs q ∙ none q less)) refl)
     (ap (first_conn lengths.master) (frames-theirs x (y ∷ t) from))
     (ap (take 4) (theirs state.Connection))
     (ap (take 6) (theirs state.Parameter))

@@ -4,12 +4,9 @@ pub mod Frames
 pub mod NoneApplies
 pub mod PieceRows
 pub mod EchoSteps
-pub mod PieceBack
 pub mod ReadBytes
 pub mod NoField
-pub mod MasterRows
-pub mod SlaveRows
-pub mod RowsBack
+pub mod SentRows
 pub mod Nonces
 pub mod Running
 pub mod Answering
@@ -33,7 +30,6 @@ pub mod Settling
 pub mod Theorem
 pub mod Judging
 pub mod Conforming
-pub mod AnswersBack
 pub mod Inputs
 pub mod Reported
 pub mod Common

@@ -1,7 +1,7 @@
 -- The world over the schedule of a trace: one frame for each of the trace, each from the end whose turn it is, and
 -- after them the last is on its way.
-use Rattle.trace_diag.proofs.Common.{Accepts, AtIdle, End, Enters, Entry, Event, IsProperEvent, MasterSettings, Noted, OfMaster, Partner, answer_events, command_in, first_tick, frame_of, going_on, length-append, length-replicate, length_of, partner, peer, read_schedule, reset_frame, sent_in, step, turn, world, world_after, world_on}
-use Rattle.std.proofs.Common.{◌≡◌, ℕ, suc, ◌-◌, ◌<◌, nat_le, List, [], ◌∷◌, length, replicate, true, Option, Some, refl, sym, ap, subst, ◌∙◌, arith, rules}
+use Rattle.trace_diag.proofs.Common.{same_Some, Accepts, AtIdle, End, Enters, Entry, Event, IsProperEvent, MasterSettings, Noted, OfMaster, Partner, answer_events, command_in, first_tick, frame_of, going_on, length-append, length-replicate, length_of, partner, peer, read_schedule, reset_frame, sent_in, step, turn, world, world_after, world_on}
+use Rattle.std.proofs.Common.{◌≡◌, ℕ, suc, ◌-◌, ◌<◌, nat_le, List, [], ◌∷◌, length, replicate, true, Option, refl, sym, ap, subst, ◌∙◌, arith, rules}
 use Rattle.fsoe_base.specs.declared.command.End.TheVariants as end_name
 use Rattle.param_load.specs.declared.entry.Move.TheVariants as move
 use Rattle.schedule_file.specs.declared.event.Event.TheVariants as event
@@ -14,11 +14,6 @@ pub record Runs (ms : MasterSettings) (r : Partner ms) (t : List Noted) : Type 0
   pub whole : length (world ms (partner ms r) (read_schedule ms.lengths t)) ≡ length (read_schedule ms.lengths t)
   pub on : IsOn ms r (world ms (partner ms r) (read_schedule ms.lengths t)) (turn t)
 
--- the frames that were sent are those before and one more, of the end whose turn it is
-pub record SendsOneMore (ms : MasterSettings) (r : Partner ms) (x : Noted) (t : List Noted) : Type 0 where
-  pub frame : List ℕ
-  pub sent : sent_in (world ms (partner ms r) (read_schedule ms.lengths (x ∷ t))) ≡ record { from = turn t; frame = frame } ∷ sent_in (world ms (partner ms r) (read_schedule ms.lengths t))
-
 ticks : (w : ℕ) → 0 < w → nat_le w (suc (w - 1)) ≡ true
 ticks w h = grind arith
 
@@ -29,9 +24,6 @@ idle ms r = record { outside = record { master = fresh; slave = fresh; no_id = r
 first-entry : (ms : MasterSettings) (x : Entry) → entry_of (OfMaster ms) [] (step (OfMaster ms) [] move.Tick) ≡ x → sent_in (x ∷ []) ≡ record { from = end_name.Master; frame = reset_frame 0 ms.lengths.master } ∷ []
 first-entry ms x h = search rules
 
-some-is : (a b : Entry) → Some a ≡ Some b → a ≡ b
-some-is a b e = cc
-
 pub first_runs : (ms : MasterSettings) (r : Partner ms) (x : Noted) → Runs ms r (x ∷ []) × (sent_in (world ms (partner ms r) (read_schedule ms.lengths (x ∷ []))) ≡ record { from = end_name.Master; frame = reset_frame 0 ms.lengths.master } ∷ [])
 first_runs ms r x =
     let first = first_tick ms r [] (ticks ms.watchdog ms.some_watchdog) refl (idle ms r) in
@@ -39,7 +31,7 @@ first_runs ms r x =
     let enters : Enters ms r [] (event.Tick end_name.Master) y = first.1 in
     let goes : world ms (partner ms r) (event.Tick end_name.Master ∷ []) ≡ y ∷ [] = ap (λ (e : Option Entry). going_on [] e (world_after ms (partner ms r) [])) enters.is in (
       assumption (ap (length {A = Entry}) goes, subst (λ (w : List Entry). IsOn ms r w end_name.Slave) (sym goes) (record { is_world = (enters.follows, tt); stage = first.3 })),
-      ap sent_in goes ∙ first-entry ms y (some-is (entry_of (OfMaster ms) [] (step (OfMaster ms) [] move.Tick)) y enters.is),
+      ap sent_in goes ∙ first-entry ms y (same_Some (entry_of (OfMaster ms) [] (step (OfMaster ms) [] move.Tick)) y enters.is),
     )
 
 -- a put of as many bytes as an end sends is proper
@@ -62,15 +54,12 @@ steps ms r x y t accepts fits runs =
     record { answers = answers; goes = world_on ms (partner ms r) log (answer_events at l x.frame) runs.whole ∙ answers.reaches.is }
 
 pub next_runs : (ms : MasterSettings) (r : Partner ms) (x y : Noted) (t : List Noted) → Accepts ms r → length (frame_of (length_of ms.lengths (turn (y ∷ t))) x.frame).load ≡ length_of ms.lengths (turn (y ∷ t))
-    → Runs ms r (y ∷ t) → Runs ms r (x ∷ y ∷ t) × SendsOneMore ms r x (y ∷ t)
+    → Runs ms r (y ∷ t) → Runs ms r (x ∷ y ∷ t)
 next_runs ms r x y t accepts fits runs =
     let at : End = turn (y ∷ t) in
     let s : Steps ms r x (y ∷ t) = steps ms r x y t accepts fits runs in
-    let reaches = s.answers.reaches in
-    let events : List Event = answer_events at (length_of ms.lengths at) x.frame in (
-      record {
-        whole = ap (length {A = Entry}) s.goes ∙ (reaches.whole ∙ (let all = length-append (read_schedule ms.lengths (y ∷ t)) events in omega (arith, runs.whole, all)));
-        on = subst (λ (w : List Entry). IsOn ms r w (peer at)) (sym s.goes) reaches.on;
-      },
-      record { frame = reaches.entry.sent; sent = ap sent_in s.goes ∙ reaches.sent },
-    )
+    let events : List Event = answer_events at (length_of ms.lengths at) x.frame in
+    record {
+      whole = ap (length {A = Entry}) s.goes ∙ (s.answers.reaches.whole ∙ (let all = length-append (read_schedule ms.lengths (y ∷ t)) events in omega (arith, runs.whole, all)));
+      on = subst (λ (w : List Entry). IsOn ms r w (peer at)) (sym s.goes) s.answers.reaches.on;
+    }

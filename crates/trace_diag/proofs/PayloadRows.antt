@@ -1,20 +1,14 @@
 -- Where no row of the table applies to the frames of a trace, each byte of its payloads may stand where it stands.
-use Rattle.trace_diag.proofs.Common.{Before, Command, End, Frame, Lengths, Noted, State, before, cases_lt, command_in, command_of, first_failing, frame_at, frame_len, frame_of, get_or-append-add, get_or-take, get_or_append_left, is_length, is_of, length-append, length-take, length_of, parameter_holds, parameters_from, payload_holds, phase_due, phase_of, phase_of_frame, piece_holds, piece_len, piece_place, same_end, turn, wrong_byte, wrong_in_piece}
-use Rattle.std.proofs.Common.{◌≡◌, ℕ, ◌+◌, ◌-◌, ◌<◌, ◌≤◌, List, ◌++◌, length, take, Bool, true, Option, Some, IsTrue, sym, ap, ap₂, ◌∙◌, arith, inl, inr, rules}
+use Rattle.trace_diag.proofs.Common.{Before, Command, End, Frame, Lengths, Noted, State, before, cases_lt, command_in, command_of, first_failing, frame_at, frame_len, frame_of, get_or-append-add, get_or-take, get_or_append_left, is_length, is_of, length-append, length-take, length_of, parameter_holds, parameters_from, payload_from, payload_holds, phase_due, phase_of, phase_of_frame, piece_holds, piece_len, piece_place, same_end, turn, wrong_byte, wrong_in_piece}
+use Rattle.std.proofs.Common.{◌≡◌, ℕ, ◌+◌, ◌-◌, ◌<◌, ◌≤◌, List, ◌++◌, length, take, Bool, true, Option, Some, None, IsTrue, sym, ap, ap₂, ◌∙◌, arith, inl, inr, rules}
 use Rattle.fsoe_base.specs.declared.command.End.TheVariants as end_name
-use Rattle.fsoe_base.specs.declared.command.State.TheVariants as state
 use Rattle.trace_diag.proofs.NoField.{IsInTurn, IsRight}
-use Rattle.trace_diag.proofs.NoneApplies.{none_fails, AllHold}
-use Rattle.trace_diag.proofs.PieceBack.{hold_at}
-use Rattle.trace_diag.proofs.PieceRows.{at}
+use Rattle.trace_diag.proofs.NoneApplies.{at, none_fails}
+use Rattle.trace_diag.proofs.SentRows.{CarriesOwn}
 
 -- what the rows of the parameters look at: the bytes up to theirs, of the first six
 pub parameter_same : (u v : List ℕ) (i b : ℕ) → ((k : ℕ) → k ≤ i → k < 6 → at u k ≡ at v k) → parameter_holds u i b ≡ parameter_holds v i b
 parameter_same u v i b h = search rules
-
--- the first six bytes are enough
-pub six_enough : (u part : List ℕ) (k : ℕ) → k < 6 → at (take 6 u ++ part) k ≡ at (u ++ part) k
-six_enough u part k h = grind arith
 
 -- a byte of two lists
 pub at_front : (u part : List ℕ) (i : ℕ) → i < length u → at (u ++ part) i ≡ at u i
@@ -69,27 +63,23 @@ of_phase_due phase o h = grind arith
 pub due_is : (lengths : Lengths) (t : List Noted) (which : End) (x : Noted) → IsFrom lengths t which x → phase_due lengths t ≡ phase_of_frame x.frame
 due_is lengths t which x h = search (rules, command_read)
 
--- the bytes of a piece hold where they stand
-pub piece_bytes : (c from conn : ℕ) (phase : State) (u load : List ℕ) → AllHold (piece_holds c (payload_holds phase conn u) from) 0 load → (j : ℕ) → j < c → j < length load → payload_holds phase conn u (from + j) (at load j) ≡ true
-piece_bytes c from conn phase u load h j k l = search (rules, hold_at)
-
--- of a frame of a handshake that carries a piece of its end's own payload
-abbrev pub CarriesOwn : End → State → Type 0
-CarriesOwn end_name.Master state.Session = Unit {0}
-CarriesOwn end_name.Master state.Connection = Unit {0}
-CarriesOwn end_name.Master state.Parameter = Unit {0}
-CarriesOwn end_name.Slave state.Session = Unit {0}
-CarriesOwn which phase = ⊥
-
 own-piece : (c : ℕ) (k : Before) (which : End) (phase : State) (f : Frame) → CarriesOwn which phase → wrong_byte c k which phase f ≡ wrong_in_piece c k phase f
 own-piece c k which phase f h = grind arith
+
+-- the bytes of a piece hold where they stand
+in-piece : (c from : ℕ) (holds : ℕ → ℕ → Bool) (load : List ℕ) → first_failing (piece_holds c holds from) 0 load ≡ None → (j : ℕ) → j < c → j < length load → holds (from + j) (at load j) ≡ true
+in-piece c from holds load none j within there = search (rules, none_fails)
 
 pub own_bytes : (lengths : Lengths) (t : List Noted) (which : End) (phase : State) (x : Noted) → CarriesOwn which phase → IsFrom lengths t which x → phase_of_frame x.frame ≡ phase → (j : ℕ) → j < piece_len lengths → j < length (frame_of (length_of lengths which) x.frame).load
     → payload_holds phase (frame_of (length_of lengths which) x.frame).conn (take 6 (parameters_from lengths t) ++ take (piece_len lengths) (frame_of (length_of lengths which) x.frame).load) (piece_place lengths t phase which + j) (at (frame_of (length_of lengths which) x.frame).load j) ≡ true
 own_bytes lengths t which phase x own h of-phase =
     let f : Frame = frame_of (length_of lengths which) x.frame in
+    let holds : ℕ → ℕ → Bool = payload_holds phase f.conn (take 6 (parameters_from lengths t) ++ take (piece_len lengths) f.load) in
     let due : phase_due lengths t ≡ phase = due_is lengths t which x h ∙ of-phase in
-    piece_bytes (piece_len lengths) (piece_place lengths t phase which) f.conn phase (take 6 (parameters_from lengths t) ++ take (piece_len lengths) f.load) f.load
-    (none_fails (piece_holds (piece_len lengths) (payload_holds phase f.conn (take 6 (parameters_from lengths t) ++ take (piece_len lengths) f.load)) (piece_place lengths t phase which)) 0 f.load
-    (ap₂ (λ (p : State) (e : End). first_failing (piece_holds (piece_len lengths) (payload_holds phase f.conn (take 6 (parameters_from lengths t) ++ take (piece_len lengths) f.load)) (piece_place lengths t p e)) 0 f.load) (sym due) (sym h.turn_is)
-    ∙ (sym (own-piece (piece_len lengths) (before lengths t) which phase f own) ∙ (ap (λ (p : State). wrong_byte (piece_len lengths) (before lengths t) which p f) (sym due) ∙ h.right.bytes))))
+    in-piece (piece_len lengths) (piece_place lengths t phase which) holds f.load
+    (ap₂ (λ (p : State) (e : End). first_failing (piece_holds (piece_len lengths) holds (piece_place lengths t p e)) 0 f.load) (sym due) (sym h.turn_is)
+    ∙ (sym (own-piece (piece_len lengths) (before lengths t) which phase f own) ∙ (ap (λ (p : State). wrong_byte (piece_len lengths) (before lengths t) which p f) (sym due) ∙ h.right.bytes)))
+
+-- the next piece of the master stands where those end that came
+pub master_place : (lengths : Lengths) (t : List Noted) (phase : State) → CarriesOwn end_name.Master phase → piece_place lengths t phase end_name.Master ≡ length (payload_from lengths end_name.Master phase t)
+master_place lengths t phase own = grind arith

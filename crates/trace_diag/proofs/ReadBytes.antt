@@ -3,7 +3,8 @@
 use Rattle.trace_diag.proofs.Common.{AreBytes, byte_or, connection_holds, connection_payload, eqb-true, get_or-drop, get_or-take, get_or_past, id_holds, le-ltb, length-take, lt-ltb, number_at, padded, padded_len, parameter_holds, parameter_payload, session_payload, word_or}
 use Rattle.std.proofs.Common.{◌≡◌, ℕ, zero, suc, ◌+◌, ◌-◌, ◌*◌, ◌/◌, ◌%◌, ◌==◌, ◌<◌, ◌≤◌, nat_lt, List, length, take, drop, Bool, true, false, ◌||◌, refl, sym, ap, ap₂, ◌∙◌, arith, ◌⊎◌, inl, inr, if◌then◌else◌, rules}
 use Rattle.param_load.specs.declared.profile.Profile.TheVariants as profile
-use Rattle.trace_diag.proofs.PieceRows.{at, at_followed, past_count}
+use Rattle.trace_diag.proofs.NoneApplies.{at}
+use Rattle.trace_diag.proofs.PieceRows.{at_followed, past_count}
 
 -- a byte that is reached
 reached : (missing i : ℕ) (u : List ℕ) → i < length u → byte_or missing i u ≡ at u i

@@ -1,17 +1,17 @@
 -- The settings that are read off a trace to which no row of the table applies: there are such settings, and the bytes
 -- of its payloads are theirs.
-use Rattle.trace_diag.proofs.Common.{Accepts, AreBytes, AreOfBytes, AreReadOff, Lengths, MasterSettings, Noted, Partner, connection_from, connection_payload, eq-eqb, first_conn, frames_from, le-leb, parameter_holds, parameter_payload, parameters_from, partner, payload_from, read_address, read_app, read_app_len, read_conn, read_id, read_watchdog, session_payload, word_or}
-use Rattle.std.proofs.Common.{◌≡◌, ℕ, ◌<◌, ◌≤◌, nat_le, List, length, true, Option, Some, None, unwrap_or, refl, sym, ap, subst, arith, rules}
+use Rattle.trace_diag.proofs.Common.{Accepts, AreBytes, AreOfBytes, AreReadOff, End, Lengths, MasterSettings, Noted, Partner, State, connection_from, connection_payload, eq-eqb, first_conn, frames_from, get_or_append_left, le-leb, length-append, parameter_holds, parameter_payload, parameters_from, partner, payload_from, phase_of_frame, read_address, read_app, read_app_len, read_conn, read_id, read_watchdog, same_end, same_phase, session_payload, word_or}
+use Rattle.std.proofs.Common.{◌≡◌, ℕ, ◌<◌, ◌≤◌, ◌∙◌, nat_le, List, ◌∷◌, ◌++◌, length, Bool, true, if◌then◌else◌, Option, Some, None, unwrap_or, refl, sym, ap, subst, arith, rules}
 use Rattle.fsoe_base.specs.declared.command.End.TheVariants as end_name
 use Rattle.fsoe_base.specs.declared.command.State.TheVariants as state
 use Rattle.param_load.specs.declared.app_rule.AppRule.TheVariants as rule
 use Rattle.param_load.specs.declared.profile.Profile.TheVariants as profile
-use Rattle.trace_diag.proofs.MasterRows.{IsPlain}
-use Rattle.trace_diag.proofs.PayloadBytes.{payload_bytes, AllLong}
+use Rattle.trace_diag.proofs.NoneApplies.{at}
+use Rattle.trace_diag.proofs.PayloadBytes.{conn_stays, payload_bytes, payload_grows, AllLong}
 use Rattle.trace_diag.proofs.PayloadRows.{AllAt}
-use Rattle.trace_diag.proofs.PieceRows.{at}
 use Rattle.trace_diag.proofs.ReadBytes.{app_long, connection_read, id_read, parameters_read}
 use Rattle.trace_diag.proofs.RowsHold.{RowsHold}
+use Rattle.trace_diag.proofs.SentRows.{payload_of, CarriesOwn, IsPlain}
 
 pub word_most : (missing i : ℕ) (u : List ℕ) → AreBytes u → missing < 256 → word_or missing i u ≤ 65535
 word_most missing i u h k = grind arith
@@ -27,13 +27,38 @@ app-most u h k = grind arith
 conn-some : (o : Option ℕ) → ((conn : ℕ) → o ≡ Some conn → 0 < conn) → 0 < unwrap_or o 1
 conn-some o h = grind arith
 
+-- bytes that came of a payload
+abbrev pub BeginsAs : List ℕ → List ℕ → Type 0
+BeginsAs u p = (i : ℕ) → i < length u → at u i ≡ at p i
+
 -- the bytes of the payloads of a trace are those of settings
 pub record Read (ms : MasterSettings) (r : Partner ms) (t : List Noted) : Type 0 where
-  pub session : (i : ℕ) → i < length (payload_from ms.lengths end_name.Master state.Session t) → at (payload_from ms.lengths end_name.Master state.Session t) i ≡ at (session_payload ms.nonce ms.profile) i
-  pub connection : (i : ℕ) → i < length (payload_from ms.lengths end_name.Master state.Connection t) → at (payload_from ms.lengths end_name.Master state.Connection t) i ≡ at (connection_payload ms.conn ms.address) i
-  pub parameters : (i : ℕ) → i < length (payload_from ms.lengths end_name.Master state.Parameter t) → at (payload_from ms.lengths end_name.Master state.Parameter t) i ≡ at (parameter_payload ms.watchdog ms.profile ms.app) i
-  pub slave : (i : ℕ) → i < length (payload_from ms.lengths end_name.Slave state.Session t) → at (payload_from ms.lengths end_name.Slave state.Session t) i ≡ at (session_payload r.nonce ms.profile) i
+  pub session : BeginsAs (payload_from ms.lengths end_name.Master state.Session t) (session_payload ms.nonce ms.profile)
+  pub connection : BeginsAs (payload_from ms.lengths end_name.Master state.Connection t) (connection_payload ms.conn ms.address)
+  pub parameters : BeginsAs (payload_from ms.lengths end_name.Master state.Parameter t) (parameter_payload ms.watchdog ms.profile ms.app)
+  pub slave : BeginsAs (payload_from ms.lengths end_name.Slave state.Session t) (session_payload r.nonce ms.profile)
   pub conn : (conn : ℕ) → first_conn ms.lengths.master (frames_from end_name.Master t) ≡ Some conn → conn ≡ ms.conn
+
+pub payload_read : (ms : MasterSettings) (r : Partner ms) (t : List Noted) → Read ms r t → (which : End) (phase : State) → CarriesOwn which phase → BeginsAs (payload_from ms.lengths which phase t) (payload_of ms r which phase)
+payload_read ms r t read which phase own = search rules
+
+-- so were they before the newest frame
+began : (a b : Bool) (u part p : List ℕ) → BeginsAs (if a then (if b then u ++ part else u) else u) p → BeginsAs u p
+began true true u part p h i k = sym (get_or_append_left u part 0 i k) ∙ h i (omega (arith, k, length-append u part))
+began _ _ u part p h i k = h i k
+
+read-back : (lengths : Lengths) (which : End) (phase : State) (x : Noted) (t : List Noted) (p : List ℕ) → BeginsAs (payload_from lengths which phase (x ∷ t)) p → BeginsAs (payload_from lengths which phase t) p
+read-back lengths which phase x t p h =
+    began (same_end which x.from) (same_phase phase (phase_of_frame x.frame)) (payload_from lengths which phase t) _ p (subst (λ (u : List ℕ). BeginsAs u p) (payload_grows lengths which phase x t) h)
+
+pub read_before : (ms : MasterSettings) (r : Partner ms) (x : Noted) (t : List Noted) → Read ms r (x ∷ t) → Read ms r t
+read_before ms r x t read = record {
+  session = read-back ms.lengths end_name.Master state.Session x t (session_payload ms.nonce ms.profile) read.session;
+  connection = read-back ms.lengths end_name.Master state.Connection x t (connection_payload ms.conn ms.address) read.connection;
+  parameters = read-back ms.lengths end_name.Master state.Parameter x t (parameter_payload ms.watchdog ms.profile ms.app) read.parameters;
+  slave = read-back ms.lengths end_name.Slave state.Session x t (session_payload r.nonce ms.profile) read.slave;
+  conn = λ conn e. read.conn conn (conn_stays conn ms.lengths.master x (frames_from end_name.Master t) (same_end end_name.Master x.from) e);
+}
 
 -- settings are there, and the bytes are theirs
 pub record Settled (lengths : Lengths) (t : List Noted) : Type 0 where

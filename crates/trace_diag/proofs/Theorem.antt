@@ -1,34 +1,26 @@
 -- The table finds what the definition of a conforming trace says: no row applies to a trace exactly where it conforms,
 -- and the first frame to which one applies is the first with which the trace doesn't conform.
-use Rattle.trace_diag.proofs.Common.{Accepts, All-tail, AreBytes, AreOfBytes, Conforms, ConformsThroughout, Difference, DiffersFirst, Event, Field, Lengths, MasterSettings, Noted, Partner, SlaveSettings, append-nil, as_partner, eq-eqb, field_of, first_difference, first_of_both, frame_len, has_length, leb-true, length_of, list_all, parameters_from, partner, read_app_len, read_schedule, read_watchdog, sent_in, world}
-use Rattle.std.proofs.Common.{◌≡◌, ◌&&◌, ◌+◌, ◌≤◌, ℕ, List, [], ◌∷◌, length, Bool, true, Option, Some, None, IsTrue, refl, sym, ap, ap₂, subst, ◌∙◌, arith, rules}
+use Rattle.trace_diag.proofs.Common.{Accepts, All-tail, AreBytes, AreOfBytes, Conforms, ConformsThroughout, Difference, DiffersFirst, Event, Field, Lengths, MasterSettings, Noted, Partner, SlaveSettings, append-nil, as_partner, eq-eqb, field_of, first_difference, first_of_both, leb-true, parameters_from, partner, read_app_len, read_schedule, read_watchdog, same_Some, sent_in, world}
+use Rattle.std.proofs.Common.{◌≡◌, ◌+◌, ◌≤◌, ℕ, List, [], ◌∷◌, length, Option, Some, None, refl, sym, ap, ap₂, subst, ◌∙◌, arith, rules}
 use Rattle.fsoe_base.specs.declared.command.End.TheVariants as end_name
 use Rattle.fsoe_base.specs.declared.command.State.TheVariants as state
 use Rattle.param_load.specs.AppRule.{allows, is_acceptable, rule_len}
 use Rattle.param_load.specs.declared.app_rule.AppRule.{AppRule}
 use Rattle.param_load.specs.declared.app_rule.AppRule.TheVariants as rule
 use Rattle.trace_diag.proofs.Conforming.{good, Good}
-use Rattle.trace_diag.proofs.MasterRows.{IsPlain}
-use Rattle.trace_diag.proofs.PayloadBytes.{all_long, payload_bytes, AllLong}
+use Rattle.trace_diag.proofs.PayloadBytes.{payload_bytes, AllLong}
 use Rattle.trace_diag.proofs.ReadBytes.{app_long}
 use Rattle.trace_diag.proofs.RowsHold.{all_in_turn, in_turn_long, no_first, rows_hold, AllInTurn}
+use Rattle.trace_diag.proofs.SentRows.{IsPlain}
 use Rattle.trace_diag.proofs.SettingsRead.{settled, word_most, Settled}
 use Rattle.trace_diag.proofs.Settling.{settle}
-
-both-are : (a b : Bool) → a ≡ true → b ≡ true → (a && b) ≡ true
-both-are a b h k = ap₂ (λ (a b : Bool). a && b) h k
-
-lengths-hold : (lengths : Lengths) (t : List Noted) → AllLong lengths t → IsTrue (list_all (has_length lengths) t)
-lengths-hold lengths [] h = refl
-lengths-hold lengths (x ∷ t) h =
-    both-are (has_length lengths x) (list_all (has_length lengths) t) (eq-eqb (length x.frame) (frame_len (length_of lengths x.from)) h.0) (lengths-hold lengths t h.1)
 
 -- what the ends with the settings that are read off send
 sends-it : (lengths : Lengths) (t : List Noted) (s : Settled lengths t) → AllInTurn lengths t → AreOfBytes t → sent_in (world s.ms (partner s.ms s.r) (read_schedule lengths t)) ≡ t
 sends-it lengths [] s h are = refl
 sends-it lengths (x ∷ t) s h are =
     ap (λ (lengths : Lengths). sent_in (world s.ms (partner s.ms s.r) (read_schedule lengths (x ∷ t)))) (sym s.lengths_are)
-    ∙ (settle s.ms s.r (x ∷ t) [] x t s.accepts s.plain s.read refl (subst (λ (lengths : Lengths). AllInTurn lengths (x ∷ t)) (sym s.lengths_are) h) are).sent
+    ∙ (settle s.ms s.r x t s.accepts s.plain s.read (subst (λ (lengths : Lengths). AllInTurn lengths (x ∷ t)) (sym s.lengths_are) h) are).sent
 
 -- a trace conforms to which no row applies
 pub conforms_where_none : (lengths : Lengths) (t : List Noted) → AreOfBytes t → first_difference lengths t ≡ None → Conforms lengths t
@@ -36,7 +28,7 @@ conforms_where_none lengths t are none =
     let h : AllInTurn lengths t = all_in_turn lengths t none in
     let long : AllLong lengths t = in_turn_long lengths t h in
     let s : Settled lengths t = settled lengths t long are (rows_hold lengths t h) in
-    search (rules, lengths-hold, sends-it)
+    search (rules, sends-it)
 
 pub empty_conforms : (lengths : Lengths) → Conforms lengths []
 empty_conforms lengths = conforms_where_none lengths [] (λ k d h. absurd (omega (arith, h))) refl
@@ -47,8 +39,7 @@ none-of lengths x t c are =
     let all : List Noted = x ∷ t in
     let ms : MasterSettings = c.ms in
     let ss : SlaveSettings = c.ss in
-    let long : AllLong lengths all = all_long lengths all c.lengths_hold in
-    let p-bytes : AreBytes (parameters_from lengths all) = payload_bytes lengths end_name.Master state.Parameter all long are in
+    let p-bytes : AreBytes (parameters_from lengths all) = payload_bytes lengths end_name.Master state.Parameter all c.lengths_hold are in
     let n : ℕ = read_app_len lengths all in
     let p : (r : Partner ms) × (partner ms r ≡ ss) =
     as_partner ms ss (c.settings.master.lengths_are ∙ sym c.settings.slave.lengths_are) (c.settings.master.address_is ∙ sym c.settings.slave.address_is) (c.settings.master.profile_is ∙ sym c.settings.slave.profile_is) in
@@ -63,7 +54,7 @@ none-of lengths x t c are =
     let plain : IsPlain ms = assumption (c.settings.master.profile_is, subst (λ (n : ℕ). n ≤ 512) (sym app-long) (leb-true n 512 (sym (ap is_acceptable rule-is) ∙ r.acceptable))) in
     let l : ms.lengths ≡ lengths = c.settings.master.lengths_are in
     let g : Good ms r all =
-    good ms r x t [] [] accepts plain (subst (λ (lengths : Lengths). AllLong lengths all) (sym l) long)
+    good ms r x t [] [] accepts plain (subst (λ (lengths : Lengths). AllLong lengths all) (sym l) c.lengths_hold)
     (ap (λ (log : List Event). sent_in (world ms (partner ms r) log)) (append-nil (read_schedule ms.lengths all)) ∙ (ap (λ (lengths : Lengths). sent_in (world ms (partner ms r) (read_schedule lengths all))) l ∙ subst (λ (ss : SlaveSettings). sent_in (world ms ss (read_schedule lengths all)) ≡ all) (sym p.1) c.sends)) in
     ap (λ (lengths : Lengths). first_difference lengths all) (sym l) ∙ g.none
 
@@ -87,14 +78,11 @@ conforms_before lengths x t are c =
 some-none : (a : Difference) (o : Option Difference) → o ≡ Some a → o ≡ None → ⊥
 some-none a o e h = let other : Some a ≡ None = sym e ∙ h in cc
 
-same-difference : (a b : Difference) → Some a ≡ Some b → a ≡ b
-same-difference a b e = cc
-
 -- else the difference is that of the first frame with which it doesn't
 differs-on : (lengths : Lengths) (x : Noted) (t : List Noted) (d : Difference) → AreOfBytes (x ∷ t) → (o : Option Difference) (field : Option Field) → first_difference lengths t ≡ o → field_of lengths t x ≡ field → first_of_both o field (length t + 1) ≡ Some d
     → ((d : Difference) → first_difference lengths t ≡ Some d → DiffersFirst lengths t d.number d.field) → DiffersFirst lengths (x ∷ t) d.number d.field
 differs-on lengths x t d are (Some first) field before here e earlier =
-    let same : first ≡ d = same-difference first d e in
+    let same : first ≡ d = same_Some first d e in
     let f : DiffersFirst lengths t d.number d.field = earlier d (before ∙ ap Some same) in
     record {
       before = f.before;
@@ -109,7 +97,7 @@ differs-on lengths x t d are (Some first) field before here e earlier =
     }
 differs-on lengths x t d are None None before here e earlier = absurd (cc e)
 differs-on lengths x t d are None (Some which) before here e earlier =
-    let same : record { number = length t + 1; field = which } ≡ d = same-difference _ d e in
+    let same : record { number = length t + 1; field = which } ≡ d = same_Some _ d e in
     let differs : Conforms lengths (x ∷ t) → ⊥ =
     λ c. some-none d (first_difference lengths (x ∷ t)) (ap₂ (λ (o : Option Difference) (field : Option Field). first_of_both o field (length t + 1)) before here ∙ e) (none_where_conforms lengths (x ∷ t) are c) in
     record {

@@ -1,16 +1,16 @@
 -- The walk along a trace: after each of its frames the world over the schedule stands at a stage of which the trace
 -- tells.
-use Rattle.trace_diag.proofs.Common.{Accepts, Asked, Down, End, Entry, Event, IsDown, MasterSettings, Noted, OfMaster, Partner, Stage, both, deeds, frame_of, frames_from, frames_of, has_command, length_of, next_entry, partner, read_schedule, reset_frame, sent_in, since, taken, turn, world}
-use Rattle.std.proofs.Common.{◌≡◌, ℕ, List, [], ◌∷◌, length, false, true, refl, sym, ap, ◌∙◌, rules}
+use Rattle.trace_diag.proofs.Common.{Accepts, Asked, Down, End, Entry, Event, IsDown, MasterSettings, Noted, OfMaster, Partner, Stage, both, frame_of, frames_from, frames_of, has_command, length_of, next_entry, partner, read_schedule, reset_frame, sent_in, turn, world}
+use Rattle.std.proofs.Common.{◌≡◌, List, [], ◌∷◌, length, false, true, refl, sym, ap, ◌∙◌, rules}
 use Rattle.fsoe_base.specs.declared.command.Command.TheVariants as command
 use Rattle.fsoe_base.specs.declared.command.End.TheVariants as end_name
 use Rattle.param_load.specs.declared.entry.Move.TheVariants as move
-use Rattle.trace_diag.proofs.Along.{master_brought, slave_brought, Brought}
+use Rattle.trace_diag.proofs.Along.{master_brought, same_head, slave_brought, Brought}
 use Rattle.trace_diag.proofs.LockStep.{first_runs, next_runs, steps, Runs, Steps}
-use Rattle.trace_diag.proofs.MasterRows.{IsPlain}
 use Rattle.trace_diag.proofs.NextFrames.{NextFrame}
 use Rattle.trace_diag.proofs.Nonces.{nonces_left, LeaveNonces}
 use Rattle.trace_diag.proofs.Running.{frames_sent, IsOn, Reaches}
+use Rattle.trace_diag.proofs.SentRows.{IsPlain}
 use Rattle.trace_diag.proofs.Tells.{not_reset, told_asked, Tells}
 
 -- the world over the schedule of a trace
@@ -27,16 +27,13 @@ pub record At (ms : MasterSettings) (r : Partner ms) (t : List Noted) : Type 0 w
 -- the frame
 pub record More (ms : MasterSettings) (r : Partner ms) (x : Noted) (t : List Noted) : Type 0 where
   pub steps : Steps ms r x t
-  pub next : NextFrame ms r t steps.answers.reaches.entry.sent (taken (since (deeds end_name.Slave (steps.answers.reaches.entry ∷ steps.answers.reaches.set)))) (turn t)
+  pub next : NextFrame ms r t steps.answers.reaches.entry.sent (turn t)
   pub sent : sent_in (world_of ms r (x ∷ t)) ≡ record { from = turn t; frame = steps.answers.reaches.entry.sent } ∷ sent_in (world_of ms r t)
   pub at : x ≡ record { from = turn t; frame = steps.answers.reaches.entry.sent } → At ms r (x ∷ t)
 
 -- the first frame
 abbrev pub first_reset : MasterSettings → Noted
 first_reset ms = record { from = end_name.Master; frame = reset_frame 0 ms.lengths.master }
-
-same-first : (a b : List ℕ) (older : List (List ℕ)) → a ∷ [] ≡ b ∷ older → a ≡ b
-same-first a b older e = cc
 
 pub at_first : (ms : MasterSettings) (r : Partner ms) → At ms r (first_reset ms ∷ [])
 at_first ms r = record {
@@ -56,7 +53,7 @@ at_first ms r = record {
 
     no-session : (h : IsDown ms r (both ms r w)) → ⊥
     no-session h =
-        let is : reset_frame 0 ms.lengths.master ≡ h.frame = same-first (reset_frame 0 ms.lengths.master) h.frame h.last.older (sym only-reset ∙ h.last.is) in
+        let is : reset_frame 0 ms.lengths.master ≡ h.frame = same_head (reset_frame 0 ms.lengths.master) h.frame [] h.last.older (sym only-reset ∙ h.last.is) in
         let none : true ≡ false = ap (has_command command.Reset) is ∙ not_reset h.command h.frame h.way.tail h.way.head h.in_session in
         cc
 
@@ -67,7 +64,7 @@ at_first ms r = record {
 brought : (ms : MasterSettings) (r : Partner ms) (y : Noted) (t : List Noted) (events : List Event) (w : List Entry) (at : End) (s : Reaches ms r events w at) → IsPlain ms → turn (y ∷ t) ≡ at
     → IsOn ms r w at → LeaveNonces w → Tells ms (y ∷ t) at (both ms r w) → Brought ms r (y ∷ t) at s.entry.sent (s.entry ∷ s.set)
 brought ms r y t events w end_name.Master s plain turned on nonces told = master_brought ms r y t events w s plain turned on.stage nonces told
-brought ms r y t events w end_name.Slave s plain turned on nonces told = slave_brought ms r y t events w s turned told
+brought ms r y t events w end_name.Slave s plain turned on nonces told = slave_brought ms r y t events w s plain turned nonces told
 
 pub more : (ms : MasterSettings) (r : Partner ms) (x y : Noted) (t : List Noted) → Accepts ms r → IsPlain ms → length (frame_of (length_of ms.lengths (turn (y ∷ t))) x.frame).load ≡ length_of ms.lengths (turn (y ∷ t))
     → At ms r (y ∷ t) → More ms r x (y ∷ t)

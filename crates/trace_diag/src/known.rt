@@ -1,7 +1,7 @@
 //! What is kept of the frames of a trace.
 ghost use Rattle.std.specs.Prelude.{◌≡◌, ◌≢◌, ◌<◌, ◌≤◌, ◌+◌, ◌++◌, [], false, length, take, None, IfSome, IsTrue};
 ghost use Rattle.fsoe_base.specs.Command.{command_byte};
-ghost use Rattle.fsoe_base.specs.Lengths.{is_length, frame_len, group_count};
+ghost use Rattle.fsoe_base.specs.Lengths.{is_length, group_count};
 ghost use Rattle.fsoe_base.specs.LengthsOf.{length_of};
 ghost use Rattle.fsoe_base.specs.declared.lengths.Lengths.{Lengths};
 ghost use Rattle.fsoe_frame.specs.Parts.{Frame, frame_of, bytes_of};
@@ -234,7 +234,6 @@ impl Known {
 
     /// The first group whose CRC isn't that of the chain; if none is, the chain goes on. The due frame is made in
     /// `made`.
-    #[tactic(auto, using(crate::proofs::DueMade::due_long, crate::proofs::DueMade::due_same_many, crate::proofs::DueMade::due_crcs, crate::proofs::DueMade::own_frame, crate::proofs::DueMade::chain_same))]
     fn take_crcs(
         &mut self,
         command: Command,
@@ -252,7 +251,13 @@ impl Known {
         ensures chain { result ≡ None → self.new ≡ record self.old { chain = chain_after self.old.due self.old.chain self.old.turn view.now } }
     {
         self.seal_due(command, load, view, made);
-        wrong_group(view, made.bytes(), load.len())
+        if made.bytes() == view.bytes() {
+            return None;
+        }
+        let Some(due) = fsoe_frame::view(made.bytes(), load.len()) else {
+            return None;
+        };
+        wrong_crc(view, &due, load.len())
     }
 
     /// Writes the frame that is due in place of this one, with the CRCs of the chain, which goes on by it.
@@ -382,26 +387,6 @@ fn has_come(now: State, came: usize, head: &[u8]) -> bool
         State::Reset => false,
         State::Data => false,
     }
-}
-
-/// The first group of a frame with `l` safe data bytes whose CRC isn't that of these bytes of a frame.
-fn wrong_group(view: &FrameView<'_>, made: &[u8], l: usize) -> Option<usize>
-    requires valid { IsTrue (is_length l) }
-    requires most { l ≤ MOST_DATA }
-    requires long { length made.now ≡ frame_len l }
-    requires groups { length view.now.crcs ≡ group_count l }
-    requires same_many { length (frame_of l made.now).crcs ≡ length view.now.crcs }
-    requires own { frame_of l (bytes_of view.now) ≡ view.now }
-    ensures group { result ≡ first_differing 0 view.now.crcs (frame_of l made.now).crcs }
-    ensures within { IfSome result (λ group. group < 256) }
-{
-    if made == view.bytes() {
-        return None;
-    }
-    let Some(due) = fsoe_frame::view(made, l) else {
-        return None;
-    };
-    wrong_crc(view, &due, l)
 }
 
 /// The first c bytes of these, all where there are fewer.
