@@ -1,6 +1,6 @@
 -- A slave that took one frame of a session: it is the first Session frame, and the slave's answer to it carries the
 -- first piece of its session id.
-use Rattle.end_model.proofs.Common.{Answers, Cause, Command, Deed, Did, Dropped, DropsReset, Expires, Frame, HasNoSession, IsHandshake, IsInSession, IsNextPhase, IsRun, IsValid, Move, OfSlave, PeerResets, Reaction, Refuses, ResetsItself, SendsAgain, Setup, SlaveFirstData, SlaveGoesOn, SlaveMoreData, SlaveNextPhase, SlaveRejoins, SlaveSettings, SlaveStarts, State, Taking, count_in, crc_0, first_of, frame_len, frame_of, id_piece, id_sent, is_data, is_reset, kept, newest_crc, nonce, option_or, own, padded, phase_of, piece, piece_len, received, receives, same_phase, seal, sends, session_payload, since, slave_answer, state_of, taken, taken_link, uploaded, with_answer}
+use Rattle.end_model.proofs.Common.{Answers, Cause, Command, Deed, Did, Dropped, DropsReset, Expires, Frame, HasNoSession, IsHandshake, IsInSession, IsNextPhase, IsRun, IsValid, Move, OfSlave, PeerResets, Reaction, Refuses, ResetsItself, SendsAgain, Setup, SlaveFirstData, SlaveGoesOn, SlaveMoreData, SlaveNextPhase, SlaveRejoins, SlaveSettings, SlaveStarts, State, Taking, count_in, crc_0, first_of, frame_len, frame_of, id_piece, id_sent, is_data, is_reset, kept, newest_crc, nonce, option_or, own, padded, phase_of, piece_len, received, receives, same_phase, seal, sends, session_payload, since, slave_answer, state_of, taken, taken_link, uploaded, with_answer}
 use Rattle.std.proofs.Common.{◌≡◌, ◌≢◌, ℕ, suc, List, [], ◌∷◌, ◌++◌, length, take, Bool, false, Option, Some, None, if◌then◌else◌, IsTrue, refl, sym, ap, subst, ◌∙◌, arith, rules}
 use Rattle.fsoe_base.specs.declared.command.State.TheVariants as state
 use Rattle.fsoe_base.specs.declared.command.Command.TheVariants as command

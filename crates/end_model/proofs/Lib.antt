@@ -15,6 +15,7 @@ pub mod Shown
 pub mod AgeBelow
 pub mod Links
 pub mod ReadBack
+pub mod GoesOn
 pub mod SealedFrames
 pub mod Neighbours
 pub mod Repeats

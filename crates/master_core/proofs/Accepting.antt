@@ -1,8 +1,8 @@
 -- What accepting a frame does to a master, whatever its offer and its nonce: the frame is dropped, or another one is
 -- due then.
-use Rattle.master_core.proofs.Common.{Accepted, Code, Did, Dropped, KitView, MasterView, OfMaster, OfferView, Opened, Phase, SessionFrameView, accepted, accepted_by, bytes_of, code, drops, fault, is_due, is_repeat, kept_in, makes_due, no_session, on_session, opened, receives, refuses, resets, settles, takes, tells_due}
+use Rattle.master_core.proofs.Common.{Accepted, Code, Did, Dropped, KitView, MasterView, OfMaster, OfferView, Opened, Phase, SessionFrameView, accepted, accepted_by, accepted_of, bytes_of, code, drops, fault, is_due, is_repeat, kept_in, makes_due, no_session, on_session, opened, receives, refuses, resets, settles, takes, tells_due}
 use Rattle.master_core.specs.Phase.{is_reset}
-use Rattle.std.proofs.Common.{◌≡◌, ℕ, List, ◌==◌, Bool, true, false, ◌||◌, is_some, Option, Result, Ok, Err, if◌then◌else◌, refl, sym, arith, rules}
+use Rattle.std.proofs.Common.{◌≡◌, ℕ, List, ◌==◌, Bool, true, false, ◌||◌, is_some, Option, Result, Ok, Err, if◌then◌else◌, refl, sym, subst, arith, rules}
 use Rattle.fsoe_base.specs.declared.command.Command.TheVariants as command
 use Rattle.fsoe_base.specs.declared.did.Cause.TheVariants as cause
 use Rattle.fsoe_base.specs.declared.did.Dropped.TheVariants as dropped
@@ -61,8 +61,8 @@ due_by : (v w : MasterView) (a b : Accepted) → Alike v w a b → is_due v.stat
 due_by v w a b (Drops why) h = h
 due_by v w a b (MakesDue n x did told) h = sym told
 
-pub due_told : (v : MasterView) (bytes : List ℕ) → is_due v.state ≡ false → is_due (accepted v bytes).master.state ≡ (is_some (accepted v bytes).did.took || is_some (accepted v bytes).did.reset)
-due_told v bytes h = due_by v _ _ _ (accepts_alike v v.kit.offer v.kit.nonce bytes) h
+pub due_told : (v m : MasterView) (d : Did) (bytes : List ℕ) → is_due v.state ≡ false → accepted_of m d ≡ accepted v bytes → is_due m.state ≡ (is_some d.took || is_some d.reset)
+due_told v m d bytes h i = due_by v _ _ _ (subst (λ (a : Accepted). Alike v (view_with v v.kit.offer v.kit.nonce) a (accepted (view_with v v.kit.offer v.kit.nonce) bytes)) (sym i) (accepts_alike v v.kit.offer v.kit.nonce bytes)) h
 
 pub age_by : (v w : MasterView) (a b : Accepted) → Alike v w a b → is_due v.state ≡ false → is_due a.master.state ≡ true → a.master.timer.age ≡ 0
 age_by v w a b h k l = grind arith

@@ -1,15 +1,15 @@
 -- What each event leaves at the machine is what looking back gives.
 use Rattle.master_core.proofs.Common.{Accepted, Command, Deed, IsProper, IsRun, MasterSettings, Move, OfMaster, State, after, answered_by, code, did_on, kit_of, length-replicate, next_phase, notes_of, on_verdict, phase_in, settles, state_of, view_in, view_of}
-use Rattle.std.proofs.Common.{◌≡◌, ℕ, ◌-◌, ◌<◌, List, [], ◌∷◌, refl, sym, subst, arith}
+use Rattle.std.proofs.Common.{◌≡◌, ℕ, ◌-◌, ◌<◌, List, [], ◌∷◌, false, refl, sym, subst, arith}
 use Rattle.fsoe_base.specs.declared.command.Command.TheVariants as command
 use Rattle.fsoe_base.specs.declared.command.State.TheVariants as state
 use Rattle.fsoe_base.specs.declared.did.Cause.TheVariants as cause
 use Rattle.param_load.specs.declared.entry.Move.TheVariants as move
 use Rattle.end_model.specs.Verdict as model
 use Rattle.master_core.proofs.Sound.{Sound, SoundAt}
-use Rattle.master_core.proofs.SameVerdict.{came, Came, Same, Drops, Refuses, ByReset, Passes, same}
-use Rattle.master_core.proofs.Agrees.{Agrees, drop-agrees, refuse-agrees, falls-agree, put-agrees, hold-agrees, nonce-agrees, tick-agrees}
-use Rattle.master_core.proofs.Arrived.{Arrived, arrived}
+use Rattle.master_core.proofs.SameVerdict.{came, seen, Came, Same, Drops, Refuses, ByReset, Passes, same}
+use Rattle.master_core.proofs.Agrees.{Agrees, drop-agrees, refuse-agrees, resets-agree, tick-agrees}
+use Rattle.master_core.proofs.Taking.{Arrived, arrived}
 use Rattle.master_core.proofs.Began.{reset_frame-agrees}
 use Rattle.master_core.proofs.TakenAnswers.{session-passed, connection-passed, parameter-passed}
 use Rattle.master_core.proofs.TakenData.{process-passed, failsafe-passed}
@@ -17,7 +17,7 @@ use Rattle.master_core.proofs.TakenData.{process-passed, failsafe-passed}
 -- a frame that passed its tests
 passed-agrees : (p : State) (ms : MasterSettings) (e : List Deed) (bytes : List ℕ) (c : Command) → SoundAt p ms e → Came p ms bytes c → Arrived ms bytes → Sound ms e
     → Agrees ms e (move.Deliver bytes) (on_verdict p (OfMaster ms) (model.judged_contents c (came ms bytes).load (model.contents (OfMaster ms) e c (came ms bytes))))
-    (answered_by (settles (view_in p ms e) (record { command = c; frame = came ms bytes }) (next_phase (kit_of ms e) (phase_in p ms (notes_of ms e)) (record { command = c; frame = came ms bytes }))))
+    (answered_by (settles (view_in p ms e) (seen ms bytes c) (next_phase (kit_of ms e) (phase_in p ms (notes_of ms e)) (seen ms bytes c))))
 passed-agrees state.Session ms e bytes command.Session h k a s = session-passed ms e bytes h a s
 passed-agrees state.Connection ms e bytes command.Connection h k a s = connection-passed ms e bytes h a s
 passed-agrees state.Parameter ms e bytes command.Parameter h k a s = parameter-passed ms e bytes h a s
@@ -38,10 +38,10 @@ pub agrees : (ms : MasterSettings) (e : List Deed) (m : Move) → Sound ms e →
 agrees ms e (move.Deliver bytes) s proper =
     judged-agrees (state_of (OfMaster ms) e) ms e bytes _ _ (same (state_of (OfMaster ms) e) ms e bytes refl s.in_state) refl s.in_state s
 agrees ms e move.Tick s proper = tick-agrees (state_of (OfMaster ms) e) ms e refl s
-agrees ms e move.Local s proper = falls-agree (state_of (OfMaster ms) e) ms e move.Local cause.Local (code 0) refl refl s
-agrees ms e (move.Put load) s proper = put-agrees ms e load proper s
-agrees ms e (move.Hold failsafe) s proper = hold-agrees ms e failsafe s
-agrees ms e (move.Nonce id) s proper = nonce-agrees ms e id s
+agrees ms e move.Local s proper = resets-agree (state_of (OfMaster ms) e) ms e move.Local false cause.Local (code 0) refl refl s
+agrees ms e (move.Put load) s proper = record { view = λ r. refl; did = refl; sent = refl; sound = record { in_state = s.in_state; offer_len = proper; young = s.young } }
+agrees ms e (move.Hold failsafe) s proper = record { view = λ r. refl; did = refl; sent = refl; sound = record { in_state = s.in_state; offer_len = s.offer_len; young = s.young } }
+agrees ms e (move.Nonce id) s proper = record { view = λ r. refl; did = refl; sent = refl; sound = record { in_state = s.in_state; offer_len = s.offer_len; young = s.young } }
 
 fresh-age : (w : ℕ) → 0 < w → w - 1 < w
 fresh-age w h = omega arith

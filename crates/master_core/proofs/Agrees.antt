@@ -1,7 +1,6 @@
 -- What an event leaves at the machine is what looking back gives: where no frame of a session is taken.
-use Rattle.master_core.proofs.Common.{AreBytes, Cause, Code, Deed, Did, Dropped, KitView, MasterSettings, MasterView, Move, OfMaster, Outcome, Phase, State, answered_by, at_limit, at_rest, code, code_sent, deed_of, dropped, drops, ends, falls, kit_of, notes_of, nothing, on_expiry, on_fault, phase_in, refuses, resets, state_of, tick_of, ticks, view_in, view_of, with_kit}
-use Rattle.std.proofs.Common.{◌≡◌, ℕ, suc, ◌+◌, ◌<◌, ◌==◌, nat_le, List, [], ◌∷◌, length, Bool, true, false, if◌then◌else◌, refl, ap, subst, ◌∙◌, arith}
-use Rattle.fsoe_base.specs.declared.did.Cause.TheVariants as cause
+use Rattle.master_core.proofs.Common.{AreBytes, Cause, Code, Deed, Did, Dropped, KitView, MasterSettings, MasterView, Move, OfMaster, Outcome, Phase, State, answered_by, at_limit, at_rest, code_sent, deed_of, dropped, drops, ends, kit_of, later, meets, notes_of, nothing, on_expiry, on_fault, one_more, phase_in, refuses, resets, state_of, tick_of, ticks, view_in, view_of}
+use Rattle.std.proofs.Common.{◌≡◌, ℕ, suc, ◌+◌, nat_le, List, [], ◌∷◌, length, Bool, true, false, if◌then◌else◌, refl, ap, subst, ◌∙◌, arith}
 use Rattle.seq_chain.specs.Reset.{reset_frame}
 use Rattle.param_load.specs.declared.entry.Move.TheVariants as move
 use Rattle.master_core.proofs.Sound.{Sound}
@@ -46,49 +45,16 @@ resets-agree p ms e m passed because x k c s = record {
   sound = record { in_state = refl; offer_len = ap (λ (k : KitView). length k.offer.load) k ∙ s.offer_len; young = ms.some_watchdog };
 }
 
--- the same where the frame is sent at once
-pub falls-agree : (p : State) (ms : MasterSettings) (e : List Deed) (m : Move) (because : Cause) (x : Code)
-    → kit_of ms (deed_of (OfMaster ms) e m (resets false because) ∷ e) ≡ kit_of ms e → code_sent because ≡ x.0 → Sound ms e
-    → Agrees ms e m (resets false because) (falls (view_in p ms e) because x)
-falls-agree p ms e m because x k c s = resets-agree p ms e m false because x k c s
-
 -- a test fails
 pub refuse-agrees : (p : State) (ms : MasterSettings) (e : List Deed) (bytes : List ℕ) (x : Code) → state_of (OfMaster ms) e ≡ p → Sound ms e
     → Agrees ms e (move.Deliver bytes) (on_fault p false x) (answered_by (refuses (view_in p ms e) x))
 refuse-agrees p ms e bytes x h k = grind arith
-
--- a valid Reset frame of the peer ends a session
-pub peer-resets : (p : State) (ms : MasterSettings) (e : List Deed) (bytes : List ℕ) (x y : Code) → x ≡ y → Sound ms e
-    → Agrees ms e (move.Deliver bytes) (resets false (cause.Peer y)) (answered_by (ends (view_in p ms e) false (cause.Peer x) (code 0)))
-peer-resets p ms e bytes x y h k = grind arith
-
--- what outlasts sessions is set
-pub put-agrees : (ms : MasterSettings) (e : List Deed) (load : List ℕ) → length load ≡ ms.lengths.master → Sound ms e
-    → Agrees ms e (move.Put load) nothing (with_kit (view_of ms e) (record (kit_of ms e) { offer = record (kit_of ms e).offer { load = load } }))
-put-agrees ms e load h s = record { view = λ r. refl; did = refl; sent = refl; sound = record { in_state = s.in_state; offer_len = h; young = s.young } }
-
-pub hold-agrees : (ms : MasterSettings) (e : List Deed) (failsafe : Bool) → Sound ms e
-    → Agrees ms e (move.Hold failsafe) nothing (with_kit (view_of ms e) (record (kit_of ms e) { offer = record (kit_of ms e).offer { held = failsafe } }))
-hold-agrees ms e failsafe s = record { view = λ r. refl; did = refl; sent = refl; sound = record { in_state = s.in_state; offer_len = s.offer_len; young = s.young } }
-
-pub nonce-agrees : (ms : MasterSettings) (e : List Deed) (id : ℕ) → Sound ms e
-    → Agrees ms e (move.Nonce id) nothing (with_kit (view_of ms e) (record (kit_of ms e) { nonce = id }))
-nonce-agrees ms e id s = record { view = λ r. refl; did = refl; sent = refl; sound = record { in_state = s.in_state; offer_len = s.offer_len; young = s.young } }
 
 -- a tick
 abbrev tick_by : Bool → MasterView → Outcome
 tick_by b v =
     if b then at_limit v
     else record { master = record v { timer = record { limit = v.timer.limit; age = if b then 0 else v.timer.age + 1 } }; did = nothing; sent = [] }
-
-meets : (t l : ℕ) → t < l → nat_le l (suc t) ≡ (t + 1 == l)
-meets t l k = grind arith
-
-later : (t l : ℕ) → nat_le l (suc t) ≡ false → suc t < l
-later t l h = grind arith
-
-one-more : (t : ℕ) → suc t ≡ t + 1
-one-more t = omega arith
 
 -- the limit is reached: in state Reset the Reset frame is sent again
 expiry-agrees : (p : State) (ms : MasterSettings) (e : List Deed) → state_of (OfMaster ms) e ≡ p → Sound ms e → Agrees ms e move.Tick (on_expiry p (OfMaster ms)) (at_limit (view_in p ms e))
@@ -98,7 +64,7 @@ counts : (p : State) (ms : MasterSettings) (e : List Deed) (b : Bool) → state_
     → Agrees ms e move.Tick (if b then on_expiry p (OfMaster ms) else nothing) (tick_by b (view_in p ms e))
 counts p ms e true now h s = expiry-agrees p ms e now s
 counts p ms e false now h s = record {
-  view = λ r. same_master _ _ _ _ _ _ _ refl (ap (λ (p : State). phase_in p ms (notes_of ms e)) now) (one-more (ticks (OfMaster ms) e));
+  view = λ r. same_master _ _ _ _ _ _ _ refl (ap (λ (p : State). phase_in p ms (notes_of ms e)) now) (one_more _ _ refl);
   did = refl;
   sent = refl;
   sound = record { in_state = s.in_state; offer_len = s.offer_len; young = later (ticks (OfMaster ms) e) ms.watchdog h };
@@ -109,5 +75,5 @@ pub tick-agrees : (p : State) (ms : MasterSettings) (e : List Deed) → state_of
 tick-agrees p ms e now s =
     let t : ℕ = ticks (OfMaster ms) e in
     subst (λ (b : Bool). Agrees ms e move.Tick (if nat_le ms.watchdog (suc t) then on_expiry p (OfMaster ms) else nothing) (tick_by b (view_in p ms e)))
-    (meets t ms.watchdog s.young)
+    (meets t t ms.watchdog refl s.young)
     (counts p ms e (nat_le ms.watchdog (suc t)) now refl s)

@@ -1,19 +1,18 @@
 -- A Reset frame that is taken: in state Reset it begins a session.
-use Rattle.master_core.proofs.Common.{Chain, Code, Command, Deed, MasterSettings, Notes, OfMaster, Outcome, Setup, State, accepts, answered_by, begins, begun, bytes_of, chain_sent, code, command_byte, deed_of, dropped, drops, first_of, frame_of, frame_sent, fresh, is_empty, makes_due, newest_crc, nonce, notes_of, on_reset_frame, option_or, own_link, padded, piece_from, piece_len, read_back, receives, seal, sends, session_payload, since, state_of, taken, taken_crc, takes_frame, view_in}
+use Rattle.master_core.proofs.Common.{Chain, Code, Command, Deed, MasterSettings, Notes, OfMaster, Outcome, Setup, State, accepts, answered_by, begins, begun, bytes_of, chain_at, chain_sent, code, command_byte, deed_of, dropped, drops, filled, first_of, frame_of, frame_sent, fresh, is_empty, is_there, makes_due, newest_crc, nonce, notes_of, on_reset_frame, option_or, own_link, padded, piece_from, piece_len, piece_own, read_back, receives, seal, sends, session_payload, since, state_of, taken, taken_crc, takes_frame, there, view_in}
 use Rattle.std.proofs.Common.{◌≡◌, ℕ, ◌-◌, ◌*◌, ◌==◌, Bool, true, false, List, ◌∷◌, length, Option, Some, None, unwrap_or, if◌then◌else◌, refl, sym, ap, subst, ◌∙◌, rules}
 use Rattle.fsoe_base.specs.declared.command.Command.TheVariants as command
 use Rattle.fsoe_base.specs.declared.command.State.TheVariants as state
+use Rattle.fsoe_base.specs.declared.did.Cause.TheVariants as cause
 use Rattle.fsoe_base.specs.declared.did.Dropped.TheVariants as why
 use Rattle.seq_chain.specs.Sealing as sealing
 use Rattle.param_load.specs.declared.entry.Move.TheVariants as move
 use Rattle.master_core.specs.declared.phase.Phase.TheVariants as phase
 use Rattle.master_core.specs.Master as machine
 use Rattle.master_core.proofs.Sound.{no_notes, Sound, SoundAt}
-use Rattle.master_core.proofs.Pieces.{piece_own}
 use Rattle.master_core.proofs.SameVerdict.{came}
-use Rattle.master_core.proofs.Agrees.{Agrees, same_master, drop-agrees, peer-resets}
-use Rattle.master_core.proofs.Arrived.{Arrived, chain_at, filled_piece}
-use Rattle.master_core.proofs.Taking.{After, takes-agree, same_exchange, there, is-there, positive, none_before}
+use Rattle.master_core.proofs.Agrees.{Agrees, same_master, drop-agrees, resets-agree}
+use Rattle.master_core.proofs.Taking.{After, Arrived, takes-agree, same_exchange, positive, none_before}
 
 -- an end that noted nothing seals a frame outside each session
 sealed-fresh : (s : Setup) (e : List Deed) (conn : ℕ) (c : Command) (load : List ℕ) → chain_at s e ≡ fresh → seal s e conn c load ≡ frame_sent fresh conn c load
@@ -40,7 +39,7 @@ first-id o n h = ap (λ (o : Option ℕ). option_or o (Some n)) h
 begins-after : (ms : MasterSettings) (e : List Deed) (bytes : List ℕ) → notes_of ms e ≡ no_notes ms → Arrived ms bytes → Sound ms e → After ms e bytes command.Reset (begun_outcome ms e bytes).sent (begun_outcome ms e bytes).master
 begins-after ms e bytes h a s =
     let c : ℕ = piece_len (OfMaster ms) in
-    let full : length (first_load ms e) ≡ ms.lengths.master = filled_piece (session_payload (nonce (OfMaster ms) e) ms.profile) 0 c ms.lengths.master (piece_own ms) in
+    let full : length (first_load ms e) ≡ ms.lengths.master = filled (session_payload (nonce (OfMaster ms) e) ms.profile) c ms.lengths.master (piece_own (OfMaster ms)) in
     let none : (notes_of ms e).chain ≡ fresh = ap (λ (n : Notes). n.chain) h in
     let id_is : option_or (notes_of ms e).id (Some (nonce (OfMaster ms) e)) ≡ Some (nonce (OfMaster ms) e) = first-id _ _ (ap (λ (n : Notes). n.id) h) in
     let sent_is : frame_sent fresh 0 command.Session (first_load ms e) ≡ seal (OfMaster ms) (since e) 0 command.Session (first_load ms e) = sym (sealed-fresh (OfMaster ms) (since e) 0 command.Session (first_load ms e) none) in
@@ -51,7 +50,7 @@ begins-after ms e bytes h a s =
           ∙ ap (λ (chain : Chain). chain_sent chain 0 command.Session (first_load ms e)) none)
           (ap (λ (i : ℕ). session_payload i ms.profile) (there _ _ 0 id_is)) (none_before _ c (ap (λ (n : Notes). n.session) h)) (sym (a.back r))))
           refl;
-      sound = search (rules, is-there, positive);
+      sound = search (rules, is_there, positive);
     }
 
 begins-sent : (ms : MasterSettings) (e : List Deed) (bytes : List ℕ) → notes_of ms e ≡ no_notes ms
@@ -74,7 +73,7 @@ by-code ms e bytes false at h a s = drop-agrees state.Reset ms e bytes why.InRes
 of-code : (p : State) (ms : MasterSettings) (e : List Deed) (bytes : List ℕ) → state_of (OfMaster ms) e ≡ p → SoundAt p ms e → Arrived ms bytes → Sound ms e
     → Agrees ms e (move.Deliver bytes) (on_reset_frame p (OfMaster ms) (came ms bytes).load) (answered_by (machine.on_reset_view (view_in p ms e) (code (first_of (came ms bytes).load)) (came ms bytes)))
 of-code state.Reset ms e bytes at h a s = by-code ms e bytes (first_of (came ms bytes).load == 0) at h a s
-of-code p ms e bytes at h a s = peer-resets p ms e bytes _ _ refl s
+of-code p ms e bytes at h a s = resets-agree p ms e (move.Deliver bytes) false (cause.Peer (code (first_of (came ms bytes).load))) (code 0) refl refl s
 
 pub reset_frame-agrees : (p : State) (ms : MasterSettings) (e : List Deed) (bytes : List ℕ) (x : Code) → x ≡ code (first_of (came ms bytes).load) → state_of (OfMaster ms) e ≡ p → SoundAt p ms e → Arrived ms bytes → Sound ms e
     → Agrees ms e (move.Deliver bytes) (on_reset_frame p (OfMaster ms) (came ms bytes).load) (answered_by (machine.on_reset_view (view_in p ms e) x (came ms bytes)))

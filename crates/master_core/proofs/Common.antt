@@ -1,4 +1,5 @@
 -- The names that more than one file of these proofs cites, passed on from one place. Declares nothing.
+pub use Rattle.end_model.proofs.GoesOn.{ap₃, chain_after, chain_at, filled, is_there, keeps, later, meets, one_more, piece_own, taking, there}
 pub use Rattle.end_model.proofs.Links.{own_crc, taken_crc}
 pub use Rattle.end_model.proofs.ReadBack.{read_back}
 pub use Rattle.end_model.proofs.Runs.{deed, run_of_events, same_deed, set_deed}
@@ -23,10 +24,9 @@ pub use Rattle.fsoe_base.specs.declared.did.Cause.{Cause}
 pub use Rattle.fsoe_base.specs.declared.did.Did.{Did}
 pub use Rattle.fsoe_base.specs.declared.did.Dropped.{Dropped}
 pub use Rattle.fsoe_frame.specs.Parts.{AreBytes, Frame, bytes_of, frame_of}
-pub use Rattle.master_core.specs.After.{after, with_kit}
 pub use Rattle.master_core.specs.Calls.{Accept, Call, Called, Event, MadeAccept, MadeEvent, MadeReply, MadeSetting, Pending, Reply, Setting, deeds_of, delivery_after, left_by, pending, tells_due, with_reply}
 pub use Rattle.master_core.specs.Kit.{KitView, connection_download, parameter_download}
-pub use Rattle.master_core.specs.Master.{Accepted, Outcome, accepted, accepted_by, answered_by, at_limit, begins, drops, ends, falls, first_master, makes_due, on_reset_view, on_session, refuses, replies, settles, tick_of}
+pub use Rattle.master_core.specs.Master.{Accepted, Outcome, accepted, accepted_by, accepted_of, after, answered_by, at_limit, begins, drops, ends, falls, first_master, makes_due, on_reset_view, on_session, refuses, replies, settles, tick_of, with_kit}
 pub use Rattle.master_core.specs.MasterView.{MasterView}
 pub use Rattle.master_core.specs.Now.{Now, at_rest, is_due, replied, reply}
 pub use Rattle.master_core.specs.Phase.{fault, kept_in, next_phase}

@@ -1,11 +1,9 @@
 pub mod Accepting
 pub mod Agreed
 pub mod Agrees
-pub mod Arrived
 pub mod Began
 pub mod Calls
 pub mod Law
-pub mod Pieces
 pub mod SameVerdict
 pub mod ShownDue
 pub mod Sound

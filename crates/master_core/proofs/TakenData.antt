@@ -1,5 +1,5 @@
 -- A data frame that passed the tests of a master: what the machine does is what looking back gives.
-use Rattle.master_core.proofs.Common.{Chain, Command, Deed, MasterSettings, OfMaster, Outcome, SessionFrameView, Terms, answered_by, begun, bytes_of, code, data_answered, data_command, data_load, held, is_process, is_reset, judged_contents, kit_of, length-replicate, notes_of, offer, on_verdict, session_of, settles, since, takes_frame, terms_of, unless, view_in, with_data}
+use Rattle.master_core.proofs.Common.{Chain, Command, Deed, MasterSettings, OfMaster, Outcome, Phase, ap₃, answered_by, begun, bytes_of, chain_after, code, data_answered, data_command, data_load, held, is_process, is_reset, judged_contents, kit_of, length-replicate, notes_of, offer, on_verdict, session_of, settles, since, takes_frame, terms_of, unless, view_in, with_data}
 use Rattle.std.proofs.Common.{◌≡◌, ℕ, Bool, true, false, List, ◌∷◌, length, replicate, Ok, Err, if◌then◌else◌, refl, sym, ap, ◌∙◌, arith}
 use Rattle.fsoe_base.specs.declared.command.Command.TheVariants as command
 use Rattle.fsoe_base.specs.declared.command.State.TheVariants as state
@@ -9,15 +9,13 @@ use Rattle.param_load.specs.declared.entry.Move.TheVariants as move
 use Rattle.master_core.specs.declared.phase.Phase.TheVariants as phase
 use Rattle.master_core.specs.declared.states.InData.{InData}
 use Rattle.master_core.proofs.Sound.{Sound}
-use Rattle.master_core.proofs.SameVerdict.{came}
+use Rattle.master_core.proofs.SameVerdict.{came, seen}
 use Rattle.master_core.proofs.Agrees.{Agrees, master_at, same_master, resets-agree}
-use Rattle.master_core.proofs.Arrived.{Arrived, next_frame, next_chain, chain_after}
-use Rattle.master_core.proofs.Taking.{After, takes-agree}
+use Rattle.master_core.proofs.Taking.{After, Arrived, next_frame, next_chain, takes-agree}
 
--- state Data by its parts
-pub same_data : (t : Terms) (c c' : Chain) (o o' l l' : List ℕ) → c ≡ c' → o ≡ o' → l ≡ l'
-    → phase.Data (record { session = record { chain = c; last = l }; terms = t; outputs = o }) ≡ phase.Data (record { session = record { chain = c'; last = l' }; terms = t; outputs = o' })
-same_data t c c' o o' l l' h j g = rw (h, j, g) refl
+-- state Data by what changes in it
+abbrev data_at : MasterSettings → Chain → List ℕ → List ℕ → Phase
+data_at ms chain outputs last = phase.Data (record { session = record { chain = chain; last = last }; terms = terms_of ms; outputs = outputs })
 
 -- a data frame is the offer, or zeros while the master is held
 by-held : (ms : MasterSettings) (e : List Deed) (bytes : List ℕ) (h : Bool) (n : ℕ) (load : List ℕ) → n ≡ ms.lengths.master
@@ -33,7 +31,7 @@ data_sent ms e bytes c r s = rw r (by-held ms e bytes (held e) (length (offer (O
 abbrev IsNext : MasterSettings → List Deed → List ℕ → Command → List ℕ → Command → List ℕ → Type 0
 IsNext ms e bytes c outputs c2 load = After ms e bytes c (next_frame ms e bytes ms.conn c2 load)
     (master_at (kit_of ms e)
-    (phase.Data (record { session = record { chain = next_chain ms e bytes ms.conn c2 load; last = bytes_of (came ms bytes) }; terms = terms_of ms; outputs = outputs }))
+    (data_at ms (next_chain ms e bytes ms.conn c2 load) outputs (bytes_of (came ms bytes)))
     ms.watchdog 0)
 
 -- the outputs are then those that the frame brings
@@ -43,11 +41,11 @@ Brings ms bytes c outputs = (if is_process c then (came ms bytes).load else repl
 by-offer : (ms : MasterSettings) (e : List Deed) (bytes : List ℕ) (c : Command) (outputs : List ℕ) (h : Bool) (n : ℕ) (load : List ℕ) → is_reset c ≡ false → Brings ms bytes c outputs → n ≡ ms.lengths.master → length load ≡ ms.lengths.master
     → Arrived ms bytes → Sound ms e → IsNext ms e bytes c outputs (if h then command.FailSafeData else command.ProcessData) (if h then replicate n 0 else load)
 by-offer ms e bytes c outputs true n load r o i h a s = record {
-  view = λ b. same_master _ _ _ _ _ _ _ refl (same_data _ _ _ _ _ _ _ (chain_after ms (since e) bytes c ms.conn command.FailSafeData (replicate n 0) r (length-replicate n 0 ∙ i)) o (sym (a.back b))) refl;
+  view = λ b. same_master _ _ _ _ _ _ _ refl (ap₃ (data_at ms) (chain_after (OfMaster ms) (since e) bytes c ms.conn command.FailSafeData (replicate n 0) r (length-replicate n 0 ∙ i)) o (sym (a.back b))) refl;
   sound = record { in_state = refl; offer_len = s.offer_len; young = ms.some_watchdog };
 }
 by-offer ms e bytes c outputs false n load r o i h a s = record {
-  view = λ b. same_master _ _ _ _ _ _ _ refl (same_data _ _ _ _ _ _ _ (chain_after ms (since e) bytes c ms.conn command.ProcessData load r h) o (sym (a.back b))) refl;
+  view = λ b. same_master _ _ _ _ _ _ _ refl (ap₃ (data_at ms) (chain_after (OfMaster ms) (since e) bytes c ms.conn command.ProcessData load r h) o (sym (a.back b))) refl;
   sound = record { in_state = refl; offer_len = s.offer_len; young = ms.some_watchdog };
 }
 
@@ -55,9 +53,6 @@ by-offer ms e bytes c outputs false n load r o i h a s = record {
 pub data_after : (ms : MasterSettings) (e : List Deed) (bytes : List ℕ) (c : Command) (outputs : List ℕ) → is_reset c ≡ false → Brings ms bytes c outputs → Arrived ms bytes → Sound ms e
     → IsNext ms e bytes c outputs (data_command (kit_of ms e).offer) (data_load (kit_of ms e).offer)
 data_after ms e bytes c outputs r o a s = by-offer ms e bytes c outputs (held e) (length (offer (OfMaster ms) e)) (offer (OfMaster ms) e) r o s.offer_len s.offer_len a s
-
-abbrev seen : MasterSettings → List ℕ → Command → SessionFrameView
-seen ms bytes c = record { command = c; frame = came ms bytes }
 
 -- state Data before the frame
 abbrev before : MasterSettings → List Deed → InData

@@ -1,8 +1,7 @@
 -- A master that accepted a frame: what is put, held or set meanwhile counts as if it had come before, and the reply
 -- ends the delivery.
-use Rattle.master_core.proofs.Common.{Accepts, AreBytes, Cause, Deed, Delivery, Did, Dropped, IsProper, IsRun, Keeps, KitView, MasterSettings, MasterView, Move, Now, OfMaster, Replies, accepted, after, is_due, its_deed, kit_of, replied, replies, reply, view_of}
-use Rattle.std.proofs.Common.{◌≡◌, ℕ, List, Bool, false, Option, IsTrue, length, refl, sym, ap, subst, ◌∙◌}
-use Rattle.fsoe_base.specs.declared.did.Took.{Took}
+use Rattle.master_core.proofs.Common.{Accepts, AreBytes, Deed, Delivery, Did, IsProper, IsRun, Keeps, KitView, MasterSettings, MasterView, Move, Now, OfMaster, Replies, accepted, after, is_due, its_deed, kit_of, replied, replies, reply, view_of}
+use Rattle.std.proofs.Common.{◌≡◌, ℕ, List, Bool, false, IsTrue, length, refl, sym, ap, ap₂, subst, ◌∙◌}
 use Rattle.param_load.specs.declared.entry.Move.TheVariants as move
 use Rattle.param_load.specs.Profile.{allows_id}
 use Rattle.master_core.proofs.Accepting.{kit_kept, commutes, accepts_alike}
@@ -13,15 +12,6 @@ use Rattle.master_core.proofs.Agreed.{agrees, run-sound}
 at-rest : (k : KitView) (s : Now) → is_due s ≡ false → replied k s ≡ s
 at-rest k s h = rw h refl
 
-abbrev did_at : Option Took → Bool → Bool → Option Cause → Option Dropped → Did
-did_at took passed sent reset dropped = record { took = took; passed = passed; sent = sent; reset = reset; dropped = dropped }
-
-unsent : (took : Option Took) (passed sent : Bool) (reset : Option Cause) (dropped : Option Dropped) → sent ≡ false → did_at took passed sent reset dropped ≡ did_at took passed false reset dropped
-unsent took passed sent reset dropped h = ap (λ (b : Bool). did_at took passed b reset dropped) h
-
-same_state : (v : MasterView) (s : Now) → s ≡ v.state → record v { state = s } ≡ v
-same_state v s h = rw h refl
-
 pub accepts_by : (old : MasterView) (bytes : List ℕ) (done : Did) (new : MasterView) → AreBytes bytes → new ≡ (accepted old bytes).master → done ≡ (accepted old bytes).did → done.sent ≡ false → Accepts old bytes done new
 accepts_by old bytes done new read n d u = record {
   under_way = λ ms e h.
@@ -29,10 +19,10 @@ accepts_by old bytes done new read n d u = record {
       let same : new ≡ (accepted (view_of ms e) bytes).master = n ∙ ap (λ (v : MasterView). (accepted v bytes).master) h.is in
       let told : done ≡ (accepted (view_of ms e) bytes).did = d ∙ ap (λ (v : MasterView). (accepted v bytes).did) h.is in
       record {
-        did = unsent done.took done.passed done.sent done.reset done.dropped u ∙ (ap (λ (d : Did). record d { sent = false }) told ∙ ap (λ (d : Did). record d { sent = false }) (sym a.did));
+        did = ap (λ (b : Bool). record done { sent = b }) u ∙ (ap (λ (d : Did). record d { sent = false }) told ∙ ap (λ (d : Did). record d { sent = false }) (sym a.did));
         waits = record { is = same; told = told; reached = h.reached; read = read };
         is_after = λ r. record {
-          is = sym (same_state new (replied new.kit new.state) (at-rest new.kit new.state r)) ∙ (ap (λ (v : MasterView). replies v) same ∙ sym (a.view read));
+          is = ap (λ (s : Now). record new { state = s }) (sym (at-rest new.kit new.state r)) ∙ (ap (λ (v : MasterView). replies v) same ∙ sym (a.view read));
           reached = (record { proper = tt; stepped = refl }, h.reached);
         };
       };
@@ -68,9 +58,6 @@ pub nonce_keeps : (old : MasterView) (id : ℕ) (new : MasterView) → IsTrue (a
 nonce_keeps old id new p n = keeps old (move.Nonce id) new (λ v bytes. commutes (λ o. o) (λ n. id) v _ _ (accepts_alike v v.kit.offer id bytes)) p tt n
 
 -- the reply
-sent-at : (a a' : Did) (b b' : Bool) → a ≡ a' → b ≡ b' → record a { sent = b } ≡ record a' { sent = b' }
-sent-at a a' b b' h i = rw (h, i) refl
-
 its-outcome : (d : Delivery) → IsRun (OfMaster d.settings) d.before → Agrees d.settings d.before (move.Deliver d.bytes) (its_deed d).did (after (view_of d.settings d.before) (move.Deliver d.bytes))
 its-outcome d run = agrees d.settings d.before (move.Deliver d.bytes) (run-sound d.settings d.before run) tt
 
@@ -79,6 +66,6 @@ replies_by old new frame n f = record {
   is_after = λ d w.
       let a = its-outcome d w.reached in
       record { is = n ∙ (ap (λ (v : MasterView). replies v) w.is ∙ sym (a.view w.read)); reached = (record { proper = tt; stepped = refl }, w.reached) };
-  did = λ d w. (its-outcome d w.reached).did ∙ sent-at _ d.did _ (is_due old.state) (sym w.told) (sym (ap (λ (v : MasterView). is_due v.state) w.is));
+  did = λ d w. (its-outcome d w.reached).did ∙ ap₂ (λ (d : Did) (b : Bool). record d { sent = b }) (sym w.told) (sym (ap (λ (v : MasterView). is_due v.state) w.is));
   sent = λ d w. f ∙ (ap (λ (v : MasterView). reply v.kit v.state) w.is ∙ sym (its-outcome d w.reached).sent);
 }

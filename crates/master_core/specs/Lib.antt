@@ -1,4 +1,3 @@
-pub mod After
 pub mod Calls
 pub mod Kit
 pub mod Master
@@ -8,5 +7,4 @@ pub mod Phase
 pub mod Standing
 pub mod States
 pub mod ViewOf
-pub mod Views
 pub mod Waiting

@@ -12,6 +12,8 @@ use Rattle.fsoe_base.specs.Did.{takes, resets}
 use Rattle.fsoe_base.specs.Codes.{local_reset, watchdog_expired}
 use Rattle.fsoe_frame.specs.Parts.{Frame, bytes_of}
 use Rattle.failsafe_io.specs.Timer.{started, expires, ticked}
+use Rattle.param_load.specs.declared.entry.Move.{Move}
+use Rattle.param_load.specs.declared.entry.Move.TheVariants as move
 use Rattle.param_load.specs.declared.master_settings.MasterSettings.{MasterSettings}
 use Rattle.seq_chain.specs.declared.opened.Opened.{Opened}
 use Rattle.seq_chain.specs.declared.opened.Opened.TheVariants as opened_as
@@ -22,7 +24,7 @@ use Rattle.end_model.specs.Setup.{OfMaster, sends, receives}
 use Rattle.end_model.specs.Verdict.{is_repeat}
 use Rattle.master_core.specs.declared.phase.Phase.{Phase}
 use Rattle.master_core.specs.declared.phase.Phase.TheVariants as phase
-use Rattle.master_core.specs.Kit.{first_kit}
+use Rattle.master_core.specs.Kit.{KitView, first_kit}
 use Rattle.master_core.specs.Now.{at_rest, is_due, replied, reply}
 use Rattle.master_core.specs.Phase.{is_reset, kept_in, fault, next_phase}
 use Rattle.master_core.specs.MasterView.{MasterView}
@@ -39,17 +41,24 @@ pub record Outcome : Type 0 where
   pub did : Did
   pub sent : List ℕ
 
+-- both by their parts
+abbrev pub accepted_of : MasterView → Did → Accepted
+accepted_of v done = record { master = v; did = done }
+
+abbrev pub outcome_of : MasterView → Did → List ℕ → Outcome
+outcome_of v done sent = record { master = v; did = done; sent = sent }
+
 -- a new master: its first tick reaches the limit
 abbrev pub first_master : MasterSettings → MasterView
 first_master settings = record { kit = first_kit settings; state = at_rest (phase.Reset no_session); timer = record { limit = settings.watchdog; age = settings.watchdog - 1 } }
 
 -- a frame is dropped that didn't pass the test of the CRCs
 abbrev pub drops : MasterView → Dropped → Accepted
-drops v why = record { master = v; did = did.dropped why }
+drops v why = accepted_of v (did.dropped why)
 
 -- a step after which the frame of this phase is due, a Reset frame with this code: none was sent yet
 abbrev pub makes_due : MasterView → Phase → Code → Did → Accepted
-makes_due v p x done = record { master = record v { state = record { phase = p; due = Some (record { code = x }) }; timer = started v.kit.settings.watchdog }; did = record done { sent = false } }
+makes_due v p x done = accepted_of (record v { state = record { phase = p; due = Some (record { code = x }) }; timer = started v.kit.settings.watchdog }) (record done { sent = false })
 
 -- a session ends, and a Reset frame with the code is due
 abbrev pub ends : MasterView → Bool → Cause → Code → Accepted
@@ -94,11 +103,7 @@ replies v = record v { state = replied v.kit v.state }
 
 -- after a frame was accepted so, the frame that is due then is sent
 abbrev pub answered_by : Accepted → Outcome
-answered_by a = record {
-  master = replies a.master;
-  did = record a.did { sent = is_due a.master.state };
-  sent = reply a.master.kit a.master.state;
-}
+answered_by a = outcome_of (replies a.master) (record a.did { sent = is_due a.master.state }) (reply a.master.kit a.master.state)
 
 -- a frame is accepted, and the frame that is due then is sent at once
 abbrev pub on_frame : MasterView → List ℕ → Outcome
@@ -112,16 +117,22 @@ falls v why x = answered_by (ends v false why x)
 abbrev pub at_limit : MasterView → Outcome
 at_limit v =
     if is_reset v.state.phase
-    then record { master = record v { timer = started v.kit.settings.watchdog }; did = record did.nothing { sent = true }; sent = reset_frame 0 (sends (OfMaster v.kit.settings)) }
+    then outcome_of (record v { timer = started v.kit.settings.watchdog }) (record did.nothing { sent = true }) (reset_frame 0 (sends (OfMaster v.kit.settings)))
     else falls v (cause.Found watchdog_expired) watchdog_expired
 
 -- a tick makes the age one more, and expires where that reaches the limit
 abbrev pub tick_of : MasterView → Outcome
-tick_of v =
-    if expires v.timer
-    then at_limit v
-    else record { master = record v { timer = ticked v.timer }; did = did.nothing; sent = [] }
+tick_of v = if expires v.timer then at_limit v else outcome_of (record v { timer = ticked v.timer }) did.nothing []
 
--- a reset of the master's own
-abbrev pub reset_of : MasterView → Outcome
-reset_of v = falls v cause.Local local_reset
+-- what outlasts sessions is set: an offer, a hold or a nonce
+abbrev pub with_kit : MasterView → KitView → Outcome
+with_kit v kit = outcome_of (record v { kit = kit }) did.nothing []
+
+-- the outcome of an event, while no frame is due
+abbrev pub after : MasterView → Move → Outcome
+after v (move.Deliver bytes) = on_frame v bytes
+after v move.Tick = tick_of v
+after v move.Local = falls v cause.Local local_reset
+after v (move.Put load) = with_kit v (record v.kit { offer = record v.kit.offer { load = load } })
+after v (move.Hold failsafe) = with_kit v (record v.kit { offer = record v.kit.offer { held = failsafe } })
+after v (move.Nonce id) = with_kit v (record v.kit { nonce = id })

@@ -21,8 +21,7 @@ use Rattle.master_core.specs.declared.phase.Phase.{Phase}
 use Rattle.master_core.specs.declared.phase.Phase.TheVariants as phase
 use Rattle.master_core.specs.declared.states.Due.{Due}
 use Rattle.master_core.specs.Kit.{KitView}
-use Rattle.master_core.specs.States.{first_exchange, piece_sent, piece_frame, session_next, connection_next, parameter_next, data_next, data_sent, data_frame}
-use Rattle.master_core.specs.Views.{ExchangeUnder, DataUnder}
+use Rattle.master_core.specs.States.{first_exchange, piece_sent, piece_frame, session_next, connection_next, parameter_next, data_next, data_sent, data_frame, ExchangeUnder, DataUnder}
 
 -- a phase was made under these settings
 abbrev pub IsUnder : MasterSettings → Phase → Type 0
@@ -31,26 +30,6 @@ IsUnder settings (phase.Connection s) = ExchangeUnder settings s
 IsUnder settings (phase.Parameter s) = ExchangeUnder settings s
 IsUnder settings (phase.Data s) = DataUnder settings s
 IsUnder settings _ = Unit {0}
-
--- the session's first frame is due
-abbrev pub IsBegin : Phase → Type 0
-IsBegin (phase.Begin last) = Unit {0}
-IsBegin _ = ⊥
-
--- session ids are exchanged
-abbrev pub IsSession : Phase → Type 0
-IsSession (phase.Session s) = Unit {0}
-IsSession _ = ⊥
-
--- the connection id and the address are exchanged
-abbrev pub IsConnection : Phase → Type 0
-IsConnection (phase.Connection s) = Unit {0}
-IsConnection _ = ⊥
-
--- the parameters are exchanged
-abbrev pub IsParameter : Phase → Type 0
-IsParameter (phase.Parameter s) = Unit {0}
-IsParameter _ = ⊥
 
 -- whether there is no session
 abbrev pub is_reset : Phase → Bool

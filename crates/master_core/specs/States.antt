@@ -1,19 +1,21 @@
--- How the states of a master go on: by an answer that passed the tests, and by the frame that follows it.
-use Rattle.std.specs.Prelude.{ℕ, List, Result, Ok, Err, replicate, if◌then◌else◌}
+-- How the states of a master go on, by an answer that passed the tests and by the frame that follows it, and how they
+-- hang together with its settings.
+use Rattle.std.specs.Prelude.{◌≡◌, ℕ, false, List, length, Result, Ok, Err, replicate, if◌then◌else◌}
 use Rattle.fsoe_base.specs.declared.command.Code.{Code}
 use Rattle.fsoe_base.specs.declared.command.Command.{Command}
 use Rattle.fsoe_base.specs.Codes.{wrong_data}
 use Rattle.seq_chain.specs.Session.{frame_sent, first_session, session_taken, session_sent}
 use Rattle.seq_chain.specs.SessionFrame.{SessionFrameView}
+use Rattle.param_load.specs.declared.master_settings.MasterSettings.{MasterSettings}
 use Rattle.param_load.specs.declared.upload.Progress.{Progress}
 use Rattle.param_load.specs.declared.upload.Progress.TheVariants as progress
-use Rattle.param_load.specs.Download.{advanced, outcome, piece_in_turn, terms_of}
+use Rattle.param_load.specs.Download.{advanced, is_whole, outcome, piece_in_turn, terms_of}
 use Rattle.param_load.specs.DownloadView.{DownloadView}
 use Rattle.param_load.specs.Payload.{padded}
 use Rattle.fsoe_base.specs.Data.{data_holds}
 use Rattle.failsafe_io.specs.Offer.{data_command, data_load}
 use Rattle.failsafe_io.specs.Outputs.{outputs_of}
-use Rattle.end_model.specs.Setup.{OfMaster, sends, receives}
+use Rattle.end_model.specs.Setup.{OfMaster, sends, receives, piece_len}
 use Rattle.master_core.specs.declared.states.Exchange.{Exchange}
 use Rattle.master_core.specs.declared.states.InData.{InData}
 use Rattle.master_core.specs.declared.states.InReset.{InReset}
@@ -103,3 +105,12 @@ data_sent kit s = record s { session = session_sent s.session s.terms.conn (data
 -- that data frame: it carries the offer, or zeros while the master is held
 abbrev pub data_frame : KitView → InData → List ℕ
 data_frame kit s = frame_sent s.session.chain s.terms.conn (data_command kit.offer) (data_load kit.offer)
+
+-- a state was made under these settings: of a download there is more to come
+pub record ExchangeUnder (settings : MasterSettings) (x : Exchange) : Type 0 where
+  pub piece_is : x.download.piece ≡ piece_len (OfMaster settings)
+  pub more : is_whole x.download ≡ false
+
+-- state Data was made under these settings: the outputs have the length of the slave's frames
+pub record DataUnder (settings : MasterSettings) (s : InData) : Type 0 where
+  pub outputs_len : length s.outputs ≡ receives (OfMaster settings)

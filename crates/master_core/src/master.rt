@@ -1,8 +1,7 @@
 //! The master of a connection.
-ghost use Rattle.std.specs.Prelude.{◌≡◌, ◌==◌, false};
+ghost use Rattle.std.specs.Prelude.{◌≡◌, false};
 ghost use Rattle.fsoe_base.specs.declared.command.Command.TheVariants as command;
 ghost use Rattle.fsoe_base.specs.Did.{nothing, takes};
-ghost use Rattle.fsoe_frame.specs.Parts.{bytes_of};
 
 use crate::kit::Kit;
 use crate::phase::Phase;
@@ -23,13 +22,6 @@ pub struct Master {
     /// The frame of the phase, while it is still to be sent.
     due: Option<Due>,
     watchdog: Watchdog,
-}
-
-/// Returns true if a Reset frame with this code begins a session in state Reset.
-fn begins(code: Code) -> bool
-    ensures { result ≡ (code.0 == 0) }
-{
-    code.0 == 0x00
 }
 
 /// Reports that a Reset frame was taken, and that nothing was sent yet.
@@ -58,11 +50,11 @@ impl Model for Master {
 }
 
 impl Master {
-    ghost use Rattle.std.specs.Prelude.{◌≤◌, ◌||◌, ℕ, List, Some, true, IsTrue, OnOk, IfErr, is_some, length, [], option_copied};
+    ghost use Rattle.std.specs.Prelude.{◌≤◌, ◌||◌, Some, true, IsTrue, OnOk, IfErr, is_some, length, [], option_copied};
     ghost use Rattle.fsoe_base.specs.declared.did.Cause.TheVariants as cause;
     ghost use Rattle.param_load.specs.Profile.{allows_id};
     ghost use Rattle.failsafe_io.specs.Timer.{started};
-    ghost use Rattle.master_core.specs.Master.{ends, refuses, on_reset_view, settles, accepted, replies, falls, on_frame, tick_of};
+    ghost use Rattle.master_core.specs.Master.{accepted_of, outcome_of, ends, refuses, on_reset_view, settles, accepted, replies, falls, on_frame, tick_of};
     ghost use Rattle.master_core.specs.Now.{is_due, reply};
     ghost use Rattle.master_core.specs.Phase.{chain_of, next_phase};
     ghost use Rattle.param_load.specs.declared.entry.Move.TheVariants as event;
@@ -103,8 +95,7 @@ impl Master {
     #[cold]
     #[inline(never)]
     fn end(&mut self, passed: bool, why: Cause, code: Code, did: &mut Did)
-        ensures master { self.new ≡ (ends self.old passed why code).master }
-        ensures did { did.new ≡ (ends self.old passed why code).did }
+        ensures { accepted_of self.new did.new ≡ ends self.old passed why code }
     {
         self.phase = Phase::Reset(InReset(()));
         self.owe(code);
@@ -118,8 +109,7 @@ impl Master {
     #[cold]
     #[inline(never)]
     fn refuse(&mut self, code: Code, did: &mut Did)
-        ensures master { self.new ≡ (refuses self.old code).master }
-        ensures did { did.new ≡ (refuses self.old code).did }
+        ensures accepted { accepted_of self.new did.new ≡ refuses self.old code }
         ensures kit { self.new.kit ≡ self.old.kit }
         ensures unsent { did.new.sent ≡ false }
     {
@@ -135,15 +125,14 @@ impl Master {
     #[cold]
     #[inline(never)]
     fn acknowledge(&mut self, code: Code, view: &FrameView<'_>, did: &mut Did)
-        ensures master { self.new ≡ (on_reset_view self.old code view.now).master }
-        ensures did { did.new ≡ (on_reset_view self.old code view.now).did }
+        ensures accepted { accepted_of self.new did.new ≡ on_reset_view self.old code view.now }
         ensures kit { self.new.kit ≡ self.old.kit }
         ensures unsent { did.new.sent ≡ false }
     {
         if !self.phase.is_reset() {
             return self.end(false, Cause::Peer(code), Code::LOCAL_RESET, did);
         }
-        if !begins(code) {
+        if code.0 != 0x00 {
             did.clear();
             did.dropped = Some(Dropped::InReset);
             return;
@@ -155,11 +144,10 @@ impl Master {
 
     /// Takes a frame that passed the tests, with the values that the chain stores of it, unless its contents are wrong.
     /// After a refusal the phase must only be left.
-    #[tactic(auto, using(crate::proofs::Taken::master_taken, crate::proofs::Taken::did_taken, crate::proofs::Taken::refused))]
+    #[tactic(auto, using(crate::proofs::Taken::taken, crate::proofs::Taken::refused))]
     fn take(&mut self, seen: &SessionFrame<'_>, link: Link) -> Result<(), Code>
         requires passed { HasPassed (receives (OfMaster self.old.kit.settings)) (chain_of self.old.state.phase) seen.now link }
-        ensures master { OnOk result (self.new ≡ (settles self.old seen.now (next_phase self.old.kit self.old.state.phase seen.now)).master) }
-        ensures did { OnOk result (record (takes seen.now.command seen.now.frame.load true) { sent = false } ≡ (settles self.old seen.now (next_phase self.old.kit self.old.state.phase seen.now)).did) }
+        ensures taken { OnOk result (accepted_of self.new (record (takes seen.now.command seen.now.frame.load true) { sent = false }) ≡ settles self.old seen.now (next_phase self.old.kit self.old.state.phase seen.now)) }
         ensures refused { IfErr result (λ code. ends self.new true (cause.Found code) code ≡ settles self.old seen.now (next_phase self.old.kit self.old.state.phase seen.now)) }
         ensures kit { self.new.kit ≡ self.old.kit }
     {
@@ -171,8 +159,7 @@ impl Master {
     /// Tests a frame and takes it, or drops it, or leaves the session.
     #[inline(never)]
     fn receive(&mut self, frame: &[u8], did: &mut Did)
-        ensures master { self.new ≡ (accepted self.old frame.now).master }
-        ensures did { did.new ≡ (accepted self.old frame.now).did }
+        ensures accepted { accepted_of self.new did.new ≡ accepted self.old frame.now }
         ensures kit { self.new.kit ≡ self.old.kit }
         ensures unsent { did.new.sent ≡ false }
     {
@@ -273,9 +260,7 @@ impl Master {
     #[inline(never)]
     fn exchange(&mut self, frame: &[u8], did: &mut Did, out: &mut FrameBuf)
         requires { is_due self.old.state ≡ false }
-        ensures master { self.new ≡ (on_frame self.old frame.now).master }
-        ensures did { did.new ≡ (on_frame self.old frame.now).did }
-        ensures sent { out.new ≡ (on_frame self.old frame.now).sent }
+        ensures outcome { outcome_of self.new did.new out.new ≡ on_frame self.old frame.now }
         ensures kit { self.new.kit ≡ self.old.kit }
         ensures done { is_due self.new.state ≡ false }
     {
@@ -349,7 +334,6 @@ impl Master {
     /// Counts a tick; no frame may be due. If the age reaches the watchdog, the session ends with code 05h: the outputs
     /// are zeros from this tick on, and the Reset frame is written to `out`. In state Reset the Reset frame with code 0
     /// is written at each expiry.
-    #[tactic(auto, using(crate::proofs::Law::follows_by, crate::proofs::Law::answers_by))]
     pub fn tick(&mut self, out: &mut FrameBuf) -> Did
         requires { is_due self.old.state ≡ false }
         ensures follows { Follows self.old event.Tick self.new }
@@ -358,7 +342,7 @@ impl Master {
         ensures done { is_due self.new.state ≡ false }
     {
         let mut did = Did::nothing();
-        self.count(&mut did, out);
+        self.tick_into(&mut did, out);
         did
     }
 
@@ -398,7 +382,7 @@ impl Master {
         ensures settings { self.new.kit.settings ≡ self.old.kit.settings }
         ensures due { is_due self.new.state ≡ is_due self.old.state }
     {
-        self.kit.put(load);
+        self.kit.offer.put(load);
     }
 
     /// Switches fail-safe data on or off, also for a due frame: while on, zeros replace the offer. It outlasts resets.
@@ -409,7 +393,7 @@ impl Master {
         ensures settings { self.new.kit.settings ≡ self.old.kit.settings }
         ensures due { is_due self.new.state ≡ is_due self.old.state }
     {
-        self.kit.hold(failsafe);
+        self.kit.offer.hold(failsafe);
     }
 
     /// Sets the id of all sessions whose first Session frame is sent after this call, also if that frame is due now. It
@@ -422,7 +406,7 @@ impl Master {
         ensures settings { self.new.kit.settings ≡ self.old.kit.settings }
         ensures due { is_due self.new.state ≡ is_due self.old.state }
     {
-        self.kit.set_nonce(id);
+        self.kit.nonce = id;
     }
 
     /// The settings that the master was made with.

@@ -35,10 +35,11 @@ fn has_conn(settings: &MasterSettings, command: Command, field: u16) -> bool
 }
 
 impl Phase {
-    ghost use Rattle.std.specs.Prelude.{◌≡◌, ◌≤◌, length, Some, IfOk, option_copied};
+    ghost use Rattle.std.specs.Prelude.{◌≡◌, ◌≤◌, length, IsTrue, None, Some, is_some, IfOk, option_copied};
     ghost use Rattle.std.specs.Result.{result_err};
     ghost use Rattle.fsoe_frame.specs.Parts.{bytes_of};
     ghost use Rattle.seq_chain.specs.Session.{tested, HasPassed};
+    ghost use Rattle.fsoe_base.specs.declared.command.State.TheVariants as state;
     ghost use Rattle.master_core.specs.declared.states.Due.{Due};
     ghost use Rattle.master_core.specs.declared.states.Exchange.{Exchange};
     ghost use Rattle.master_core.specs.declared.phase.Phase.TheVariants as phase;
@@ -46,7 +47,7 @@ impl Phase {
     ghost use Rattle.master_core.specs.States.{with_download, first_data};
     ghost use Rattle.seq_chain.specs.Opened.{is_repeat};
     ghost use Rattle.end_model.specs.Setup.{OfMaster, receives};
-    ghost use Rattle.master_core.specs.Phase.{IsUnder, IsBegin, IsSession, IsConnection, IsParameter, state_of, is_reset, session_of, chain_of, kept_in, allows, fault, next_phase, placed, sent_phase, due_frame, outputs_in, terms_in};
+    ghost use Rattle.master_core.specs.Phase.{IsUnder, state_of, is_reset, session_of, chain_of, kept_in, allows, fault, next_phase, placed, sent_phase, due_frame, outputs_in, terms_in};
 
     pub(crate) fn state(&self) -> State
         ensures { result ≡ state_of self.now }
@@ -152,7 +153,8 @@ impl Phase {
     /// Goes on to state Connection after the last answer in state Session.
     #[inline(never)]
     fn begin_connection(&mut self, kit: &Kit)
-        requires { IsSession self.old }
+        requires name_is { state_of self.old ≡ state.Session }
+        requires begun { IsTrue (is_some (session_of self.old)) }
         ensures next { (e : Exchange) → self.old ≡ phase.Session e → self.new ≡ phase.Connection (with_download e (connection_download kit.now.settings)) }
         ensures under { IsUnder kit.now.settings self.new }
     {
@@ -165,7 +167,7 @@ impl Phase {
     /// Goes on to state Parameter after the last answer in state Connection.
     #[inline(never)]
     fn begin_parameter(&mut self, kit: &Kit)
-        requires { IsConnection self.old }
+        requires { state_of self.old ≡ state.Connection }
         ensures next { (e : Exchange) → self.old ≡ phase.Connection e → self.new ≡ phase.Parameter (with_download e (parameter_download kit.now.settings)) }
         ensures under { IsUnder kit.now.settings self.new }
     {
@@ -178,7 +180,7 @@ impl Phase {
     /// Goes on to state Data after the last answer in state Parameter.
     #[inline(never)]
     fn begin_data(&mut self, kit: &Kit)
-        requires { IsParameter self.old }
+        requires { state_of self.old ≡ state.Parameter }
         ensures next { (e : Exchange) → self.old ≡ phase.Parameter e → self.new ≡ phase.Data (first_data kit.now e) }
         ensures under { IsUnder kit.now.settings self.new }
     {
@@ -218,7 +220,8 @@ impl Phase {
     /// Begins a session by its first frame.
     #[inline(never)]
     fn begin_session(&mut self, kit: &Kit, out: &mut FrameBuf)
-        requires { IsBegin self.old }
+        requires name_is { state_of self.old ≡ state.Session }
+        requires unbegun { session_of self.old ≡ None }
         ensures next { self.new ≡ sent_phase kit.now self.old }
         ensures sent { (due : Due) → out.new ≡ due_frame due kit.now self.old }
         ensures under { IsUnder kit.now.settings self.new }
@@ -231,7 +234,7 @@ impl Phase {
         let Phase::Session(state) = self else {
             unreachable!();
         };
-        state.send(kit, out);
+        state.exchange.send(Command::Session, 0, kit, out);
     }
 
     /// The terms in state Data.
@@ -269,12 +272,13 @@ impl Due {
         ensures sent { out.new ≡ due_frame self kit.now phase.old }
         ensures under { IsUnder kit.now.settings phase.new }
     {
+        let conn = kit.settings().conn();
         match phase {
             Phase::Reset(_) => reset_frame(self.code, kit.settings().own_len(), out),
             Phase::Begin(_) => phase.begin_session(kit, out),
-            Phase::Session(state) => state.send(kit, out),
-            Phase::Connection(state) => state.send(kit, out),
-            Phase::Parameter(state) => state.send(kit, out),
+            Phase::Session(state) => state.exchange.send(Command::Session, 0, kit, out),
+            Phase::Connection(state) => state.exchange.send(Command::Connection, conn, kit, out),
+            Phase::Parameter(state) => state.exchange.send(Command::Parameter, conn, kit, out),
             Phase::Data(state) => state.send(kit, out),
         }
     }

@@ -2,18 +2,16 @@
 //! takes an answer that passed its tests, with the values that the chain stores of it, or returns the code of the
 //! contents test that fails. Then it sends the next frame.
 ghost use Rattle.std.specs.Prelude.{◌≡◌, OnOk, OnErr};
-ghost use Rattle.fsoe_base.specs.declared.command.Command.TheVariants as command;
 ghost use Rattle.param_load.specs.Download.{outcome};
 ghost use Rattle.seq_chain.specs.Session.{HasPassed};
 ghost use Rattle.end_model.specs.Setup.{OfMaster, receives};
 ghost use Rattle.master_core.specs.Kit.{connection_download, parameter_download};
-ghost use Rattle.master_core.specs.States.{piece_sent, piece_frame, first_exchange, answered, with_download, first_data, data_next, in_place, data_sent, data_frame};
-ghost use Rattle.master_core.specs.Views.{ExchangeUnder, DataUnder};
+ghost use Rattle.master_core.specs.States.{piece_sent, piece_frame, first_exchange, answered, with_download, first_data, data_next, in_place, data_sent, data_frame, ExchangeUnder, DataUnder};
 
 use crate::kit::Kit;
 use failsafe_io::{Outputs, data_holds};
 use fsoe_base::{Code, Command, FrameBuf};
-use param_load::{Download, Progress, Terms};
+use param_load::{Download, Payload, Progress, Terms};
 use seq_chain::{Link, Session, SessionFrame};
 use std::marker::Model;
 use std::mem;
@@ -107,7 +105,7 @@ impl Exchange {
 
     /// Sends the current piece. It isn't inlined, so that the sending of a data frame needs no room for it.
     #[inline(never)]
-    fn send(&mut self, command: Command, conn: u16, kit: &Kit, out: &mut FrameBuf)
+    pub(crate) fn send(&mut self, command: Command, conn: u16, kit: &Kit, out: &mut FrameBuf)
         requires { ExchangeUnder kit.now.settings self.old }
         ensures exchange { self.new ≡ piece_sent command conn kit.now self.old }
         ensures sent { out.new ≡ piece_frame command conn kit.now self.old }
@@ -124,22 +122,14 @@ impl InSession {
         ensures next { result ≡ first_exchange kit.now last }
         ensures under { ExchangeUnder kit.now.settings result }
     {
+        let settings = kit.settings();
+        let payload = Payload::session(kit.nonce(), settings.profile());
         InSession {
             exchange: Exchange {
                 session: Session::after(last),
-                download: kit.session_download(),
+                download: Download::new(payload, settings.piece_len(), false),
             },
         }
-    }
-
-    /// Sends the current piece of the session id.
-    pub(crate) fn send(&mut self, kit: &Kit, out: &mut FrameBuf)
-        requires { ExchangeUnder kit.now.settings self.old }
-        ensures next { self.new ≡ piece_sent command.Session 0 kit.now self.old }
-        ensures sent { out.new ≡ piece_frame command.Session 0 kit.now self.old }
-        ensures under { ExchangeUnder kit.now.settings self.new }
-    {
-        self.exchange.send(Command::Session, 0, kit, out);
     }
 
     /// State Connection of this session, before anything of its payload was sent. This state must only be left.
@@ -147,8 +137,10 @@ impl InSession {
         ensures next { result ≡ with_download self.old (connection_download kit.now.settings) }
         ensures under { ExchangeUnder kit.now.settings result }
     {
+        let settings = kit.settings();
         let session = mem::replace(&mut self.exchange.session, Session::new());
-        let download = kit.connection_download();
+        let payload = Payload::connection(settings.conn(), settings.address());
+        let download = Download::new(payload, settings.piece_len(), true);
         InConnection {
             exchange: Exchange { session, download },
         }
@@ -156,24 +148,19 @@ impl InSession {
 }
 
 impl InConnection {
-    /// Sends the current piece of the connection id and the address.
-    pub(crate) fn send(&mut self, kit: &Kit, out: &mut FrameBuf)
-        requires { ExchangeUnder kit.now.settings self.old }
-        ensures next { self.new ≡ piece_sent command.Connection kit.now.settings.conn kit.now self.old }
-        ensures sent { out.new ≡ piece_frame command.Connection kit.now.settings.conn kit.now self.old }
-        ensures under { ExchangeUnder kit.now.settings self.new }
-    {
-        let conn = kit.settings().conn();
-        self.exchange.send(Command::Connection, conn, kit, out);
-    }
-
     /// State Parameter of this session, before anything of its payload was sent. This state must only be left.
     pub(crate) fn to_parameter(&mut self, kit: &Kit) -> InParameter
         ensures next { result ≡ with_download self.old (parameter_download kit.now.settings) }
         ensures under { ExchangeUnder kit.now.settings result }
     {
+        let settings = kit.settings();
         let session = mem::replace(&mut self.exchange.session, Session::new());
-        let download = kit.parameter_download();
+        let parameters = Payload::parameter(
+            settings.watchdog(),
+            settings.profile(),
+            settings.app(),
+        );
+        let download = Download::new(parameters, settings.piece_len(), true);
         InParameter {
             exchange: Exchange { session, download },
         }
@@ -181,17 +168,6 @@ impl InConnection {
 }
 
 impl InParameter {
-    /// Sends the current piece of the parameters.
-    pub(crate) fn send(&mut self, kit: &Kit, out: &mut FrameBuf)
-        requires { ExchangeUnder kit.now.settings self.old }
-        ensures next { self.new ≡ piece_sent command.Parameter kit.now.settings.conn kit.now self.old }
-        ensures sent { out.new ≡ piece_frame command.Parameter kit.now.settings.conn kit.now self.old }
-        ensures under { ExchangeUnder kit.now.settings self.new }
-    {
-        let conn = kit.settings().conn();
-        self.exchange.send(Command::Parameter, conn, kit, out);
-    }
-
     /// State Data of this session as it is entered, with zeros as outputs. This state must only be left.
     pub(crate) fn to_data(&mut self, kit: &Kit) -> InData
         ensures next { result ≡ first_data kit.now self.old }

@@ -1,7 +1,6 @@
 -- What an event leaves at the machine is what looking back gives: where nothing is taken.
-use Rattle.slave_core.proofs.Common.{AreBytes, Code, Deed, Did, Dropped, KitView, Move, Now, OfSlave, Outcome, SlaveSettings, SlaveView, State, code, code_sent, deed_of, dropped, drops, falls, first_of, kit_of, limit, notes_of, nothing, now_in, on_expiry, on_fault, on_reset_frame, quiet, refuses, reset_by_peer, resets, slave_age, slave_limit, state_of, takes_frame, tick_in_session, tick_of, ticks, view_in, view_of}
-use Rattle.std.proofs.Common.{◌≡◌, ◌≢◌, ℕ, suc, ◌+◌, ◌<◌, ◌==◌, nat_le, List, [], ◌∷◌, length, Bool, true, false, if◌then◌else◌, refl, sym, ap, subst, ◌∙◌, arith, rules}
-use Rattle.fsoe_base.specs.declared.command.Command.TheVariants as command
+use Rattle.slave_core.proofs.Common.{AreBytes, Code, Deed, Did, Dropped, KitView, Move, Now, OfSlave, Outcome, SlaveSettings, SlaveView, State, code, code_sent, deed_of, dropped, drops, falls, first_of, kit_of, later, limit, meets, notes_of, nothing, now_in, on_expiry, on_fault, on_reset_frame, one_more, quiet, refuses, reset_by_peer, resets, slave_age, slave_limit, state_of, tick_in_session, tick_of, ticks, view_in, view_of}
+use Rattle.std.proofs.Common.{◌≡◌, ◌≢◌, ℕ, suc, ◌+◌, ◌<◌, nat_le, List, [], ◌∷◌, length, Bool, true, false, if◌then◌else◌, refl, sym, ap, subst, ◌∙◌, arith, rules}
 use Rattle.fsoe_base.specs.declared.command.State.TheVariants as state
 use Rattle.fsoe_base.specs.declared.did.Cause.{Cause}
 use Rattle.fsoe_base.specs.declared.did.Cause.TheVariants as cause
@@ -57,45 +56,18 @@ resets-agree p ss e m passed because x k c s = record {
 pub fault-agrees : (p : State) (ss : SlaveSettings) (e : List Deed) (bytes : List ℕ) (passed : Bool) (x : Code) → state_of (OfSlave ss) e ≡ p → Sound ss e
     → Agrees ss e (move.Deliver bytes) (on_fault p passed x) (refuses (view_in p ss e) passed x)
 fault-agrees state.Reset ss e bytes passed x now s = drop-agrees state.Reset ss e bytes passed why.InReset now s
-fault-agrees state.Session ss e bytes passed x now s = resets-agree state.Session ss e (move.Deliver bytes) passed (cause.Found x) x refl refl s
-fault-agrees state.Connection ss e bytes passed x now s = resets-agree state.Connection ss e (move.Deliver bytes) passed (cause.Found x) x refl refl s
-fault-agrees state.Parameter ss e bytes passed x now s = resets-agree state.Parameter ss e (move.Deliver bytes) passed (cause.Found x) x refl refl s
-fault-agrees state.Data ss e bytes passed x now s = resets-agree state.Data ss e (move.Deliver bytes) passed (cause.Found x) x refl refl s
+fault-agrees p ss e bytes passed x now s = resets-agree p ss e (move.Deliver bytes) passed (cause.Found x) x refl refl s
 
 -- a valid Reset frame
-acknowledged : (ss : SlaveSettings) (e : List Deed) (bytes load : List ℕ) (x : Code) → Sound ss e
-    → Agrees ss e (move.Deliver bytes) (takes_frame command.Reset load) (reset_by_peer (view_in state.Reset ss e) x load)
-acknowledged ss e bytes load x s = record {
+pub reset_frame-agrees : (p : State) (ss : SlaveSettings) (e : List Deed) (bytes load : List ℕ) → Sound ss e
+    → Agrees ss e (move.Deliver bytes) (on_reset_frame p (OfSlave ss) load) (reset_by_peer (view_in p ss e) (code (first_of load)) load)
+reset_frame-agrees state.Reset ss e bytes load s = record {
   view = λ r. same_slave _ _ _ _ _ _ _ _ refl refl (fresh_limit ss) refl;
   did = refl;
   sent = refl;
   sound = record { in_state = (refl, refl); offer_len = s.offer_len; young = λ h. absurd (h refl) };
 }
-
-peer-resets : (p : State) (ss : SlaveSettings) (e : List Deed) (bytes : List ℕ) (x y : Code) → x ≡ y → Sound ss e
-    → Agrees ss e (move.Deliver bytes) (resets false (cause.Peer y)) (falls (view_in p ss e) false (cause.Peer x) (code 0))
-peer-resets p ss e bytes x y h k = grind arith
-
-pub reset_frame-agrees : (p : State) (ss : SlaveSettings) (e : List Deed) (bytes load : List ℕ) (x : Code) → x ≡ code (first_of load) → Sound ss e
-    → Agrees ss e (move.Deliver bytes) (on_reset_frame p (OfSlave ss) load) (reset_by_peer (view_in p ss e) x load)
-reset_frame-agrees state.Reset ss e bytes load x h s = acknowledged ss e bytes load x s
-reset_frame-agrees state.Session ss e bytes load x h s = peer-resets state.Session ss e bytes x (code (first_of load)) h s
-reset_frame-agrees state.Connection ss e bytes load x h s = peer-resets state.Connection ss e bytes x (code (first_of load)) h s
-reset_frame-agrees state.Parameter ss e bytes load x h s = peer-resets state.Parameter ss e bytes x (code (first_of load)) h s
-reset_frame-agrees state.Data ss e bytes load x h s = peer-resets state.Data ss e bytes x (code (first_of load)) h s
-
--- what outlasts sessions is set
-pub put-agrees : (ss : SlaveSettings) (e : List Deed) (load : List ℕ) → length load ≡ ss.lengths.slave → Sound ss e
-    → Agrees ss e (move.Put load) nothing (quiet (record (view_of ss e) { kit = record (kit_of ss e) { offer = record (kit_of ss e).offer { load = load } } }))
-put-agrees ss e load h s = record { view = λ r. refl; did = refl; sent = refl; sound = record { in_state = s.in_state; offer_len = h; young = s.young } }
-
-pub hold-agrees : (ss : SlaveSettings) (e : List Deed) (failsafe : Bool) → Sound ss e
-    → Agrees ss e (move.Hold failsafe) nothing (quiet (record (view_of ss e) { kit = record (kit_of ss e) { offer = record (kit_of ss e).offer { held = failsafe } } }))
-hold-agrees ss e failsafe s = record { view = λ r. refl; did = refl; sent = refl; sound = record { in_state = s.in_state; offer_len = s.offer_len; young = s.young } }
-
-pub nonce-agrees : (ss : SlaveSettings) (e : List Deed) (id : ℕ) → Sound ss e
-    → Agrees ss e (move.Nonce id) nothing (quiet (record (view_of ss e) { kit = record (kit_of ss e) { nonce = id } }))
-nonce-agrees ss e id s = record { view = λ r. refl; did = refl; sent = refl; sound = record { in_state = s.in_state; offer_len = s.offer_len; young = s.young } }
+reset_frame-agrees p ss e bytes load s = resets-agree p ss e (move.Deliver bytes) false (cause.Peer (code (first_of load))) (code 0) refl refl s
 
 -- a tick
 abbrev tick_by : Bool → SlaveView → Outcome
@@ -104,21 +76,12 @@ tick_by b v =
     then falls v false (cause.Found (code 0x05)) (code 0x05)
     else quiet (record v { timer = record { limit = v.timer.limit; age = if b then 0 else v.timer.age + 1 } })
 
-one-more : (a t : ℕ) → a ≡ t → suc t ≡ a + 1
-one-more a t h = omega arith
-
-meets : (a t l : ℕ) → a ≡ t → t < l → nat_le l (suc t) ≡ (a + 1 == l)
-meets a t l h k = grind arith
-
-later : (t l : ℕ) → nat_le l (suc t) ≡ false → suc t < l
-later t l h = grind arith
-
 counts : (p : State) (ss : SlaveSettings) (e : List Deed) (b : Bool) → state_of (OfSlave ss) e ≡ p → slave_age p (ticks (OfSlave ss) e) ≡ ticks (OfSlave ss) e → slave_age p (suc (ticks (OfSlave ss) e)) ≡ suc (ticks (OfSlave ss) e)
     → nat_le (limit (OfSlave ss) e) (suc (ticks (OfSlave ss) e)) ≡ b → Sound ss e
     → Agrees ss e move.Tick (if b then resets false (cause.Found (code 0x05)) else nothing) (tick_by b (view_in p ss e))
 counts p ss e true now a n h s = resets-agree p ss e move.Tick false (cause.Found (code 0x05)) (code 0x05) refl refl s
 counts p ss e false now a n h s = record {
-  view = λ r. same_slave _ _ _ _ _ _ _ _ refl (ap (λ (p : State). now_in p ss (notes_of ss e)) now) refl (ap (λ (p : State). slave_age p (suc (ticks (OfSlave ss) e))) now ∙ n ∙ one-more _ _ a);
+  view = λ r. same_slave _ _ _ _ _ _ _ _ refl (ap (λ (p : State). now_in p ss (notes_of ss e)) now) refl (ap (λ (p : State). slave_age p (suc (ticks (OfSlave ss) e))) now ∙ n ∙ one_more _ _ a);
   did = refl;
   sent = refl;
   sound = record { in_state = s.in_state; offer_len = s.offer_len; young = λ k. later (ticks (OfSlave ss) e) (limit (OfSlave ss) e) h };
@@ -134,25 +97,20 @@ in-session p ss e now some a n s =
     (meets (slave_age p t) t l a young)
     (counts p ss e (nat_le l (suc t)) now a n refl s)
 
+both : (b : Bool) → nothing ≡ (if b then nothing else nothing)
+both b = grind arith
+
 rests : (ss : SlaveSettings) (e : List Deed) (b : Bool) → state_of (OfSlave ss) e ≡ state.Reset → Sound ss e
     → Agrees ss e move.Tick (if b then nothing else nothing) (quiet (view_in state.Reset ss e))
-rests ss e true now s = record {
-  view = λ r. ap (λ (p : State). slave_at (kit_of ss e) (now_in p ss (notes_of ss e)) (limit (OfSlave ss) e) (slave_age p (suc (ticks (OfSlave ss) e)))) now;
-  did = refl;
-  sent = refl;
-  sound = record { in_state = s.in_state; offer_len = s.offer_len; young = λ k. absurd (k now) };
-}
-rests ss e false now s = record {
-  view = λ r. ap (λ (p : State). slave_at (kit_of ss e) (now_in p ss (notes_of ss e)) (limit (OfSlave ss) e) (slave_age p (suc (ticks (OfSlave ss) e)))) now;
-  did = refl;
-  sent = refl;
-  sound = record { in_state = s.in_state; offer_len = s.offer_len; young = λ k. absurd (k now) };
-}
+rests ss e b now s =
+    subst (λ (d : Did). Agrees ss e move.Tick d (quiet (view_in state.Reset ss e))) (both b) (record {
+      view = λ r. ap (λ (p : State). slave_at (kit_of ss e) (now_in p ss (notes_of ss e)) (limit (OfSlave ss) e) (slave_age p (suc (ticks (OfSlave ss) e)))) now;
+      did = refl;
+      sent = refl;
+      sound = record { in_state = s.in_state; offer_len = s.offer_len; young = λ k. absurd (k now) };
+    })
 
 pub tick-agrees : (p : State) (ss : SlaveSettings) (e : List Deed) → state_of (OfSlave ss) e ≡ p → Sound ss e
     → Agrees ss e move.Tick (if nat_le (limit (OfSlave ss) e) (suc (slave_age p (ticks (OfSlave ss) e))) then on_expiry p (OfSlave ss) else nothing) (tick_of (view_in p ss e))
 tick-agrees state.Reset ss e now s = rests ss e (nat_le (limit (OfSlave ss) e) 1) now s
-tick-agrees state.Session ss e now s = in-session state.Session ss e now (λ k. cc) refl refl s
-tick-agrees state.Connection ss e now s = in-session state.Connection ss e now (λ k. cc) refl refl s
-tick-agrees state.Parameter ss e now s = in-session state.Parameter ss e now (λ k. cc) refl refl s
-tick-agrees state.Data ss e now s = in-session state.Data ss e now (λ k. cc) refl refl s
+tick-agrees p ss e now s = in-session p ss e now (λ k. cc) refl refl s

@@ -1,14 +1,11 @@
 -- What is known of a frame of a session that came, and how the chain goes on by it.
-use Rattle.slave_core.proofs.Common.{AreBytes, Chain, Command, Deed, OfSlave, SessionFrameView, Setup, SlaveSettings, State, after_taken, begun, bytes_of, chain_sent, command_byte, command_of, first_of, frame_len, frame_of, frame_sent, has_command, is_empty, is_reset, option_or, own_crc, own_link, padded, phase_of, phase_of_frame, piece_from, piece_len, receives, same_phase, sends, session_payload, since, taken_link, takes_frame}
+use Rattle.slave_core.proofs.Common.{AreBytes, Chain, Command, OfSlave, SessionFrameView, SlaveSettings, State, after_taken, bytes_of, chain_sent, command_byte, command_of, frame_len, frame_sent, has_command, option_or, phase_of, phase_of_frame, piece_from, piece_len, same_phase, session_payload}
 use Rattle.param_load.specs.declared.profile.Profile.{Profile}
-use Rattle.std.proofs.Common.{◌≡◌, ℕ, suc, ◌+◌, ◌-◌, ◌*◌, ◌≤◌, ◌==◌, List, ◌∷◌, ◌++◌, length, take, drop, slice_index, Bool, true, false, Option, Some, None, unwrap_or, if◌then◌else◌, refl, sym, ap, ◌∙◌, length-append, suc-mul, arith}
+use Rattle.std.proofs.Common.{◌≡◌, ℕ, suc, ◌+◌, ◌-◌, ◌*◌, ◌≤◌, ◌==◌, List, ◌++◌, length, take, drop, slice_index, Bool, true, false, Option, Some, None, unwrap_or, if◌then◌else◌, refl, sym, ap, ◌∙◌, length-append, suc-mul, arith}
 use Rattle.std.proofs.lemmas.Grind.{common_steps}
 use Rattle.fsoe_base.specs.declared.command.Command.TheVariants as command
 use Rattle.fsoe_base.specs.declared.command.State.TheVariants as state
 use Rattle.fsoe_frame.proofs.Places.{Whole, FrameAt, whole, frame_at}
-use Rattle.seq_chain.specs.Sealing as sealing
-use Rattle.param_load.specs.declared.entry.Move.TheVariants as move
-use Rattle.end_model.proofs.ReadBack.{read_back}
 use Rattle.slave_core.proofs.SameVerdict.{came}
 
 -- a frame of the master's length whose command byte is that of a command
@@ -28,10 +25,6 @@ arrived ss bytes c len named =
     let h = heads bytes c (ap command_of (sym at.cmd_is) ∙ named) in
     record { load_len = w.load; phase_is = h.0; connects = h.1; back = w.back }
 
--- the chain of these deeds
-abbrev pub chain_at : Setup → List Deed → Chain
-chain_at s e = record { own = own_link s e; taken = taken_link s e }
-
 -- the chain after a frame was taken and answered
 abbrev pub chain_answered : Chain → SessionFrameView → ℕ → Command → List ℕ → Chain
 chain_answered chain f conn cmd load = chain_sent (after_taken chain f.frame) conn cmd load
@@ -40,39 +33,15 @@ chain_answered chain f conn cmd load = chain_sent (after_taken chain f.frame) co
 abbrev pub frame_answered : Chain → SessionFrameView → ℕ → Command → List ℕ → List ℕ
 frame_answered chain f conn cmd load = frame_sent (after_taken chain f.frame) conn cmd load
 
--- the chain with one deed more, which took a frame and sent an answer
-chain-next : (s : Setup) (e : List Deed) (bytes load sent : List ℕ) (c : Command) (conn : ℕ) (c2 : Command) (answer : List ℕ) → is_reset c ≡ false → is_empty sent ≡ false
-    → frame_of (sends s) sent ≡ sealing.sealed (first_of (frame_of (receives s) bytes).crcs) (own_link s e) conn (command_byte c2) answer
-    → chain_at s (record { what = move.Deliver bytes; did = takes_frame c load; sent = sent } ∷ e) ≡ chain_answered (chain_at s e) (record { command = c; frame = frame_of (receives s) bytes }) conn c2 answer
-chain-next s e bytes load sent c conn c2 answer r some back = simp (r, some, back, own_crc)
-
--- the deed that takes a frame and sends this
-abbrev pub taking : SlaveSettings → List ℕ → Command → List ℕ → Deed
-taking ss bytes c sent = record { what = move.Deliver bytes; did = takes_frame c (came ss bytes).load; sent = sent }
-
-pub chain-after : (ss : SlaveSettings) (e : List Deed) (bytes : List ℕ) (c : Command) (conn : ℕ) (c2 : Command) (load : List ℕ) → is_reset c ≡ false → length load ≡ ss.lengths.slave
-    → chain_at (OfSlave ss) (taking ss bytes c (frame_answered (chain_at (OfSlave ss) (since e)) (record { command = c; frame = came ss bytes }) conn c2 load) ∷ since e)
-    ≡ chain_answered (chain_at (OfSlave ss) (since e)) (record { command = c; frame = came ss bytes }) conn c2 load
-chain-after ss e bytes c conn c2 load r h =
-    chain-next (OfSlave ss) (since e) bytes (came ss bytes).load (frame_answered (chain_at (OfSlave ss) (since e)) (record { command = c; frame = came ss bytes }) conn c2 load) c conn c2 load r refl
-    (read_back (OfSlave ss) (since (begun (move.Deliver bytes) (takes_frame command.Session (came ss bytes).load) ∷ e)) conn c2 load h)
-
 -- the first bytes of a load
 pub piece-len : (load : List ℕ) (l c : ℕ) → length load ≡ l → c ≤ l → length (take c load) ≡ c
 piece-len load l c h k = grind (arith, common_steps)
-
--- a piece and zeros fill a frame
-pub filled : (bytes : List ℕ) (c l : ℕ) → c ≤ l → length (padded (take c bytes) l) ≡ l
-filled bytes c l h = grind (arith, common_steps)
 
 -- the piece that came last
 pub last-piece : (u p : List ℕ) (c : ℕ) → length p ≡ c → drop (length (u ++ p) - c) (u ++ p) ≡ p
 last-piece u p c h = grind (arith, common_steps)
 
--- a piece is at most as long as a frame of either end
-pub piece-own : (ss : SlaveSettings) → piece_len (OfSlave ss) ≤ ss.lengths.slave
-piece-own ss = omega arith
-
+-- a piece is at most as long as a frame of the master
 pub piece-peer : (ss : SlaveSettings) → piece_len (OfSlave ss) ≤ ss.lengths.master
 piece-peer ss = omega arith
 
@@ -87,19 +56,9 @@ count-next u p k c ph h g j =
     let more : suc k * c ≡ k * c + c = suc-mul k c in
     rw h (omega arith)
 
--- the first of these where it is there
-pub keeps : (o next : Option ℕ) (k : ℕ) → o ≡ Some k → option_or o next ≡ Some k
-keeps o next k h = ap (λ (o : Option ℕ). option_or o next) h
-
+-- the connection id of the first Connection frame
 pub connects-first : (o : Option ℕ) (b : Bool) (k : ℕ) → b ≡ true → option_or o (Some k) ≡ Some k → option_or o (if b then Some k else None) ≡ Some k
 connects-first o b k h g = rw h g
 
 pub connects-none : (o : Option ℕ) (b : Bool) (k : ℕ) → b ≡ false → o ≡ None → option_or o (if b then Some k else None) ≡ None
 connects-none o b k h g = rw (h, g) refl
-
--- an id that is there
-pub is-there : (o : Option ℕ) (k : ℕ) → o ≡ Some k → o ≡ Some (unwrap_or o 0)
-is-there o k h = rw h refl
-
-pub there : (o : Option ℕ) (k : ℕ) → o ≡ Some k → unwrap_or o 0 ≡ k
-there o k h = rw h refl

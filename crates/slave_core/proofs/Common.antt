@@ -1,4 +1,5 @@
 -- The names that more than one file of these proofs cites, passed on from one place. Declares nothing.
+pub use Rattle.end_model.proofs.GoesOn.{ap₃, chain_after, filled, is_there, keeps, later, meets, one_more, piece_own, taking, there}
 pub use Rattle.end_model.proofs.Links.{own_crc}
 pub use Rattle.end_model.proofs.Shown.{fail_safe, looking_back, slave-run}
 pub use Rattle.end_model.proofs.SlaveShown.{parameters}
@@ -36,13 +37,12 @@ pub use Rattle.seq_chain.specs.Cover.{first_of}
 pub use Rattle.seq_chain.specs.Session.{chain_sent, fits_next, frame_sent}
 pub use Rattle.seq_chain.specs.SessionFrame.{SessionFrameView}
 pub use Rattle.seq_chain.specs.declared.chain.Chain.{Chain}
-pub use Rattle.slave_core.specs.After.{after}
 pub use Rattle.slave_core.specs.Kit.{KitView}
 pub use Rattle.slave_core.specs.Now.{limit_of}
-pub use Rattle.slave_core.specs.Slave.{Outcome, drops, fallen, falls, first_slave, on_frame, on_opened, on_session, quiet, refuses, refuses_contents, reset_by_peer, settles, taken, tick_in_session, tick_of}
+pub use Rattle.slave_core.specs.Slave.{Outcome, after, drops, fallen, falls, first_slave, on_frame, on_opened, on_session, quiet, refuses, refuses_contents, reset_by_peer, settles, taken, tick_in_session, tick_of}
 pub use Rattle.slave_core.specs.SlaveView.{IsSoundSlave, SlaveView}
 pub use Rattle.slave_core.specs.States.{answered, connection_reply, connection_taking, data_next, data_reply, no_session, or_reset, parameter_reply, parameter_taking, running, session_reply, session_taking}
-pub use Rattle.slave_core.specs.Taken.{as_now, next_state, reply}
+pub use Rattle.slave_core.specs.Taken.{as_now, entered, next_in, next_state, reply, reply_in}
 pub use Rattle.slave_core.specs.ViewOf.{Notes, kit_of, notes_of, now_in, session_of, upload_of, view_in, view_of}
 pub use Rattle.slave_core.specs.declared.now.Now.{Now}
 pub use Rattle.slave_core.specs.declared.states.InConnection.{InConnection}

@@ -2,11 +2,10 @@ pub mod Sound
 pub mod SameVerdict
 pub mod Agrees
 pub mod Arrived
-pub mod TakenSession
-pub mod TakenConnection
-pub mod TakenParameter
+pub mod TakenHandshake
 pub mod TakenData
 pub mod Agreed
 pub mod Law
 pub mod Transitions
 pub mod Common
+pub mod Transits

@@ -1,5 +1,5 @@
 -- The tests of the machine end as those of looking back.
-use Rattle.slave_core.proofs.Common.{Code, Command, Deed, Dropped, Frame, OfSlave, Outcome, SlaveSettings, State, allowed, code, command_of, drops, first_of, fits, fits_next, frame_len, frame_of, id_len, kept, kit_of, next_state, notes_of, now_in, on_frame, on_opened, on_session, own_crc, parameters, refuses, reply, reset_by_peer, rule_len, settles, since, slave_allows, state_of, uploaded, view_in, whole}
+use Rattle.slave_core.proofs.Common.{Code, Command, Deed, Dropped, Frame, OfSlave, Outcome, SessionFrameView, SlaveSettings, State, allowed, code, command_of, drops, first_of, fits, fits_next, frame_len, frame_of, id_len, kept, kit_of, next_state, notes_of, now_in, on_frame, on_opened, on_session, own_crc, parameters, refuses, reply, reset_by_peer, rule_len, settles, since, slave_allows, state_of, uploaded, view_in, whole}
 use Rattle.seq_chain.specs.Opened.{opened}
 use Rattle.std.proofs.Common.{◌≡◌, ◌≢◌, ℕ, ◌+◌, nat_le, Bool, true, false, List, length, Option, Some, refl, sym, ap, subst, ◌∙◌, arith, rules}
 use Rattle.fsoe_base.specs.declared.command.Command.TheVariants as command
@@ -17,6 +17,9 @@ use Rattle.slave_core.proofs.Sound.{SoundAt}
 abbrev pub came : SlaveSettings → List ℕ → Frame
 came ss bytes = frame_of ss.lengths.master bytes
 
+abbrev pub seen : SlaveSettings → List ℕ → Command → SessionFrameView
+seen ss bytes c = record { command = c; frame = came ss bytes }
+
 -- a frame of a session whose command and connection id are right
 pub record Came (p : State) (ss : SlaveSettings) (e : List Deed) (bytes : List ℕ) (c : Command) : Type 0 where
   pub len : length bytes ≡ frame_len ss.lengths.master
@@ -31,9 +34,9 @@ pub data Same (p : State) (ss : SlaveSettings) (e : List Deed) (bytes : List ℕ
   ByReset : (x : Code) → x ≡ code (first_of (came ss bytes).load) → Same p ss e bytes (model.Valid command.Reset (came ss bytes).load) (reset_by_peer (view_in p ss e) x (came ss bytes).load)
   Passes : (c : Command) → Came p ss e bytes c
       → Same p ss e bytes (model.judged_contents c (came ss bytes).load (model.contents (OfSlave ss) e c (came ss bytes)))
-      (settles (view_in p ss e) (record { command = c; frame = came ss bytes })
-      (reply (kit_of ss e) (now_in p ss (notes_of ss e)) (record { command = c; frame = came ss bytes }))
-      (next_state (kit_of ss e) (now_in p ss (notes_of ss e)) (record { command = c; frame = came ss bytes })))
+      (settles (view_in p ss e) (seen ss bytes c)
+      (reply (kit_of ss e) (now_in p ss (notes_of ss e)) (seen ss bytes c))
+      (next_state (kit_of ss e) (now_in p ss (notes_of ss e)) (seen ss bytes c)))
 
 -- the frame that is kept, and the chain
 kept-same : (p : State) (ss : SlaveSettings) (e : List Deed) → SoundAt p ss e → machine.kept_in (now_in p ss (notes_of ss e)) ≡ kept (since e)
@@ -56,8 +59,8 @@ conn-same p ss e c field h k l = grind arith
 -- a frame of a session, by its three tests
 by-tests : (p : State) (ss : SlaveSettings) (e : List Deed) (bytes : List ℕ) (c : Command) (a h t a' h' t' : Bool)
     → a ≡ a' → (a ≡ true → h ≡ h') → t ≡ t' → (a ≡ true → h' ≡ true → Came p ss e bytes c)
-    → Same p ss e bytes (model.judged_session (OfSlave ss) e (record { command = c; frame = came ss bytes }) (model.session_fault a' h' t'))
-    (on_session (view_in p ss e) (record { command = c; frame = came ss bytes }) (model.session_fault a h t))
+    → Same p ss e bytes (model.judged_session (OfSlave ss) e (seen ss bytes c) (model.session_fault a' h' t'))
+    (on_session (view_in p ss e) (seen ss bytes c) (model.session_fault a h t))
 by-tests p ss e bytes c true true true a' h' t' i j k s = rw (← i, ← j refl, ← k) (Passes c (s refl (sym (j refl))))
 by-tests p ss e bytes c true true false a' h' t' i j k s = rw (← i, ← j refl, ← k) (Refuses (code 0x04))
 by-tests p ss e bytes c true false t a' h' t' i j k s = rw (← i, ← j refl) (Refuses (code 0x03))
@@ -66,7 +69,7 @@ by-tests p ss e bytes c false h t a' h' t' i j k s = rw (← i) (Refuses (code 0
 session-same : (p : State) (ss : SlaveSettings) (e : List Deed) (bytes : List ℕ) (c : Command) → state_of (OfSlave ss) e ≡ p → c ≢ command.Reset
     → length bytes ≡ frame_len ss.lengths.master → command_of (came ss bytes).cmd ≡ Some c → SoundAt p ss e
     → whole ss.profile state.Parameter (parameters ss e) ≡ nat_le (id_len ss.profile + 4 + rule_len ss.rule) (length (parameters ss e))
-    → Same p ss e bytes (model.judged (OfSlave ss) e (opened_as.OfSession (record { command = c; frame = came ss bytes }))) (on_opened (view_in p ss e) (opened_as.OfSession (record { command = c; frame = came ss bytes })))
+    → Same p ss e bytes (model.judged (OfSlave ss) e (opened_as.OfSession (seen ss bytes c))) (on_opened (view_in p ss e) (opened_as.OfSession (seen ss bytes c)))
 session-same p ss e bytes c now n len named h w =
     let a : machine.allows (now_in p ss (notes_of ss e)) c ≡ allowed (OfSlave ss) e c = allows-same p ss e c w ∙ sym (ap (λ (p : State). slave_allows p (whole ss.profile p (uploaded ss p e)) c) now) in
     by-tests p ss e bytes c _ _ _ _ _ _ a (conn-same p ss e c (came ss bytes).conn n h) (fits-same p ss e (came ss bytes) h) (λ a k. record { len = len; named = named; is_allowed = a; has_conn = k })

@@ -1,5 +1,5 @@
 -- A data frame that passed the tests: what the machine does is what looking back gives.
-use Rattle.slave_core.proofs.Common.{AreBytes, Chain, Command, Deed, IsRun, OfSlave, Outcome, SessionFrameView, SlaveSettings, SlaveView, State, Terms, answered, as_now, begun, bytes_of, code, command_byte, deed_of, held, is_process, is_reset, judged_contents, kit_of, length-replicate, no_session, notes_of, number_at, offer, on_verdict, phase_of, session_of, settles, slave_conn, slave_limit, state_of, takes_frame, view_in, view_of, whole, with_data}
+use Rattle.slave_core.proofs.Common.{AreBytes, Chain, Command, Deed, IsRun, OfSlave, Outcome, SlaveSettings, SlaveView, State, answered, ap₃, as_now, begun, bytes_of, chain_after, code, command_byte, deed_of, held, is_process, is_reset, is_there, judged_contents, keeps, kit_of, length-replicate, no_session, notes_of, number_at, offer, on_verdict, phase_of, session_of, settles, since, slave_conn, slave_limit, state_of, takes_frame, taking, there, view_in, view_of, whole, with_data}
 use Rattle.std.proofs.Common.{◌≡◌, ◌==◌, ℕ, ◌<◌, List, ◌∷◌, length, replicate, Bool, true, false, Some, None, Ok, Err, if◌then◌else◌, refl, sym, ap, subst, ◌∙◌, arith, rules}
 use Rattle.fsoe_base.specs.declared.command.Command.TheVariants as command
 use Rattle.fsoe_base.specs.declared.command.State.TheVariants as state
@@ -7,14 +7,11 @@ use Rattle.failsafe_io.specs.Offer.{data_command, data_load}
 use Rattle.failsafe_io.specs.Outputs.{outputs_of}
 use Rattle.param_load.specs.declared.entry.Move.TheVariants as move
 use Rattle.slave_core.specs.declared.now.Now.TheVariants as now
-use Rattle.slave_core.proofs.Sound.{Sound}
-use Rattle.slave_core.proofs.SameVerdict.{came}
+use Rattle.slave_core.proofs.Sound.{OfParameters, Sound}
+use Rattle.slave_core.proofs.SameVerdict.{came, seen}
 use Rattle.slave_core.proofs.Agrees.{Agrees, slave_at, same_slave, fault-agrees}
-use Rattle.slave_core.proofs.Arrived.{frame_answered, Arrived, taking, chain-after, keeps, is-there, there}
-use Rattle.slave_core.proofs.TakenParameter.{Connected, some-limit}
-
-abbrev seen : SlaveSettings → List ℕ → Command → SessionFrameView
-seen ss bytes c = record { command = c; frame = came ss bytes }
+use Rattle.slave_core.proofs.Arrived.{frame_answered, Arrived}
+use Rattle.slave_core.proofs.TakenHandshake.{some-limit}
 
 -- the connection id of the terms
 abbrev conn_of : SlaveSettings → List Deed → ℕ
@@ -37,17 +34,13 @@ gone_on ss e bytes c c2 load =
 
 -- what holds after a data frame and its answer
 record After (ss : SlaveSettings) (e : List Deed) (bytes : List ℕ) (c : Command) (sent : List ℕ) (v : SlaveView) : Type 0 where
-  view : AreBytes bytes → view_of ss (taking ss bytes c sent ∷ e) ≡ v
-  sound : Sound ss (taking ss bytes c sent ∷ e)
-
-same_data : (t : Terms) (c c' : Chain) (o o' l l' : List ℕ) → c ≡ c' → o ≡ o' → l ≡ l'
-    → now.Data (record { session = record { chain = c; last = l }; terms = t; outputs = o }) ≡ now.Data (record { session = record { chain = c'; last = l' }; terms = t; outputs = o' })
-same_data t c c' o o' l l' h j g = rw (h, j, g) refl
+  view : AreBytes bytes → view_of ss (taking (OfSlave ss) bytes c sent ∷ e) ≡ v
+  sound : Sound ss (taking (OfSlave ss) bytes c sent ∷ e)
 
 -- what is known before a data frame
 record Ready (ss : SlaveSettings) (e : List Deed) (bytes : List ℕ) : Type 0 where
   sound : Sound ss e
-  connected : Connected ss e
+  connected : OfParameters ss (notes_of ss e)
   back : AreBytes bytes → bytes_of (came ss bytes) ≡ bytes
   limit_is : slave_limit ss (notes_of ss e).parameter ≡ (notes_of ss e).terms.watchdog
   some : 0 < slave_limit ss (notes_of ss e).parameter
@@ -61,10 +54,10 @@ record IsDataFrame (ss : SlaveSettings) (bytes : List ℕ) (c : Command) : Type 
 after : (ss : SlaveSettings) (e : List Deed) (bytes : List ℕ) (c c2 : Command) (load : List ℕ) → (command_byte c2 == command_byte command.Reset) ≡ false → length load ≡ ss.lengths.slave → IsDataFrame ss bytes c → Ready ss e bytes
     → After ss e bytes c (data_answer ss e bytes c c2 load) (gone_on ss e bytes c c2 load)
 after ss e bytes c c2 load n h d y =
-    let j : Connected ss e = y.connected in
+    let j : OfParameters ss (notes_of ss e) = y.connected in
     record {
-      view = λ r. rw (n, d.of_session, d.phase_is) (same_slave _ _ _ _ _ _ _ _ refl (same_data _ _ _ _ _ _ _ (rw d.of_session at (chain-after ss e bytes c (conn_of ss e) c2 load d.of_session h)) d.brings (sym (y.back r))) y.limit_is refl);
-      sound = search (rules, is-there, keeps, there);
+      view = λ r. rw (n, d.of_session, d.phase_is) (same_slave _ _ _ _ _ _ _ _ refl (ap₃ (λ (k : Chain) (o l : List ℕ). now.Data (record { session = record { chain = k; last = l }; terms = (notes_of ss e).terms; outputs = o })) (rw d.of_session at (chain_after (OfSlave ss) (since e) bytes c (conn_of ss e) c2 load d.of_session h)) d.brings (sym (y.back r))) y.limit_is refl);
+      sound = search (rules, is_there, keeps, there);
     }
 
 -- an answer is fail-safe data while the slave is held, else its offer
@@ -80,10 +73,10 @@ by-held : (ss : SlaveSettings) (e : List Deed) (bytes : List ℕ) (c : Command) 
     ≡ data_answer ss e bytes c (if h then command.FailSafeData else command.ProcessData) (if h then replicate n 0 else load)
 by-held ss e bytes c h load k n l m = grind arith
 
-data-sent : (ss : SlaveSettings) (e : List Deed) (bytes : List ℕ) (c : Command) → is_reset c ≡ false → Connected ss e → Sound ss e
+data-sent : (ss : SlaveSettings) (e : List Deed) (bytes : List ℕ) (c : Command) → is_reset c ≡ false → OfParameters ss (notes_of ss e) → Sound ss e
     → with_data (OfSlave ss) (begun (move.Deliver bytes) (takes_frame c (came ss bytes).load) ∷ e) ≡ data_answer ss e bytes c (data_command (kit_of ss e).offer) (data_load (kit_of ss e).offer)
 data-sent ss e bytes c r j s =
-    rw r (by-held ss e bytes c (held e) (offer (OfSlave ss) e) _ (length (offer (OfSlave ss) e)) (there _ _ (keeps (slave_conn ss e) _ _ j.conn_is) ∙ sym j.conn_said) s.offer_len)
+    rw r (by-held ss e bytes c (held e) (offer (OfSlave ss) e) _ (length (offer (OfSlave ss) e)) (there _ _ 0 (keeps (slave_conn ss e) _ _ j.conn_is) ∙ sym j.conn_said) s.offer_len)
 
 -- the machine at a data frame whose contents are right, or not
 abbrev pub data_settles : Bool → State → SlaveSettings → List Deed → List ℕ → Command → Outcome
@@ -103,13 +96,13 @@ taken-agrees : (p : State) (ss : SlaveSettings) (e : List Deed) (bytes : List �
 taken-agrees p ss e bytes c d y sent =
     let done : After ss e bytes c _ _ = after-held ss e bytes c (held e) (length (offer (OfSlave ss) e)) y.sound.offer_len d y in
     record {
-      view = λ r. ap (λ (f : List ℕ). view_of ss (taking ss bytes c f ∷ e)) sent ∙ done.view r;
+      view = λ r. ap (λ (f : List ℕ). view_of ss (taking (OfSlave ss) bytes c f ∷ e)) sent ∙ done.view r;
       did = rw d.of_session refl;
       sent = sent;
-      sound = subst (λ (f : List ℕ). Sound ss (taking ss bytes c f ∷ e)) (sym sent) done.sound;
+      sound = subst (λ (f : List ℕ). Sound ss (taking (OfSlave ss) bytes c f ∷ e)) (sym sent) done.sound;
     }
 
-ready : (ss : SlaveSettings) (e : List Deed) (bytes : List ℕ) (c : Command) → Sound ss e → Connected ss e → Arrived ss bytes c → whole ss.profile state.Parameter (notes_of ss e).parameter ≡ true → IsRun (OfSlave ss) e → Ready ss e bytes
+ready : (ss : SlaveSettings) (e : List Deed) (bytes : List ℕ) (c : Command) → Sound ss e → OfParameters ss (notes_of ss e) → Arrived ss bytes c → whole ss.profile state.Parameter (notes_of ss e).parameter ≡ true → IsRun (OfSlave ss) e → Ready ss e bytes
 ready ss e bytes c s j a w run = record {
   sound = s;
   connected = j;
@@ -118,12 +111,12 @@ ready ss e bytes c s j a w run = record {
   some = some-limit ss e run;
 }
 
-pub process-agrees : (p : State) (ss : SlaveSettings) (e : List Deed) (bytes : List ℕ) → Sound ss e → Connected ss e → Arrived ss bytes command.ProcessData → whole ss.profile state.Parameter (notes_of ss e).parameter ≡ true → IsRun (OfSlave ss) e
+pub process-agrees : (p : State) (ss : SlaveSettings) (e : List Deed) (bytes : List ℕ) → Sound ss e → OfParameters ss (notes_of ss e) → Arrived ss bytes command.ProcessData → whole ss.profile state.Parameter (notes_of ss e).parameter ≡ true → IsRun (OfSlave ss) e
     → Agrees ss e (move.Deliver bytes) (takes_frame command.ProcessData (came ss bytes).load) (data_settles true p ss e bytes command.ProcessData)
 process-agrees p ss e bytes s j a w run =
     taken-agrees p ss e bytes command.ProcessData (record { of_session = refl; phase_is = refl; brings = refl }) (ready ss e bytes command.ProcessData s j a w run) (data-sent ss e bytes command.ProcessData refl j s)
 
-pub failsafe-agrees : (b : Bool) (p : State) (ss : SlaveSettings) (e : List Deed) (bytes : List ℕ) → state_of (OfSlave ss) e ≡ p → Sound ss e → Connected ss e → Arrived ss bytes command.FailSafeData → whole ss.profile state.Parameter (notes_of ss e).parameter ≡ true → IsRun (OfSlave ss) e
+pub failsafe-agrees : (b : Bool) (p : State) (ss : SlaveSettings) (e : List Deed) (bytes : List ℕ) → state_of (OfSlave ss) e ≡ p → Sound ss e → OfParameters ss (notes_of ss e) → Arrived ss bytes command.FailSafeData → whole ss.profile state.Parameter (notes_of ss e).parameter ≡ true → IsRun (OfSlave ss) e
     → Agrees ss e (move.Deliver bytes) (on_verdict p (OfSlave ss) (judged_contents command.FailSafeData (came ss bytes).load (if b then None else Some (code 0x07)))) (data_settles b p ss e bytes command.FailSafeData)
 failsafe-agrees false p ss e bytes at s j a w run = fault-agrees p ss e bytes true (code 0x07) at s
 failsafe-agrees true p ss e bytes at s j a w run =

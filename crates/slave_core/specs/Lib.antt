@@ -5,7 +5,4 @@ pub mod SlaveView
 pub mod Standing
 pub mod States
 pub mod Taken
-pub mod Views
 pub mod ViewOf
-pub mod After
-pub mod GoesOn

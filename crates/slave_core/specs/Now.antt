@@ -19,7 +19,7 @@ use Rattle.end_model.specs.Setup.{OfSlave, receives}
 use Rattle.end_model.specs.Readiness.{slave_allows}
 use Rattle.slave_core.specs.declared.now.Now.{Now}
 use Rattle.slave_core.specs.declared.now.Now.TheVariants as now
-use Rattle.slave_core.specs.Views.{SessionUnder, ConnectionUnder, ParameterUnder, DataUnder}
+use Rattle.slave_core.specs.States.{SessionUnder, ConnectionUnder, ParameterUnder, DataUnder}
 
 -- a state was made under these settings
 abbrev pub IsUnder : SlaveSettings → Now → Type 0
@@ -58,19 +58,12 @@ kept_in now = last_in (session_of now)
 abbrev pub chain_of : Now → Chain
 chain_of now = chain_in (session_of now)
 
--- whether the payload of the phase is whole
+-- whether no payload is still to come in this state: that of a phase is whole
 abbrev pub upload_is_whole : Now → Bool
 upload_is_whole (now.Session s) = is_whole s.upload
 upload_is_whole (now.Connection s) = is_whole s.upload
 upload_is_whole (now.Parameter s) = is_whole s.upload
-upload_is_whole _ = false
-
--- whether a frame that is allowed may begin another state: no payload is still to come
-abbrev pub begins : Now → Bool
-begins (now.Session s) = is_whole s.upload
-begins (now.Connection s) = is_whole s.upload
-begins (now.Parameter s) = is_whole s.upload
-begins _ = true
+upload_is_whole _ = true
 
 -- the commands of a session that are allowed: that of the phase until its payload is whole, then that of the next phase
 abbrev pub allows : Now → Command → Bool
@@ -108,10 +101,14 @@ abbrev pub terms_shown_in : Now → Option Terms
 terms_shown_in (now.Data s) = Some s.terms
 terms_shown_in _ = None
 
--- a frame that passed the tests in a state of this name, where no payload is still to come: it begins the next phase
-pub record BeginsNext (settings : SlaveSettings) (name : State) (now : Now) (f : SessionFrameView) (link : Link) : Type 0 where
-  pub name_is : state_of now ≡ name
-  pub begins : IsTrue (begins now)
-  pub allowed : IsTrue (allows now f.command)
+-- a frame came with this link to a state that was made under these settings, and passed the test of its CRCs
+pub record PassedIn (settings : SlaveSettings) (now : Now) (f : SessionFrameView) (link : Link) : Type 0 where
   pub under : IsUnder settings now
   pub passed : HasPassed (receives (OfSlave settings)) (chain_of now) f link
+
+-- such a frame is allowed in a state of this name, where no payload is still to come: it begins the next phase
+pub record BeginsNext (settings : SlaveSettings) (name : State) (now : Now) (f : SessionFrameView) (link : Link) : Type 0 where
+  pub name_is : state_of now ≡ name
+  pub whole : IsTrue (upload_is_whole now)
+  pub allowed : IsTrue (allows now f.command)
+  pub passed : PassedIn settings now f link

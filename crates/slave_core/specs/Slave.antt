@@ -11,6 +11,8 @@ use Rattle.fsoe_base.specs.Did as did
 use Rattle.fsoe_base.specs.Did.{takes, resets}
 use Rattle.failsafe_io.specs.Timer.{started, expires, ticked}
 use Rattle.fsoe_base.specs.Codes.{local_reset, watchdog_expired}
+use Rattle.param_load.specs.declared.entry.Move.{Move}
+use Rattle.param_load.specs.declared.entry.Move.TheVariants as move
 use Rattle.param_load.specs.declared.slave_settings.SlaveSettings.{SlaveSettings}
 use Rattle.seq_chain.specs.declared.opened.Opened.{Opened}
 use Rattle.seq_chain.specs.declared.opened.Opened.TheVariants as opened_as
@@ -22,7 +24,7 @@ use Rattle.end_model.specs.Verdict.{is_repeat}
 use Rattle.slave_core.specs.declared.now.Now.{Now}
 use Rattle.slave_core.specs.declared.now.Now.TheVariants as now
 use Rattle.slave_core.specs.declared.states.InReset.{InReset}
-use Rattle.slave_core.specs.Kit.{first_kit}
+use Rattle.slave_core.specs.Kit.{KitView, first_kit}
 use Rattle.slave_core.specs.Now.{is_reset, kept_in, limit_of, fault}
 use Rattle.slave_core.specs.SlaveView.{SlaveView}
 use Rattle.slave_core.specs.States.{no_session}
@@ -34,17 +36,21 @@ pub record Outcome : Type 0 where
   pub did : Did
   pub sent : List ℕ
 
+-- an outcome by its parts
+abbrev pub outcome_of : SlaveView → Did → List ℕ → Outcome
+outcome_of v done sent = record { slave = v; did = done; sent = sent }
+
 -- a new slave is in state Reset and counts no tick
 abbrev pub first_slave : SlaveSettings → SlaveView
 first_slave settings = record { kit = first_kit settings; state = now.Reset no_session; timer = started settings.hand }
 
 -- nothing is done, and nothing is sent
 abbrev pub quiet : SlaveView → Outcome
-quiet v = record { slave = v; did = did.nothing; sent = [] }
+quiet v = outcome_of v did.nothing []
 
 -- a frame is dropped: the slave stays as it is, and nothing is sent
 abbrev pub drops : SlaveView → Bool → Dropped → Outcome
-drops v passed why = record { slave = v; did = record (did.dropped why) { passed = passed }; sent = [] }
+drops v passed why = outcome_of v (record (did.dropped why) { passed = passed }) []
 
 -- a slave without its session: in state Reset, with age 0
 abbrev pub fallen : SlaveView → SlaveView
@@ -52,11 +58,7 @@ fallen v = record v { state = now.Reset no_session; timer = started v.kit.settin
 
 -- the session ends, and a Reset frame with the code is sent
 abbrev pub falls : SlaveView → Bool → Cause → Code → Outcome
-falls v passed why x = record {
-  slave = fallen v;
-  did = resets passed why;
-  sent = reset_frame x.0 (sends (OfSlave v.kit.settings));
-}
+falls v passed why x = outcome_of (fallen v) (resets passed why) (reset_frame x.0 (sends (OfSlave v.kit.settings)))
 
 -- a test fails: in state Reset the frame is dropped, and else the session ends
 abbrev pub refuses : SlaveView → Bool → Code → Outcome
@@ -68,7 +70,7 @@ refuses_contents v was_reset x = if was_reset then refuses v true x else falls v
 
 -- a valid Reset frame is taken in state Reset, and a Reset frame with code 0 is sent
 abbrev pub acknowledges : SlaveView → List ℕ → Outcome
-acknowledges v load = record { slave = fallen v; did = takes command.Reset load false; sent = reset_frame 0 (sends (OfSlave v.kit.settings)) }
+acknowledges v load = outcome_of (fallen v) (takes command.Reset load false) (reset_frame 0 (sends (OfSlave v.kit.settings)))
 
 -- a valid Reset frame: in state Reset it is taken, and else the session ends with the peer's code, and code 0 is sent
 abbrev pub reset_by_peer : SlaveView → Code → List ℕ → Outcome
@@ -76,7 +78,7 @@ reset_by_peer v x load = if is_reset v.state then acknowledges v load else falls
 
 -- a slave took a frame of a session, and sent this answer
 abbrev pub taken : SlaveView → SessionFrameView → List ℕ → Outcome
-taken v f answer = record { slave = v; did = takes f.command f.frame.load true; sent = answer }
+taken v f answer = outcome_of v (takes f.command f.frame.load true) answer
 
 -- a frame whose contents were tested is taken and answered, or refused with their code
 abbrev pub settles : SlaveView → SessionFrameView → List ℕ → Result Now (InReset × Code) → Outcome
@@ -110,6 +112,15 @@ tick_in_session v =
 abbrev pub tick_of : SlaveView → Outcome
 tick_of v = if is_reset v.state then quiet v else tick_in_session v
 
--- a reset of the slave's own: the session ends, and Reset with code 0 is sent
-abbrev pub reset_of : SlaveView → Outcome
-reset_of v = falls v false cause.Local local_reset
+-- what outlasts sessions is set, an offer, a hold or a nonce, and nothing else changes
+abbrev pub with_kit : SlaveView → KitView → Outcome
+with_kit v kit = quiet (record v { kit = kit })
+
+-- the outcome of each event
+abbrev pub after : SlaveView → Move → Outcome
+after v (move.Deliver bytes) = on_frame v bytes
+after v move.Tick = tick_of v
+after v move.Local = falls v false cause.Local local_reset
+after v (move.Put load) = with_kit v (record v.kit { offer = record v.kit.offer { load = load } })
+after v (move.Hold failsafe) = with_kit v (record v.kit { offer = record v.kit.offer { held = failsafe } })
+after v (move.Nonce id) = with_kit v (record v.kit { nonce = id })

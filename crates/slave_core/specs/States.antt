@@ -1,5 +1,5 @@
--- How the states of a slave go on by a frame that passed the tests.
-use Rattle.std.specs.Prelude.{ℕ, List, length, replicate, Result, Ok, Err, if◌then◌else◌}
+-- How the states of a slave go on by a frame that passed the tests, and how they hang together with its settings.
+use Rattle.std.specs.Prelude.{◌≡◌, ℕ, ◌<◌, IsTrue, List, length, replicate, Result, Ok, Err, if◌then◌else◌}
 use Rattle.fsoe_base.specs.declared.command.Code.{Code}
 use Rattle.fsoe_base.specs.declared.command.Command.{Command}
 use Rattle.fsoe_base.specs.declared.command.Command.TheVariants as command
@@ -7,8 +7,12 @@ use Rattle.fsoe_base.specs.Codes.{wrong_data}
 use Rattle.seq_chain.specs.declared.session.Session.{Session}
 use Rattle.seq_chain.specs.Session.{frame_sent, first_session, session_taken, session_sent}
 use Rattle.seq_chain.specs.SessionFrame.{SessionFrameView}
+use Rattle.param_load.specs.declared.contents.Expected.TheVariants as expected
+use Rattle.param_load.specs.declared.slave_settings.SlaveSettings.{SlaveSettings}
+use Rattle.param_load.specs.AppRule.{rule_len}
 use Rattle.param_load.specs.Contents.{app_part}
 use Rattle.param_load.specs.Payload.{session_payload, number_at, piece_from, padded}
+use Rattle.param_load.specs.Profile.{allows_id}
 use Rattle.param_load.specs.Upload.{session_upload, connection_upload, parameter_upload, advanced, outcome, last_piece}
 use Rattle.param_load.specs.UploadView.{UploadView}
 use Rattle.fsoe_base.specs.Data.{data_holds}
@@ -125,3 +129,24 @@ running kit s = record {
   };
   outputs = replicate (receives (OfSlave kit.settings)) 0;
 }
+
+-- a state Session under these settings uploads a session id of the profile, and has one that the profile allows
+pub record SessionUnder (settings : SlaveSettings) (s : InSession) : Type 0 where
+  pub piece_is : s.upload.piece ≡ piece_len (OfSlave settings)
+  pub expected_is : s.upload.expected ≡ expected.Session settings.profile
+  pub id_allowed : IsTrue (allows_id settings.profile s.id)
+
+-- a state Connection under these settings uploads its connection id and the slave's address
+pub record ConnectionUnder (settings : SlaveSettings) (s : InConnection) : Type 0 where
+  pub piece_is : s.upload.piece ≡ piece_len (OfSlave settings)
+  pub expected_is : s.upload.expected ≡ expected.Connection s.conn settings.address
+
+-- a state Parameter under these settings uploads parameters that these accept
+pub record ParameterUnder (settings : SlaveSettings) (s : InParameter) : Type 0 where
+  pub piece_is : s.upload.piece ≡ piece_len (OfSlave settings)
+  pub expected_is : s.upload.expected ≡ expected.Parameter settings.most (rule_len settings.rule) settings.profile
+
+-- a state Data under these settings has outputs of the master's length, and a watchdog that isn't 0
+pub record DataUnder (settings : SlaveSettings) (s : InData) : Type 0 where
+  pub outputs_len : length s.outputs ≡ receives (OfSlave settings)
+  pub some_watchdog : 0 < s.terms.watchdog

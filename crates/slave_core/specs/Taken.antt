@@ -1,39 +1,105 @@
--- The state of a slave after a frame that passed the tests, and its answer.
-use Rattle.std.specs.Prelude.{◌≡◌, ℕ, List, Result, Ok, Err, OnOk, if◌then◌else◌}
+-- The state of a slave after a frame that passed the tests, and its answer; and what a transition of a typed state is,
+-- by looking back.
+use Rattle.std.specs.Prelude.{◌≡◌, ℕ, List, [], ◌∷◌, true, None, Result, Ok, Err, OnOk, OnErr, IfOk, IfErr, if◌then◌else◌}
 use Rattle.fsoe_base.specs.declared.command.Code.{Code}
+use Rattle.fsoe_base.specs.Codes.{command_not_allowed}
+use Rattle.fsoe_base.specs.Did.{takes}
+use Rattle.fsoe_frame.specs.Parts.{AreBytes}
+use Rattle.seq_chain.specs.declared.opened.Opened.TheVariants as opened_as
+use Rattle.seq_chain.specs.Opened.{opened}
 use Rattle.seq_chain.specs.SessionFrame.{SessionFrameView}
+use Rattle.param_load.specs.declared.entry.Move.TheVariants as move
+use Rattle.param_load.specs.declared.slave_settings.SlaveSettings.{SlaveSettings}
 use Rattle.param_load.specs.Upload.{is_whole}
+use Rattle.end_model.specs.Setup.{OfSlave}
+use Rattle.end_model.specs.Deed.{Deed}
+use Rattle.end_model.specs.Readiness.{state_of}
+use Rattle.end_model.specs.Verdict.{is_repeat}
+use Rattle.end_model.specs.Step.{on_fault, step}
+use Rattle.end_model.specs.Runs.{IsRun}
 use Rattle.slave_core.specs.declared.now.Now.{Now}
 use Rattle.slave_core.specs.declared.now.Now.TheVariants as now
 use Rattle.slave_core.specs.declared.states.InReset.{InReset}
 use Rattle.slave_core.specs.Kit.{KitView}
-use Rattle.slave_core.specs.Now.{IsUnder}
-use Rattle.slave_core.specs.States.{or_reset, starting, connecting, loading, running, session_next, session_reply, connection_next, connection_reply, parameter_next, parameter_reply, data_next, data_reply}
+use Rattle.slave_core.specs.Now.{IsUnder, kept_in, fault}
+use Rattle.slave_core.specs.States.{no_session, or_reset, starting, connecting, loading, running, session_next, session_reply, connection_next, connection_reply, parameter_next, parameter_reply, data_next, data_reply}
+use Rattle.slave_core.specs.ViewOf.{kit_of, view_of}
 
 -- a typed state, or its refusal, as a state of the slave
 abbrev pub as_now : {S : Type 0} → (S → Now) → Result S (InReset × Code) → Result Now (InReset × Code)
 as_now state (Ok s) = Ok (state s)
 as_now state (Err e) = Err e
 
--- the next state: a phase goes on until its payload is whole, then the next phase begins
+-- the state in which a frame is taken: a phase goes on until its payload is whole, then the next phase begins
+abbrev pub entered : KitView → Now → SessionFrameView → Now
+entered kit (now.Reset s) f = now.Session (starting kit)
+entered kit (now.Session s) f = if is_whole s.upload then now.Connection (connecting kit s f.frame.conn) else now.Session s
+entered kit (now.Connection s) f = if is_whole s.upload then now.Parameter (loading kit s) else now.Connection s
+entered kit (now.Parameter s) f = if is_whole s.upload then now.Data (running kit s) else now.Parameter s
+entered kit (now.Data s) f = now.Data s
+
+-- the state after a frame was taken in this one, or its refusal; in state Reset none is taken
+abbrev pub next_in : KitView → Now → SessionFrameView → Result Now (InReset × Code)
+next_in kit (now.Reset s) f = Err (no_session, command_not_allowed)
+next_in kit (now.Session s) f = as_now now.Session (session_next kit s f)
+next_in kit (now.Connection s) f = as_now now.Connection (connection_next kit s f)
+next_in kit (now.Parameter s) f = as_now now.Parameter (parameter_next kit s f)
+next_in kit (now.Data s) f = as_now now.Data (data_next kit s f)
+
+-- the answer in this state, which is sent where the frame is taken
+abbrev pub reply_in : KitView → Now → SessionFrameView → List ℕ
+reply_in kit (now.Reset s) f = []
+reply_in kit (now.Session s) f = session_reply kit s f
+reply_in kit (now.Connection s) f = connection_reply kit s f
+reply_in kit (now.Parameter s) f = parameter_reply kit s f
+reply_in kit (now.Data s) f = data_reply kit s f
+
+-- what a frame leads to, and the answer
 abbrev pub next_state : KitView → Now → SessionFrameView → Result Now (InReset × Code)
-next_state kit (now.Reset s) f = as_now now.Session (session_next kit (starting kit) f)
-next_state kit (now.Session s) f = if is_whole s.upload then as_now now.Connection (connection_next kit (connecting kit s f.frame.conn) f) else as_now now.Session (session_next kit s f)
-next_state kit (now.Connection s) f = if is_whole s.upload then as_now now.Parameter (parameter_next kit (loading kit s) f) else as_now now.Connection (connection_next kit s f)
-next_state kit (now.Parameter s) f = if is_whole s.upload then as_now now.Data (data_next kit (running kit s) f) else as_now now.Parameter (parameter_next kit s f)
-next_state kit (now.Data s) f = as_now now.Data (data_next kit s f)
+next_state kit now f = next_in kit (entered kit now f) f
 
--- the answer, which is sent where the frame is taken
 abbrev pub reply : KitView → Now → SessionFrameView → List ℕ
-reply kit (now.Reset s) f = session_reply kit (starting kit) f
-reply kit (now.Session s) f = if is_whole s.upload then connection_reply kit (connecting kit s f.frame.conn) f else session_reply kit s f
-reply kit (now.Connection s) f = if is_whole s.upload then parameter_reply kit (loading kit s) f else connection_reply kit s f
-reply kit (now.Parameter s) f = if is_whole s.upload then data_reply kit (running kit s) f else parameter_reply kit s f
-reply kit (now.Data s) f = data_reply kit s f
+reply kit now f = reply_in kit (entered kit now f) f
 
--- a state went on in its place by a frame that passed the tests: it is the next one and its answer is written, or it is
--- only left
-pub record Advances (kit : KitView) (old : Now) (f : SessionFrameView) (r : Result (Unit {0}) Code) (new : Now) (written : List ℕ) : Type 0 where
-  pub next : or_reset r new ≡ next_state kit old f
-  pub sent : OnOk r (written ≡ reply kit old f)
+-- a state went on in its place by a frame that is taken in this one: it is the next one and its answer is written, or
+-- it is only left and nothing is written
+pub record Advances (kit : KitView) (in_state : Now) (f : SessionFrameView) (r : Result (Unit {0}) Code) (new : Now) (before written : List ℕ) : Type 0 where
+  pub next : or_reset r new ≡ next_in kit in_state f
+  pub sent : OnOk r (written ≡ reply_in kit in_state f)
+  pub unwritten : OnErr r (written ≡ before)
   pub under : IsUnder kit.settings new
+
+-- a state after these deeds of a run, and bytes that pass the tests in it but for those of the contents
+pub record Meets (ss : SlaveSettings) (e : List Deed) (old : Now) (kit : KitView) (f : SessionFrameView) (bytes : List ℕ) : Type 0 where
+  pub reached : IsRun (OfSlave ss) e
+  pub state_is : old ≡ (view_of ss e).state
+  pub kit_is : kit ≡ kit_of ss e
+  pub bytes_are : AreBytes bytes
+  pub is_opened : opened ss.lengths.master (is_repeat (kept_in old) bytes) bytes ≡ opened_as.OfSession f
+  pub passed : fault old f ≡ None
+
+-- the next deed takes the frame: the next state is the one after it, and what was written is the frame that it sends
+pub record IsTaken (ss : SlaveSettings) (e : List Deed) (bytes : List ℕ) (f : SessionFrameView) (next : Now) (written : List ℕ) : Type 0 where
+  pub did : (step (OfSlave ss) e (move.Deliver bytes)).did ≡ takes f.command f.frame.load true
+  pub state : next ≡ (view_of ss (step (OfSlave ss) e (move.Deliver bytes) ∷ e)).state
+  pub sent : written ≡ (step (OfSlave ss) e (move.Deliver bytes)).sent
+
+-- the next deed refuses the frame with this code and leaves this state Reset, and nothing was written
+pub record IsRefused (ss : SlaveSettings) (e : List Deed) (bytes : List ℕ) (reset : InReset) (found : Code) (before written : List ℕ) : Type 0 where
+  pub did : (step (OfSlave ss) e (move.Deliver bytes)).did ≡ on_fault (state_of (OfSlave ss) e) true found
+  pub state : now.Reset reset ≡ (view_of ss (step (OfSlave ss) e (move.Deliver bytes) ∷ e)).state
+  pub unwritten : written ≡ before
+
+-- a frame that passed the other tests in this state after any deeds of a run is taken or refused as the next deed says
+pub record GoesOn (old : Now) (kit : KitView) (f : SessionFrameView) (result : Result Now (InReset × Code)) (before written : List ℕ) : Type 0 where
+  pub ok : (ss : SlaveSettings) (e : List Deed) (bytes : List ℕ) → Meets ss e old kit f bytes → IfOk result (λ next. IsTaken ss e bytes f next written)
+  pub err : (ss : SlaveSettings) (e : List Deed) (bytes : List ℕ) → Meets ss e old kit f bytes → IfErr result (λ refusal. IsRefused ss e bytes refusal.0 refusal.1 before written)
+
+-- a transition from this state, which takes a frame in that one: it gives the next state and writes the answer, or it
+-- gives state Reset and writes nothing; and it goes on as looking back says
+pub record Transits {S : Type 0} (state : S → Now) (old in_state : Now) (kit : KitView) (f : SessionFrameView) (result : Result S (InReset × Code)) (before written : List ℕ) : Type 0 where
+  pub next : as_now state result ≡ next_in kit in_state f
+  pub sent : OnOk result (written ≡ reply_in kit in_state f)
+  pub unwritten : OnErr result (written ≡ before)
+  pub goes_on : GoesOn old kit f (as_now state result) before written
+  pub under : IfOk result (λ s. IsUnder kit.settings (state s))

@@ -2,7 +2,7 @@
 ghost use Rattle.std.specs.Prelude.{◌≡◌};
 
 use failsafe_io::Offer;
-use param_load::{Profile, SlaveSettings};
+use param_load::SlaveSettings;
 use std::marker::Model;
 
 /// What a slave has in every state: its settings, its offer, and its nonce. It is made and changed by the slave
@@ -10,8 +10,8 @@ use std::marker::Model;
 #[derive(Drop)]
 pub struct Kit {
     settings: SlaveSettings,
-    offer: Offer,
-    nonce: u32,
+    pub(crate) offer: Offer,
+    pub(crate) nonce: u32,
 }
 
 impl Model for Kit {
@@ -48,12 +48,6 @@ impl Kit {
         &self.settings
     }
 
-    pub(crate) fn profile(&self) -> Profile
-        ensures { result ≡ self.now.settings.profile }
-    {
-        self.settings.profile()
-    }
-
     pub(crate) fn nonce(&self) -> u32
         ensures value { result ≡ self.now.nonce }
         ensures allowed { IsTrue (allows_id self.now.settings.profile result) }
@@ -67,25 +61,5 @@ impl Kit {
         ensures len { length result.now.load ≡ sends (OfSlave self.now.settings) }
     {
         &self.offer
-    }
-
-    pub(crate) fn put(&mut self, load: &[u8])
-        requires { length load.now ≡ sends (OfSlave self.old.settings) }
-        ensures { self.new ≡ record self.old { offer = record self.old.offer { load = load.now } } }
-    {
-        self.offer.put(load);
-    }
-
-    pub(crate) fn hold(&mut self, failsafe: bool)
-        ensures { self.new ≡ record self.old { offer = record self.old.offer { held = failsafe } } }
-    {
-        self.offer.hold(failsafe);
-    }
-
-    pub(crate) fn set_nonce(&mut self, id: u32)
-        requires { IsTrue (allows_id self.old.settings.profile id) }
-        ensures { self.new ≡ record self.old { nonce = id } }
-    {
-        self.nonce = id;
     }
 }

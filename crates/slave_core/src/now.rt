@@ -17,15 +17,13 @@ pub(crate) enum Now {
 }
 
 impl Now {
-    ghost use Rattle.std.specs.Prelude.{◌≡◌, ◌<◌, IsTrue, Some, IfOk, OnOk, option_copied};
+    ghost use Rattle.std.specs.Prelude.{◌≡◌, ◌<◌, IsTrue, Some, IfOk, option_copied};
     ghost use Rattle.std.specs.Result.{result_err};
-    ghost use Rattle.seq_chain.specs.Session.{tested, HasPassed};
+    ghost use Rattle.seq_chain.specs.Session.{tested};
     ghost use Rattle.seq_chain.specs.Opened.{is_repeat};
-    ghost use Rattle.end_model.specs.Setup.{OfSlave, receives};
     ghost use Rattle.fsoe_base.specs.declared.command.State.TheVariants as state;
-    ghost use Rattle.slave_core.specs.Now.{IsUnder, BeginsNext, state_of, is_reset, session_of, chain_of, kept_in, allows, has_conn, limit_of, terms_shown_in, fault};
-    ghost use Rattle.slave_core.specs.States.{or_reset};
-    ghost use Rattle.slave_core.specs.Taken.{Advances, next_state, reply};
+    ghost use Rattle.slave_core.specs.Now.{IsUnder, PassedIn, BeginsNext, state_of, is_reset, session_of, chain_of, kept_in, allows, has_conn, limit_of, terms_shown_in, fault};
+    ghost use Rattle.slave_core.specs.Taken.{Advances, entered};
 
     pub(crate) fn state(&self) -> State
         ensures { result ≡ state_of self.now }
@@ -152,10 +150,11 @@ impl Now {
     // The next state answers where it lies, so that it isn't moved.
 
     /// Begins state Session in place of Reset.
+    #[tactic(auto, using(crate::proofs::Transitions::advances_by))]
     #[inline(never)]
     fn start(&mut self, seen: &Seen<'_>, kit: &Kit, out: &mut FrameBuf) -> Result<(), Code>
         requires { BeginsNext kit.now.settings state.Reset self.old seen.now.frame seen.now.link }
-        ensures { Advances kit.now self.old seen.now.frame result self.new out.new }
+        ensures { Advances kit.now (entered kit.now self.old seen.now.frame) seen.now.frame result self.new out.old out.new }
     {
         self.enter(InReset::to_session(kit), Now::Session);
         let Now::Session(state) = self else {
@@ -165,10 +164,11 @@ impl Now {
     }
 
     /// Begins state Connection in place of Session.
+    #[tactic(auto, using(crate::proofs::Transitions::advances_by))]
     #[inline(never)]
     fn connect(&mut self, seen: &Seen<'_>, kit: &Kit, out: &mut FrameBuf) -> Result<(), Code>
         requires { BeginsNext kit.now.settings state.Session self.old seen.now.frame seen.now.link }
-        ensures { Advances kit.now self.old seen.now.frame result self.new out.new }
+        ensures { Advances kit.now (entered kit.now self.old seen.now.frame) seen.now.frame result self.new out.old out.new }
     {
         let Now::Session(state) = self else {
             unreachable!();
@@ -182,10 +182,11 @@ impl Now {
     }
 
     /// Begins state Parameter in place of Connection.
+    #[tactic(auto, using(crate::proofs::Transitions::advances_by))]
     #[inline(never)]
     fn load(&mut self, seen: &Seen<'_>, kit: &Kit, out: &mut FrameBuf) -> Result<(), Code>
         requires { BeginsNext kit.now.settings state.Connection self.old seen.now.frame seen.now.link }
-        ensures { Advances kit.now self.old seen.now.frame result self.new out.new }
+        ensures { Advances kit.now (entered kit.now self.old seen.now.frame) seen.now.frame result self.new out.old out.new }
     {
         let Now::Connection(state) = self else {
             unreachable!();
@@ -199,10 +200,11 @@ impl Now {
     }
 
     /// Begins state Data in place of Parameter.
+    #[tactic(auto, using(crate::proofs::Transitions::advances_by))]
     #[inline(never)]
     fn run(&mut self, seen: &Seen<'_>, kit: &Kit, out: &mut FrameBuf) -> Result<(), Code>
         requires { BeginsNext kit.now.settings state.Parameter self.old seen.now.frame seen.now.link }
-        ensures { Advances kit.now self.old seen.now.frame result self.new out.new }
+        ensures { Advances kit.now (entered kit.now self.old seen.now.frame) seen.now.frame result self.new out.old out.new }
     {
         let Now::Parameter(state) = self else {
             unreachable!();
@@ -217,7 +219,7 @@ impl Now {
 
     /// Takes a frame that passed the tests in this state: a phase goes on in place until its payload is complete, and
     /// then the next one begins. After a refusal the state must only be left.
-    #[tactic(auto, using(crate::proofs::Transitions::stays_in_session, crate::proofs::Transitions::stays_in_connection, crate::proofs::Transitions::stays_in_parameter, crate::proofs::Transitions::stays_in_data))]
+    #[tactic(auto, using(crate::proofs::Transitions::advances_by))]
     #[inline(never)]
     pub(crate) fn advance(
         &mut self,
@@ -226,11 +228,8 @@ impl Now {
         out: &mut FrameBuf,
     ) -> Result<(), Code>
         requires allowed { IsTrue (allows self.old seen.now.frame.command) }
-        requires under { IsUnder kit.now.settings self.old }
-        requires passed { HasPassed (receives (OfSlave kit.now.settings)) (chain_of self.old) seen.now.frame seen.now.link }
-        ensures next { or_reset result self.new ≡ next_state kit.now self.old seen.now.frame }
-        ensures sent { OnOk result (out.new ≡ reply kit.now self.old seen.now.frame) }
-        ensures under { IsUnder kit.now.settings self.new }
+        requires passed { PassedIn kit.now.settings self.old seen.now.frame seen.now.link }
+        ensures { Advances kit.now (entered kit.now self.old seen.now.frame) seen.now.frame result self.new out.old out.new }
     {
         match self {
             Now::Reset(_) => self.start(seen, kit, out),

@@ -35,11 +35,11 @@ impl Slave {
     ghost use Rattle.std.specs.Prelude.{IsTrue, [], length, None, OnOk, IfErr, option_copied};
     ghost use Rattle.seq_chain.specs.Session.{HasPassed};
     ghost use Rattle.param_load.specs.Profile.{allows_id};
-    ghost use Rattle.slave_core.specs.Now.{allows, chain_of, outputs_in};
+    ghost use Rattle.slave_core.specs.Now.{allows, chain_of};
     ghost use Rattle.failsafe_io.specs.Timer.{started};
     ghost use Rattle.slave_core.specs.declared.now.Now.TheVariants as now;
     ghost use Rattle.slave_core.specs.States.{no_session};
-    ghost use Rattle.slave_core.specs.Slave.{falls, refuses, refuses_contents, reset_by_peer, taken, on_session, on_frame, tick_of};
+    ghost use Rattle.slave_core.specs.Slave.{outcome_of, falls, refuses, refuses_contents, reset_by_peer, taken, on_session, on_frame, tick_of};
     ghost use Rattle.param_load.specs.declared.entry.Move.TheVariants as event;
     ghost use Rattle.end_model.specs.Setup.{OfSlave, sends, receives};
     ghost use Rattle.end_model.specs.Readiness as model;
@@ -91,9 +91,7 @@ impl Slave {
     #[cold]
     #[inline(never)]
     fn refuse(&mut self, passed: bool, code: Code, did: &mut Did, out: &mut FrameBuf)
-        ensures slave { self.new ≡ (refuses self.old passed code).slave }
-        ensures did { did.new ≡ (refuses self.old passed code).did }
-        ensures sent { out.new ≡ (refuses self.old passed code).sent }
+        ensures { outcome_of self.new did.new out.new ≡ refuses self.old passed code }
     {
         if self.state.is_reset() {
             out.clear();
@@ -109,9 +107,7 @@ impl Slave {
     #[cold]
     #[inline(never)]
     fn acknowledge(&mut self, code: Code, view: &FrameView<'_>, did: &mut Did, out: &mut FrameBuf)
-        ensures slave { self.new ≡ (reset_by_peer self.old code view.now.load).slave }
-        ensures did { did.new ≡ (reset_by_peer self.old code view.now.load).did }
-        ensures sent { out.new ≡ (reset_by_peer self.old code view.now.load).sent }
+        ensures { outcome_of self.new did.new out.new ≡ reset_by_peer self.old code view.now.load }
     {
         if self.state.is_reset() {
             let mut took = Took {
@@ -158,9 +154,7 @@ impl Slave {
     /// Tests a frame of the master, and takes it unless a test fails or its contents are wrong.
     #[inline(never)]
     fn receive(&mut self, frame: &[u8], did: &mut Did, out: &mut FrameBuf)
-        ensures slave { self.new ≡ (on_frame self.old frame.now).slave }
-        ensures did { did.new ≡ (on_frame self.old frame.now).did }
-        ensures sent { out.new ≡ (on_frame self.old frame.now).sent }
+        ensures outcome { outcome_of self.new did.new out.new ≡ on_frame self.old frame.now }
         ensures kit { self.new.kit ≡ self.old.kit }
     {
         let repeats = self.state.is_repeat(frame);
@@ -242,14 +236,13 @@ impl Slave {
 
     /// Counts a tick; in state Reset nothing is counted. If the age reaches the limit, the session ends with code 05h:
     /// the outputs are zeros from this tick on, and the Reset frame is written to `out`.
-    #[tactic(auto, using(crate::proofs::Law::follows_by, crate::proofs::Law::answers_by))]
     pub fn tick(&mut self, out: &mut FrameBuf) -> Did
         ensures follows { Follows self.old event.Tick self.new }
         ensures answers { Answers self.old event.Tick result out.new }
         ensures kit { self.new.kit ≡ self.old.kit }
     {
         let mut did = Did::nothing();
-        self.count(&mut did, out);
+        self.tick_into(&mut did, out);
         did
     }
 
@@ -282,7 +275,7 @@ impl Slave {
         ensures follows { Follows self.old (event.Put load.now) self.new }
         ensures settings { self.new.kit.settings ≡ self.old.kit.settings }
     {
-        self.kit.put(load);
+        self.kit.offer.put(load);
     }
 
     /// Switches fail-safe data on or off: while on, zeros are sent in place of the offer. It outlasts resets.
@@ -291,7 +284,7 @@ impl Slave {
         ensures follows { Follows self.old (event.Hold failsafe) self.new }
         ensures settings { self.new.kit.settings ≡ self.old.kit.settings }
     {
-        self.kit.hold(failsafe);
+        self.kit.offer.hold(failsafe);
     }
 
     /// Sets the id of all sessions whose first Session frame is sent after this call, at most 65,535 in profile One. It
@@ -302,7 +295,7 @@ impl Slave {
         ensures follows { Follows self.old (event.Nonce id) self.new }
         ensures settings { self.new.kit.settings ≡ self.old.kit.settings }
     {
-        self.kit.set_nonce(id);
+        self.kit.nonce = id;
     }
 
     /// The settings that the slave was made with.
@@ -325,15 +318,6 @@ impl Slave {
     #[tactic(auto, using(crate::proofs::Law::outputs_shown))]
     pub fn outputs(&self) -> &[u8]
         ensures shown { Shows self.now result.now looking_back.out }
-        ensures len { length result.now ≡ receives (OfSlave self.now.kit.settings) }
-        ensures most { length result.now ≤ MOST_DATA }
-    {
-        self.outputs_now()
-    }
-
-    /// The outputs in the state that the slave is in.
-    fn outputs_now(&self) -> &[u8]
-        ensures value { result.now ≡ outputs_in self.now.kit.settings self.now.state }
         ensures len { length result.now ≡ receives (OfSlave self.now.kit.settings) }
         ensures most { length result.now ≤ MOST_DATA }
     {

@@ -1,17 +1,13 @@
 //! The five states of a slave. Only the transitions of this crate make a state, which owns what it needs. A transition
 //! takes a frame that passed the tests in this state. It gives the next state, with the answer in `out`. If a test of
 //! the contents fails, it gives state Reset with the code of the first such test, and `out` is unchanged.
-ghost use Rattle.std.specs.Prelude.{◌≡◌, IsTrue, IfOk, OnOk, OnErr, false};
+ghost use Rattle.std.specs.Prelude.{◌≡◌, IsTrue, false};
 ghost use Rattle.param_load.specs.Upload.{is_whole};
-ghost use Rattle.seq_chain.specs.Chain.{fresh};
-ghost use Rattle.seq_chain.specs.Session.{HasPassed};
 ghost use Rattle.fsoe_base.specs.Data.{is_data};
 ghost use Rattle.slave_core.specs.declared.now.Now.TheVariants as now;
-ghost use Rattle.end_model.specs.Setup.{OfSlave, receives};
-ghost use Rattle.slave_core.specs.GoesOn.{GoesOn};
-ghost use Rattle.slave_core.specs.States.{no_session, starting, connecting, loading, running, session_next, session_reply, connection_next, connection_reply, parameter_next, parameter_reply, data_next, data_reply, or_reset};
-ghost use Rattle.slave_core.specs.Taken.{as_now};
-ghost use Rattle.slave_core.specs.Views.{SessionUnder, ConnectionUnder, ParameterUnder, DataUnder};
+ghost use Rattle.slave_core.specs.Now.{PassedIn};
+ghost use Rattle.slave_core.specs.States.{no_session, starting, connecting, loading, running, SessionUnder, ParameterUnder, DataUnder};
+ghost use Rattle.slave_core.specs.Taken.{Advances, Transits};
 
 use crate::kit::Kit;
 use crate::seen::Seen;
@@ -70,7 +66,6 @@ impl InReset {
 
     /// Begins a session with a Session frame. The slave's session id is its nonce at this moment. Refused with 07h if a
     /// padding byte isn't 0.
-    #[tactic(auto, using(crate::proofs::Transitions::goes_by))]
     pub fn start(
         self,
         seen: &Seen<'_>,
@@ -78,12 +73,8 @@ impl InReset {
         out: &mut FrameBuf,
     ) -> Result<InSession, (InReset, Code)>
         requires command { seen.now.frame.command ≡ Command.Session }
-        requires passed { HasPassed (receives (OfSlave kit.now.settings)) fresh seen.now.frame seen.now.link }
-        ensures next { result ≡ session_next kit.now (starting kit.now) seen.now.frame }
-        ensures sent { OnOk result (out.new ≡ session_reply kit.now (starting kit.now) seen.now.frame) }
-        ensures unwritten { OnErr result (out.new ≡ out.old) }
-        ensures goes_on { GoesOn (now.Reset self) kit.now seen.now.frame (as_now now.Session result) out.old out.new }
-        ensures under { IfOk result (λ s. SessionUnder kit.now.settings s) }
+        requires passed { PassedIn kit.now.settings (now.Reset self) seen.now.frame seen.now.link }
+        ensures { Transits now.Session (now.Reset self) (now.Session (starting kit.now)) kit.now seen.now.frame result out.old out.new }
     {
         InReset::to_session(kit).more(seen, kit, out)
     }
@@ -93,10 +84,11 @@ impl InReset {
         ensures next { result ≡ starting kit.now }
         ensures under { SessionUnder kit.now.settings result }
     {
+        let settings = kit.settings();
         InSession {
             session: Session::new(),
             id: kit.nonce(),
-            upload: Pieces::session(kit.settings().piece_len(), kit.profile()),
+            upload: Pieces::session(settings.piece_len(), settings.profile()),
         }
     }
 
@@ -111,7 +103,6 @@ impl InReset {
 impl InSession {
     /// Accepts the next Session frame, while the master's session id is incomplete. The answer carries the piece of the
     /// slave's session id with the same index. Refused with 07h if a padding byte isn't 0.
-    #[tactic(auto, using(crate::proofs::Transitions::goes_taken, crate::proofs::Transitions::goes_refused))]
     pub fn more(
         mut self,
         seen: &Seen<'_>,
@@ -120,13 +111,8 @@ impl InSession {
     ) -> Result<InSession, (InReset, Code)>
         requires command { seen.now.frame.command ≡ Command.Session }
         requires more { is_whole self.upload ≡ false }
-        requires under { SessionUnder kit.now.settings self }
-        requires passed { HasPassed (receives (OfSlave kit.now.settings)) self.session.chain seen.now.frame seen.now.link }
-        ensures next { result ≡ session_next kit.now self seen.now.frame }
-        ensures sent { OnOk result (out.new ≡ session_reply kit.now self seen.now.frame) }
-        ensures unwritten { OnErr result (out.new ≡ out.old) }
-        ensures goes_on { GoesOn (now.Session self) kit.now seen.now.frame (as_now now.Session result) out.old out.new }
-        ensures under { IfOk result (λ s. SessionUnder kit.now.settings s) }
+        requires passed { PassedIn kit.now.settings (now.Session self) seen.now.frame seen.now.link }
+        ensures { Transits now.Session (now.Session self) (now.Session self) kit.now seen.now.frame result out.old out.new }
     {
         match self.answer(seen, kit, out) {
             Ok(()) => Ok(self),
@@ -137,7 +123,6 @@ impl InSession {
     /// Accepts the first Connection frame, once the master's session id is complete. The connection id of the session
     /// is that of the frame. Each field is tested when its last byte comes, then the padding. Refused with 03h for a
     /// wrong connection id, 06h for a wrong slave address, 07h for padding that isn't 0.
-    #[tactic(auto, using(crate::proofs::Transitions::goes_by))]
     pub fn connect(
         mut self,
         seen: &Seen<'_>,
@@ -146,13 +131,8 @@ impl InSession {
     ) -> Result<InConnection, (InReset, Code)>
         requires command { seen.now.frame.command ≡ Command.Connection }
         requires whole { IsTrue (is_whole self.upload) }
-        requires under { SessionUnder kit.now.settings self }
-        requires passed { HasPassed (receives (OfSlave kit.now.settings)) self.session.chain seen.now.frame seen.now.link }
-        ensures next { result ≡ connection_next kit.now (connecting kit.now self seen.now.frame.frame.conn) seen.now.frame }
-        ensures sent { OnOk result (out.new ≡ connection_reply kit.now (connecting kit.now self seen.now.frame.frame.conn) seen.now.frame) }
-        ensures unwritten { OnErr result (out.new ≡ out.old) }
-        ensures goes_on { GoesOn (now.Session self) kit.now seen.now.frame (as_now now.Connection result) out.old out.new }
-        ensures under { IfOk result (λ s. ConnectionUnder kit.now.settings s) }
+        requires passed { PassedIn kit.now.settings (now.Session self) seen.now.frame seen.now.link }
+        ensures { Transits now.Connection (now.Session self) (now.Connection (connecting kit.now self seen.now.frame.frame.conn)) kit.now seen.now.frame result out.old out.new }
     {
         let begun = self.to_connection(seen.frame.conn(), kit);
         begun.more(seen, kit, out)
@@ -178,20 +158,17 @@ impl InSession {
         out: &mut FrameBuf,
     ) -> Result<(), Code>
         requires more { is_whole self.old.upload ≡ false }
-        requires under { SessionUnder kit.now.settings self.old }
-        requires passed { HasPassed (receives (OfSlave kit.now.settings)) self.old.session.chain seen.now.frame seen.now.link }
-        ensures next { or_reset result self.new ≡ session_next kit.now self.old seen.now.frame }
-        ensures sent { OnOk result (out.new ≡ session_reply kit.now self.old seen.now.frame) }
-        ensures unwritten { OnErr result (out.new ≡ out.old) }
-        ensures under { SessionUnder kit.now.settings self.new }
+        requires passed { PassedIn kit.now.settings (now.Session self.old) seen.now.frame seen.now.link }
+        ensures { Advances kit.now (now.Session self.old) seen.now.frame result (now.Session self.new) out.old out.new }
     {
         let from = self.upload.len();
         if let Err(code) = self.upload.take(seen.frame.load(), kit.settings().rule()) {
             return Err(code);
         }
-        let own_id = Payload::session(self.id, kit.profile());
-        let piece = own_id.piece_from(from, kit.settings().piece_len());
-        let load = padded(piece, kit.settings().own_len());
+        let settings = kit.settings();
+        let own_id = Payload::session(self.id, settings.profile());
+        let piece = own_id.piece_from(from, settings.piece_len());
+        let load = padded(piece, settings.own_len());
         self.session.take(&seen.frame, seen.link);
         self.session.seal(Command::Session, 0, load.bytes(), out);
         Ok(())
@@ -208,7 +185,6 @@ impl InSession {
 impl InConnection {
     /// Accepts the next Connection frame, while the connection id and the address are incomplete, with the refusals of
     /// `connect`. The answer repeats the piece of the frame.
-    #[tactic(auto, using(crate::proofs::Transitions::goes_taken, crate::proofs::Transitions::goes_refused))]
     pub fn more(
         mut self,
         seen: &Seen<'_>,
@@ -217,13 +193,8 @@ impl InConnection {
     ) -> Result<InConnection, (InReset, Code)>
         requires command { seen.now.frame.command ≡ Command.Connection }
         requires more { is_whole self.upload ≡ false }
-        requires under { ConnectionUnder kit.now.settings self }
-        requires passed { HasPassed (receives (OfSlave kit.now.settings)) self.session.chain seen.now.frame seen.now.link }
-        ensures next { result ≡ connection_next kit.now self seen.now.frame }
-        ensures sent { OnOk result (out.new ≡ connection_reply kit.now self seen.now.frame) }
-        ensures unwritten { OnErr result (out.new ≡ out.old) }
-        ensures goes_on { GoesOn (now.Connection self) kit.now seen.now.frame (as_now now.Connection result) out.old out.new }
-        ensures under { IfOk result (λ s. ConnectionUnder kit.now.settings s) }
+        requires passed { PassedIn kit.now.settings (now.Connection self) seen.now.frame seen.now.link }
+        ensures { Transits now.Connection (now.Connection self) (now.Connection self) kit.now seen.now.frame result out.old out.new }
     {
         match self.answer(seen, kit, out) {
             Ok(()) => Ok(self),
@@ -235,7 +206,6 @@ impl InConnection {
     /// when its last byte comes, then the padding. Refused with 08h for a wrong length of the communication parameters.
     /// Refused with 09h for a watchdog of 0 or above the longest accepted, or a wrong profile word. Refused with 0Ah
     /// for a wrong number of application parameters, 0Bh if these break the rule, 07h for padding that isn't 0.
-    #[tactic(auto, using(crate::proofs::Transitions::goes_by))]
     pub fn load(
         mut self,
         seen: &Seen<'_>,
@@ -244,13 +214,8 @@ impl InConnection {
     ) -> Result<InParameter, (InReset, Code)>
         requires command { seen.now.frame.command ≡ Command.Parameter }
         requires whole { IsTrue (is_whole self.upload) }
-        requires under { ConnectionUnder kit.now.settings self }
-        requires passed { HasPassed (receives (OfSlave kit.now.settings)) self.session.chain seen.now.frame seen.now.link }
-        ensures next { result ≡ parameter_next kit.now (loading kit.now self) seen.now.frame }
-        ensures sent { OnOk result (out.new ≡ parameter_reply kit.now (loading kit.now self) seen.now.frame) }
-        ensures unwritten { OnErr result (out.new ≡ out.old) }
-        ensures goes_on { GoesOn (now.Connection self) kit.now seen.now.frame (as_now now.Parameter result) out.old out.new }
-        ensures under { IfOk result (λ s. ParameterUnder kit.now.settings s) }
+        requires passed { PassedIn kit.now.settings (now.Connection self) seen.now.frame seen.now.link }
+        ensures { Transits now.Parameter (now.Connection self) (now.Parameter (loading kit.now self)) kit.now seen.now.frame result out.old out.new }
     {
         self.to_parameter(kit).more(seen, kit, out)
     }
@@ -281,12 +246,8 @@ impl InConnection {
         out: &mut FrameBuf,
     ) -> Result<(), Code>
         requires more { is_whole self.old.upload ≡ false }
-        requires under { ConnectionUnder kit.now.settings self.old }
-        requires passed { HasPassed (receives (OfSlave kit.now.settings)) self.old.session.chain seen.now.frame seen.now.link }
-        ensures next { or_reset result self.new ≡ connection_next kit.now self.old seen.now.frame }
-        ensures sent { OnOk result (out.new ≡ connection_reply kit.now self.old seen.now.frame) }
-        ensures unwritten { OnErr result (out.new ≡ out.old) }
-        ensures under { ConnectionUnder kit.now.settings self.new }
+        requires passed { PassedIn kit.now.settings (now.Connection self.old) seen.now.frame seen.now.link }
+        ensures { Advances kit.now (now.Connection self.old) seen.now.frame result (now.Connection self.new) out.old out.new }
     {
         if let Err(code) = self.upload.take(seen.frame.load(), kit.settings().rule()) {
             return Err(code);
@@ -309,7 +270,6 @@ impl InConnection {
 impl InParameter {
     /// Accepts the next Parameter frame, while the parameters are incomplete, with the refusals of `load`. The answer
     /// repeats the piece of the frame.
-    #[tactic(auto, using(crate::proofs::Transitions::goes_taken, crate::proofs::Transitions::goes_refused))]
     pub fn more(
         mut self,
         seen: &Seen<'_>,
@@ -318,13 +278,8 @@ impl InParameter {
     ) -> Result<InParameter, (InReset, Code)>
         requires command { seen.now.frame.command ≡ Command.Parameter }
         requires more { is_whole self.upload ≡ false }
-        requires under { ParameterUnder kit.now.settings self }
-        requires passed { HasPassed (receives (OfSlave kit.now.settings)) self.session.chain seen.now.frame seen.now.link }
-        ensures next { result ≡ parameter_next kit.now self seen.now.frame }
-        ensures sent { OnOk result (out.new ≡ parameter_reply kit.now self seen.now.frame) }
-        ensures unwritten { OnErr result (out.new ≡ out.old) }
-        ensures goes_on { GoesOn (now.Parameter self) kit.now seen.now.frame (as_now now.Parameter result) out.old out.new }
-        ensures under { IfOk result (λ s. ParameterUnder kit.now.settings s) }
+        requires passed { PassedIn kit.now.settings (now.Parameter self) seen.now.frame seen.now.link }
+        ensures { Transits now.Parameter (now.Parameter self) (now.Parameter self) kit.now seen.now.frame result out.old out.new }
     {
         match self.answer(seen, kit, out) {
             Ok(()) => Ok(self),
@@ -334,7 +289,6 @@ impl InParameter {
 
     /// Accepts the first data frame, once the parameters are complete. From now on the outputs can be other than zeros.
     /// Refused with 07h if a FailSafeData frame has a byte that isn't 0.
-    #[tactic(auto, using(crate::proofs::Transitions::goes_by))]
     pub fn run(
         mut self,
         seen: &Seen<'_>,
@@ -343,13 +297,8 @@ impl InParameter {
     ) -> Result<InData, (InReset, Code)>
         requires command { IsTrue (is_data seen.now.frame.command) }
         requires whole { IsTrue (is_whole self.upload) }
-        requires under { ParameterUnder kit.now.settings self }
-        requires passed { HasPassed (receives (OfSlave kit.now.settings)) self.session.chain seen.now.frame seen.now.link }
-        ensures next { result ≡ data_next kit.now (running kit.now self) seen.now.frame }
-        ensures sent { OnOk result (out.new ≡ data_reply kit.now (running kit.now self) seen.now.frame) }
-        ensures unwritten { OnErr result (out.new ≡ out.old) }
-        ensures goes_on { GoesOn (now.Parameter self) kit.now seen.now.frame (as_now now.Data result) out.old out.new }
-        ensures under { IfOk result (λ s. DataUnder kit.now.settings s) }
+        requires passed { PassedIn kit.now.settings (now.Parameter self) seen.now.frame seen.now.link }
+        ensures { Transits now.Data (now.Parameter self) (now.Data (running kit.now self)) kit.now seen.now.frame result out.old out.new }
     {
         self.to_data(kit).more(seen, kit, out)
     }
@@ -370,7 +319,7 @@ impl InParameter {
                 address: self.address,
                 watchdog: self.upload.watchdog(),
                 app,
-                profile: kit.profile(),
+                profile: kit.settings().profile(),
             },
             outputs: Outputs::new(kit.settings().peer_len()),
         }
@@ -384,12 +333,8 @@ impl InParameter {
         out: &mut FrameBuf,
     ) -> Result<(), Code>
         requires more { is_whole self.old.upload ≡ false }
-        requires under { ParameterUnder kit.now.settings self.old }
-        requires passed { HasPassed (receives (OfSlave kit.now.settings)) self.old.session.chain seen.now.frame seen.now.link }
-        ensures next { or_reset result self.new ≡ parameter_next kit.now self.old seen.now.frame }
-        ensures sent { OnOk result (out.new ≡ parameter_reply kit.now self.old seen.now.frame) }
-        ensures unwritten { OnErr result (out.new ≡ out.old) }
-        ensures under { ParameterUnder kit.now.settings self.new }
+        requires passed { PassedIn kit.now.settings (now.Parameter self.old) seen.now.frame seen.now.link }
+        ensures { Advances kit.now (now.Parameter self.old) seen.now.frame result (now.Parameter self.new) out.old out.new }
     {
         if let Err(code) = self.upload.take(seen.frame.load(), kit.settings().rule()) {
             return Err(code);
@@ -411,7 +356,6 @@ impl InParameter {
 
 impl InData {
     /// Accepts the next data frame. Refused with 07h if a FailSafeData frame has a byte that isn't 0.
-    #[tactic(auto, using(crate::proofs::Transitions::goes_taken, crate::proofs::Transitions::goes_refused))]
     pub fn more(
         mut self,
         seen: &Seen<'_>,
@@ -419,13 +363,8 @@ impl InData {
         out: &mut FrameBuf,
     ) -> Result<InData, (InReset, Code)>
         requires command { IsTrue (is_data seen.now.frame.command) }
-        requires under { DataUnder kit.now.settings self }
-        requires passed { HasPassed (receives (OfSlave kit.now.settings)) self.session.chain seen.now.frame seen.now.link }
-        ensures next { result ≡ data_next kit.now self seen.now.frame }
-        ensures sent { OnOk result (out.new ≡ data_reply kit.now self seen.now.frame) }
-        ensures unwritten { OnErr result (out.new ≡ out.old) }
-        ensures goes_on { GoesOn (now.Data self) kit.now seen.now.frame (as_now now.Data result) out.old out.new }
-        ensures under { IfOk result (λ s. DataUnder kit.now.settings s) }
+        requires passed { PassedIn kit.now.settings (now.Data self) seen.now.frame seen.now.link }
+        ensures { Transits now.Data (now.Data self) (now.Data self) kit.now seen.now.frame result out.old out.new }
     {
         match self.answer(seen, kit, out) {
             Ok(()) => Ok(self),
@@ -442,12 +381,8 @@ impl InData {
         out: &mut FrameBuf,
     ) -> Result<(), Code>
         requires command { IsTrue (is_data seen.now.frame.command) }
-        requires under { DataUnder kit.now.settings self.old }
-        requires passed { HasPassed (receives (OfSlave kit.now.settings)) self.old.session.chain seen.now.frame seen.now.link }
-        ensures next { or_reset result self.new ≡ data_next kit.now self.old seen.now.frame }
-        ensures sent { OnOk result (out.new ≡ data_reply kit.now self.old seen.now.frame) }
-        ensures unwritten { OnErr result (out.new ≡ out.old) }
-        ensures under { DataUnder kit.now.settings self.new }
+        requires passed { PassedIn kit.now.settings (now.Data self.old) seen.now.frame seen.now.link }
+        ensures { Advances kit.now (now.Data self.old) seen.now.frame result (now.Data self.new) out.old out.new }
     {
         let frame = &seen.frame;
         if !data_holds(frame.command(), frame.load()) {

@@ -1,9 +1,10 @@
-use Rattle.std.proofs.Common.{arith}
+use Rattle.std.proofs.Common.{ap, arith}
+use Rattle.master_core.proofs.Common.{Outcome}
 use Rattle.master_core.proofs.Law.{follows_by, answers_by}
 use Rattle.master_core.proofs.master.Master.deliver_into.Goals as goal
 
 pub returns-clause-follows : goal.returns-clause-follows
-returns-clause-follows c = follows_by _ _ _ tt (λ i. let fits = c.type_inv.frame i in omega arith) c.exchange.ensures.master
+returns-clause-follows c = follows_by _ _ _ tt (λ i. let fits = c.type_inv.frame i in omega arith) (ap (λ (o : Outcome). o.master) c.exchange.ensures.outcome)
 
 pub returns-clause-answers : goal.returns-clause-answers
-returns-clause-answers c = answers_by _ _ _ _ tt c.exchange.ensures.did c.exchange.ensures.sent
+returns-clause-answers c = answers_by _ _ _ _ tt (ap (λ (o : Outcome). o.did) c.exchange.ensures.outcome) (ap (λ (o : Outcome). o.sent) c.exchange.ensures.outcome)
