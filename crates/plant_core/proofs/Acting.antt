@@ -1,5 +1,5 @@
 -- What the slaves and the masters of all connections do in a tick, and what is pushed then.
-use Rattle.plant_core.proofs.Common.{Acted, All-cons, All-drop, All-head, All-nil, All-tail, AreNoted, Change, EachActs, EachLink, End, Entry, Fixed, IsNumber, IsSome, IsSomeAnd, Lengths, LinkConf, LinkIs, LinkStands, LinkView, NotesOne, Placed, Told, Trace, Use, drop-set-lt, drop_more, each_uses, fixed_in, fixed_of, get_or_from_slice_get, lengths_at, length-set, length-take-le, lengths_kept, map_set, place_of, placed, same_length, sent_uses, slice_get-map, slice_get_within, take_all, take_more, take_more_set}
+use Rattle.plant_core.proofs.Common.{Acted, All-cons, All-drop, All-head, All-nil, All-tail, AreNoted, Change, EachActs, EachLink, End, Entry, Fixed, IsNumber, IsSome, IsSomeAnd, Lengths, LinkConf, LinkIs, LinkStands, LinkView, NotesOne, Placed, Told, Trace, Use, drop-set-lt, drop_more, each_uses, fixed_in, fixed_of, get_or_from_slice_get, lengths_at, length-set, length-take-le, lengths_kept, map_set, place_of, placed, same_length, sent_uses, slice_get-map, slice_get_read, slice_get_within, take_all, take_more, take_more_set}
 use Rattle.std.proofs.Common.{◌≡◌, ◌≤◌, ℕ, zero, suc, ◌+◌, ◌-◌, ◌<◌, ◌^◌, Bool, List, [], ◌∷◌, ◌++◌, take, drop, get_or, length, slice_get, slice_index_or, slice_set, Option, Some, option_map, refl, sym, ap, ap₂, subst, ◌∙◌, arith}
 
 -- one entry more with each connection
@@ -36,10 +36,10 @@ next_left xs i x at = drop_more xs i x (slice_get_within xs i x at) ∙ ap (λ z
 pub still_there : (Acts : Change) (i : ℕ) (old new : List LinkView) (before after : Told) (v : LinkView) → EachTo Acts i old new before after → slice_get new i ≡ Some v → drop i old ≡ v ∷ drop (i + 1) new
 still_there Acts i old new before after v g at = sym g.left ∙ next_left new i v at
 
-pub each_more : (Acts : Change) (i : ℕ) (first vs : List LinkView) (old new : LinkView) (start before after : Told) → EachTo Acts i first vs start before → slice_get vs i ≡ Some old → Acts i old new before after
+pub each_more : (Acts : Change) (i : ℕ) (first vs : List LinkView) (old new : LinkView) (start before after : Told) → EachTo Acts i first vs start before → i < length vs → old ≡ get_or vs i old → Acts i old new before after
     → EachTo Acts (i + 1) first (slice_set vs i new) start after
-each_more Acts i first vs old new start before after g at acts =
-    let within : i < length vs = slice_get_within vs i old at in
+each_more Acts i first vs old new start before after g within read acts =
+    let at = slice_get_read vs (length vs) i old refl within read in
     let next : drop i first ≡ get_or first i old ∷ drop (i + 1) first = drop_more first i old (omega (arith, g.count)) in
     let was : drop i first ≡ old ∷ drop (i + 1) vs = still_there Acts i first vs start before old g at in
     let here : get_or first i old ≡ old = cc in
@@ -53,9 +53,10 @@ pub each_acted : (Acts : Change) (i : ℕ) (old new : List LinkView) (before aft
 each_acted Acts i old new before after g past = rw (take_all i old past, take_all i new (omega (arith, g.count))) at g.acted
 
 -- the place that comes next has room for an entry more
-pub next_few : (Acts : Change) (i : ℕ) (old new : List LinkView) (before after : Told) (v : LinkView) → EachTo Acts i old new before after → AreNoted (2 ^ 64 - 2) old → slice_get new i ≡ Some v
+pub next_few : (Acts : Change) (i : ℕ) (old new : List LinkView) (before after : Told) (v : LinkView) → EachTo Acts i old new before after → AreNoted (2 ^ 64 - 2) old → i < length new → v ≡ get_or new i v
     → v.monitor.noted + 1 < 2 ^ 64
-next_few Acts i old new before after v g few at =
+next_few Acts i old new before after v g few within read =
+    let at = slice_get_read new (length new) i v refl within read in
     let le = All-head (λ (z : LinkView). z.monitor.noted ≤ 2 ^ 64 - 2) v (drop (i + 1) new) (rw (still_there Acts i old new before after v g at) at (All-drop (λ (z : LinkView). z.monitor.noted ≤ 2 ^ 64 - 2) i old few)) in
     omega arith
 

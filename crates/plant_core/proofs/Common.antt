@@ -4,7 +4,7 @@ pub use Rattle.black_channel.specs.declared.channel.Parcel.{Parcel}
 pub use Rattle.end_model.specs.Deed.{Deed, delivered}
 pub use Rattle.end_model.specs.Outputs.{out}
 pub use Rattle.end_model.specs.Readiness.{held, offer, state_of, told_terms}
-pub use Rattle.end_model.specs.Runs.{IsProper, IsRun}
+pub use Rattle.end_model.specs.Runs.{IsRun}
 pub use Rattle.end_model.specs.Setup.{OfMaster, OfSlave, Setup}
 pub use Rattle.exchange_model.specs.Ends.{of_end, peer, same_end}
 pub use Rattle.exchange_model.specs.Fair.{offers_bit}
@@ -25,7 +25,7 @@ pub use Rattle.param_load.specs.declared.entry.Entry.{Entry}
 pub use Rattle.param_load.specs.declared.entry.Move.{Move}
 pub use Rattle.plant_conf.specs.declared.conf.BoundSpec.{BoundSpec}
 pub use Rattle.plant_conf.specs.declared.conf.LinkConf.{LinkConf}
-pub use Rattle.plant_core.specs.Doing.{Acted, Change, Delivers, Done, DoesLine, EachActs, GoesOn, IsReady, MasterTicked, OffersNoted, Pulls, SlaveActs, SlaveTicks, sees, slave_move}
+pub use Rattle.plant_core.specs.Doing.{Acted, Change, Delivers, Done, DoesLine, EachActs, GoesOn, IsReady, MasterTicked, MayMove, OffersNoted, Pulls, SlaveActs, SlaveTicks, sees, slave_move}
 pub use Rattle.plant_core.specs.Link.{AgesNote, Fixed, IsNoted, LinkStands, LinkView, NotesOne, fixed_of, new_ages, new_link}
 pub use Rattle.plant_core.specs.Making.{is_named, links_made, master_in}
 pub use Rattle.plant_core.specs.Standing.{AllNoted, AreNoted, EachLink, Follows, HasDone, HasLink, IsPlant, LinkIs, LinksAre, PlantStands, PlantValue, PlantView, ShowsOn, ShowsPair, ShowsWorst, Starts, TellsOther, TellsStill, fixed_in, kept_at, lengths_kept}

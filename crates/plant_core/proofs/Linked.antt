@@ -1,5 +1,5 @@
 -- The slave of a connection and what notes its pair, after a deed of either end.
-use Rattle.plant_core.proofs.Common.{Acted, AgesNote, AgesView, Deed, Did, End, Entry, Fixed, HasAgeParts, IfSome, IsNoted, Lengths, LinkConf, LinkStands, LinkView, Move, NotesOne, OfSlave, SlaveActs, SlaveIsAfter, SlaveView, Told, Trace, deed_in, deeds, delivered, is_some, new_ages, new_link, next_of, place_of, same_end, sent_uses, told_terms, watchdog_in}
+use Rattle.plant_core.proofs.Common.{Acted, AgesNote, AgesView, Deed, Did, End, Entry, Fixed, HasAgeParts, IfSome, IsNoted, Lengths, LinkConf, LinkStands, LinkView, MayMove, Move, NotesOne, OfSlave, SlaveActs, SlaveIsAfter, SlaveView, Told, Trace, deed_in, deeds, delivered, is_some, new_ages, new_link, next_of, place_of, same_end, sent_uses, told_terms, watchdog_in}
 use Rattle.fsoe_base.specs.declared.did.Took.{Took}
 use Rattle.end_model.specs.Step.{step}
 use Rattle.std.proofs.Common.{◌≡◌, ℕ, ◌+◌, List, [], ◌∷◌, Bool, false, ap, ap₂, refl, sym, subst, Option, if◌then◌else◌, ◌∙◌, arith}
@@ -39,23 +39,27 @@ notes_one old new noted settings aged cut = record {
   cut = cut;
 }
 
-pub slave_acts : (k : ℕ) (what : Move) (old mid new : LinkView) (did : Did) (sent : List ℕ) (terms : Option Terms) (watchdog : Option ℕ) (before after : Told) → slave_core.Follows old.slave what mid.slave → slave_core.Answers old.slave what did sent
-    → slave_core.Shows mid.slave terms told_terms → watchdog ≡ watchdog_in terms → IsNoted side.Slave (is_tick what) (delivered what) did sent watchdog mid new → Trace (sent_uses (place_of k side.Master) sent mid.cut) before after
-    → mid.slave.kit.settings ≡ old.slave.kit.settings → mid ≡ record old { slave = mid.slave } → SlaveActs k what old new before after
-slave_acts k what old mid new did sent terms watchdog before after follows answers shown told noted pushed settings stays = record {
+-- an event of the script is no tick, and nothing comes
+pub no_tick : (ss : SlaveSettings) (what : Move) → MayMove ss what → (is_tick what ≡ false) × (delivered what ≡ [])
+no_tick ss what h = grind arith
+
+pub slave_acts : (k : ℕ) (what : Move) (tick : Bool) (came : List ℕ) (old mid new : LinkView) (did : Did) (sent : List ℕ) (terms : Option Terms) (watchdog : Option ℕ) (before after : Told) → slave_core.Follows old.slave what mid.slave → slave_core.Answers old.slave what did sent
+    → slave_core.Shows mid.slave terms told_terms → watchdog ≡ watchdog_in terms → IsNoted side.Slave tick came did sent watchdog mid new → Trace (sent_uses (place_of k side.Master) sent mid.cut) before after
+    → is_tick what ≡ tick → delivered what ≡ came → mid.slave.kit.settings ≡ old.slave.kit.settings → mid ≡ record old { slave = mid.slave } → SlaveActs k what old new before after
+slave_acts k what tick came old mid new did sent terms watchdog before after follows answers shown told noted pushed ticked brought settings stays = record {
   acts = λ link w h.
       let e : List Deed = deeds side.Slave w in
       let x : Entry = next_of side.Slave what link w in
       let after_it = follows.is_after link.slave e h.slave in
       let s = answers.sent link.slave e h.slave in
       let told_so : watchdog ≡ watchdog_in x.terms = told ∙ ap watchdog_in (shown.shows link.slave (step (OfSlave link.slave) e what ∷ e) after_it) in
-      let parts : HasParts x side.Slave (delivered what) did sent = record { end_is = refl; came_is = refl; did_is = sym (answers.did link.slave e h.slave); sent_is = sym s } in
+      let parts : HasParts x side.Slave came did sent = record { end_is = refl; came_is = brought; did_is = sym (answers.did link.slave e h.slave); sent_is = sym s } in
       record {
         stands = record {
           slave = subst (λ (z : SlaveView). SlaveIsAfter link.slave z (step (OfSlave link.slave) e what ∷ e)) (sym noted.slave) after_it;
           monitor = (noted.monitor.notes x parts).notes w (ap (λ (v : LinkView). v.monitor) stays ∙ h.monitor);
-          ages = ages_noted mid.ages new.ages side.Slave (is_tick what) (delivered what) did sent watchdog x w noted.ages
-              (record { parts = parts; tick_is = refl; watchdog_is = whatever x.did.took watchdog (watchdog_in x.terms) told_so }) (rw (ap (λ (v : LinkView). v.ages) stays) h.ages);
+          ages = ages_noted mid.ages new.ages side.Slave tick came did sent watchdog x w noted.ages
+              (record { parts = parts; tick_is = ticked; watchdog_is = whatever x.did.took watchdog (watchdog_in x.terms) told_so }) (rw (ap (λ (v : LinkView). v.ages) stays) h.ages);
         };
         channel = subst (λ (f : List ℕ). Trace (sent_uses (place_of k side.Master) f old.cut) before after) s (rw (← ap (λ (v : LinkView). v.cut) stays) pushed);
       };

@@ -4,16 +4,14 @@ ghost use Rattle.fsoe_base.specs.Did.{nothing};
 ghost use Rattle.fsoe_base.specs.Image.{bit_of};
 ghost use Rattle.param_load.specs.declared.entry.Move.TheVariants as event;
 ghost use Rattle.end_model.specs.Readiness as model;
-ghost use Rattle.end_model.specs.Setup.{OfSlave};
-ghost use Rattle.end_model.specs.Runs.{IsProper};
 ghost use Rattle.end_model.specs.Outputs as looking_back;
 ghost use Rattle.param_load.specs.declared.entry.Entry.{Entry};
 ghost use Rattle.exchange_model.specs.Ends.{peer};
-ghost use Rattle.exchange_model.specs.Honest.{is_tick};
 ghost use Rattle.exchange_model.specs.Monitor.{view_of};
 ghost use Rattle.exchange_model.specs.Other.{first_other};
 ghost use Rattle.fsoe_base.specs.declared.command.End.TheVariants as side;
 ghost use Rattle.fsoe_base.specs.declared.lengths.TheConstants.{MOST_DATA};
+ghost use Rattle.plant_core.specs.Doing.{MayMove};
 ghost use Rattle.plant_model.specs.Gifts.{place_of, sent_uses};
 ghost use Rattle.plant_model.specs.Uses.{Trace};
 ghost use Rattle.reaction_bound.specs.Age.{told_age, worst_of};
@@ -23,7 +21,6 @@ ghost use Rattle.slave_core.specs.Standing.{Answers, Follows, Shows};
 
 use crate::watch::Watch;
 use black_channel::{Channel, Place};
-use exchange_model::delivered;
 use fsoe_base::{Did, End, FrameBuf, State};
 use param_load::{Move, Terms};
 use plant_conf::LinkConf;
@@ -57,17 +54,10 @@ pub(crate) fn watchdog_in(terms: Option<&Terms>) -> Option<u16>
     }
 }
 
-/// Whether an event is a tick.
-fn is_tick(what: &Move) -> bool
-    ensures { result ≡ is_tick what.now }
-{
-    matches!(what, Move::Tick)
-}
-
-/// Lets this event happen at a slave, and writes what it did and the frame that it sent.
+/// Lets this event of the script happen at a slave, and writes what it did and the frame that it sent.
 #[tactic(auto, using(slave_core::proofs::Law::set_answers))]
 fn act(slave: &mut Slave, what: &Move, did: &mut Did, out: &mut FrameBuf)
-    requires { IsProper (OfSlave slave.old.kit.settings) what.now }
+    requires { MayMove slave.old.kit.settings what.now }
     ensures follows { Follows slave.old what.now slave.new }
     ensures answers { Answers slave.old what.now did.new out.new }
     ensures settings { slave.new.kit.settings ≡ slave.old.kit.settings }
@@ -76,12 +66,11 @@ fn act(slave: &mut Slave, what: &Move, did: &mut Did, out: &mut FrameBuf)
     did.clear();
     out.clear();
     match what {
-        Move::Deliver(frame) => slave.deliver_into(frame.bytes(), did, out),
-        Move::Tick => slave.tick_into(did, out),
         Move::Put(load) => slave.put(load.bytes()),
         Move::Hold(failsafe) => slave.hold(*failsafe),
         Move::Nonce(id) => slave.nonce(*id),
         Move::Local => *did = slave.reset(out),
+        Move::Deliver(_) | Move::Tick => {}
     }
 }
 
@@ -111,7 +100,7 @@ impl Link {
         }
     }
 
-    /// Lets this event happen at the slave of this connection, and notes it. Writes what it did and the frame that it
+    /// Lets this event of the script happen at the slave of this connection, and notes it. Writes what it did and the frame that it
     /// sent, which is pushed.
     #[tactic(auto, using(crate::proofs::Linked::slave_acts))]
     pub(crate) fn happen<C: Channel>(
@@ -123,13 +112,12 @@ impl Link {
         out: &mut FrameBuf,
     )
         requires few { self.old.monitor.noted + 1 < 2 ^ 64 }
-        requires proper { IsProper (OfSlave self.old.slave.kit.settings) what.now }
+        requires proper { MayMove self.old.slave.kit.settings what.now }
         ensures { SlaveActs link what.now self.old self.new (C.told channel.old) (C.told channel.new) }
     {
         act(&mut self.slave, what, did, out);
         let watchdog = watchdog_in(self.slave.terms());
-        let (tick, came) = (is_tick(what), delivered(what));
-        self.acted(End::Slave, link, tick, came, did, out, watchdog, channel);
+        self.acted(End::Slave, link, false, &[], did, out, watchdog, channel);
     }
 
     /// Does the same with this frame that comes, and copies nothing.

@@ -4,4 +4,4 @@ use Rattle.plant_core.proofs.link.Link.deliver.Goals as goal
 
 pub returns : goal.returns
 returns g c =
-    rw (← c.self.view_is) (slave_acts _ _ _ _ _ _ _ _ _ _ _ c.deliver_into.ensures.follows c.deliver_into.ensures.answers c.terms.ensures c.watchdog_in-watchdog.ensures c.acted.ensures.noted c.acted.ensures.pushed (search rules) refl)
+    rw (← c.self.view_is) (slave_acts _ _ _ _ _ _ _ _ _ _ _ _ _ c.deliver_into.ensures.follows c.deliver_into.ensures.answers c.terms.ensures c.watchdog_in-watchdog.ensures c.acted.ensures.noted c.acted.ensures.pushed refl refl (search rules) refl)

@@ -1,8 +1,8 @@
 use Rattle.std.proofs.Common.{refl, rules}
-use Rattle.plant_core.proofs.Linked.{slave_acts}
+use Rattle.plant_core.proofs.Linked.{no_tick, slave_acts}
 use Rattle.plant_core.proofs.link.Link.happen.Goals as goal
 
 pub returns : goal.returns
 returns g c =
-    let noted = rw (c.is_tick-tick.ensures, c.delivered-came.ensures) at c.acted.ensures.noted in
-    rw (← c.self.view_is) (slave_acts _ _ _ _ _ _ _ _ _ _ _ c.act.ensures.follows c.act.ensures.answers c.terms.ensures c.watchdog_in-watchdog.ensures noted c.acted.ensures.pushed (search rules) refl)
+    let quiet = no_tick c.args.self.now.slave.kit.settings c.args.what.now c.requires.proper in
+    rw (← c.self.view_is) (slave_acts _ _ _ _ _ _ _ _ _ _ _ _ _ c.act.ensures.follows c.act.ensures.answers c.terms.ensures c.watchdog_in-watchdog.ensures c.acted.ensures.noted c.acted.ensures.pushed quiet.0 quiet.1 (search rules) refl)
