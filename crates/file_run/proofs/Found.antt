@@ -1,6 +1,6 @@
 -- Why there is no next line, or what is wrong with it.
-use Rattle.file_run.proofs.Common.{Bool, Consumes, Err, FindsLine, Goes, IfSome, InputFormat, IsLine, Line, LineCause, Long, NoNewline, Option, Reads, Refusal, Result, first_line, halt_of, heading_by, heading_by_itself, in_input, input_cause, lines_of, says_after, says_by}
-use Rattle.std.proofs.Common.{◌≡◌, ℕ, ◌+◌, List, [], ◌∷◌, ◌++◌, refl, ap, arith}
+use Rattle.file_run.proofs.Common.{Bool, Consumes, Err, FindsLine, Goes, IfSome, IsLine, LineCause, Long, NoNewline, Option, Reads, Refusal, Result, first_line, halt_of, in_input, input_cause, lines_of, says_after, says_by}
+use Rattle.std.proofs.Common.{◌≡◌, ℕ, List, [], ◌∷◌, ◌++◌, refl, ap, arith}
 use Rattle.fsoe_io.specs.declared.line.LineFault.{LineFault}
 use Rattle.fsoe_io.specs.declared.line.LineFault.TheVariants as fault
 use Rattle.file_run.proofs.Lines.{by_line, by_long, by_open}
@@ -14,12 +14,6 @@ no_line fault.NoNewline before text old new r = by_open old (λ lines. first_lin
 -- and nothing is taken
 pub none_goes : (why : LineFault) (first before lines : ℕ) (old new : Option (List ℕ)) → first ≡ before → Reads (Err why) old new → Goes {T = Unit {0}} (Err (halt_of why first)) before lines old new
 none_goes why first before lines old new h k = grind arith
-
--- the next header line is refused
-pub refused_header_line : {H L E : Type 0} (f : InputFormat H L E) (h : H) (old new : Option (List ℕ)) (text : List ℕ) (why : LineCause) → IsLine text → Consumes old new (text ++ 10 ∷ []) → f.header_line h text ≡ Err why
-    → IfSome old (λ input. heading_by f h (first_line (lines_of input)) ≡ Err (Line why))
-refused_header_line f h old new text why is goes e =
-    by_line old new text (λ lines. heading_by f h (first_line lines) ≡ Err (Line why)) is goes (λ rest. ap heading_by_itself e)
 
 -- the next line of an event is refused
 pub refused_event_line : {L E : Type 0} (event : L → Option E) (says : List ℕ → Result L LineCause) (full : Bool) (old new : Option (List ℕ)) (text : List ℕ) (why : Refusal) → IsLine text → Consumes old new (text ++ 10 ∷ []) → says_after event says full text ≡ Err why

@@ -12,8 +12,6 @@ pub mod Running
 pub mod Leaving
 pub mod Exact
 pub mod Counted
-pub mod Before
-pub mod Declined
 pub mod Titled
 pub mod Unread
 pub mod Common

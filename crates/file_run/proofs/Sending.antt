@@ -81,16 +81,11 @@ ends_write r o ended whole e p begins rose =
     } in
     rw e failed
 
--- a run ends as it is to, or a write failed at the end
-pub ends_written : {H L E : Type 0} (r : Reporting H L E) (o : Outside) (between : Option (List ℕ)) (faults : ℕ) (waiting : OutputView) (text last : List ℕ) (ended result : Ended) → Sent o.sink.before between waiting text
-    → Writes waiting.sent (waiting.bytes ++ last) ended result (record { before = between; after = o.sink.after; faults_before = faults; faults_after = o.sink.faults_after })
-    → faults ≡ o.sink.faults_before → IfSome o.source.before (λ input. BeginsReport r (input_read r.format input) (text ++ last))
-    → (Grew o.sink.before o.sink.after (text ++ last) → EndsAs r ended.status ended o) → EndsAs r result.status result o
-ends_written r o between faults waiting text last ended result s writes later begins ends =
+-- a run that had written nothing ends as it is to, or a write failed at the end
+pub ends_from_none : {H L E : Type 0} (r : Reporting H L E) (o : Outside) (last : List ℕ) (ended result : Ended) → Writes 0 last ended result o.sink → IfSome o.source.before (λ input. BeginsReport r (input_read r.format input) last)
+    → (Grew o.sink.before o.sink.after last → EndsAs r ended.status ended o) → EndsAs r result.status result o
+ends_from_none r o last ended result writes begins ends =
     elim writes [
-      | inl whole ↦ subst (λ (x : Ended). EndsAs r x.status x o) (sym whole.0) (ends (grew_written o.sink.before between o.sink.after waiting text last s whole.1))
-      | inr cut ↦
-          ends_write r o result (text ++ last) cut.status_is
-          (cut_part o.sink.before between waiting text last result (record { before = between; after = o.sink.after; faults_before = faults; faults_after = o.sink.faults_after }) s cut) begins
-          (rose_since o.sink.faults_before faults o.sink.faults_after later cut.cause)
+      | inl whole ↦ subst (λ (x : Ended). EndsAs r x.status x o) (sym whole.0) (ends whole.1)
+      | inr cut ↦ ends_write r o result last cut.status_is (record { part = cut.part; grew = cut.grew; counts = omega (arith, cut.place_is); begins = cut.begins; less = cut.less }) begins cut.cause
     ]

@@ -1,5 +1,5 @@
 -- Whole lines that are taken one after another.
-use Rattle.file_run.proofs.Common.{Bool, Consumes, Err, Goes, Halt, Halts, Held, IsLine, Option, Stalls, TookLines, TookOneAtMost, append-nil, consumes_then, from_line, joined, length-append, length_push, most_held, prepend_known}
+use Rattle.file_run.proofs.Common.{Bool, Consumes, Err, Goes, Halt, Halts, Held, IsLent, IsLine, Option, Stalls, TookLines, TookOneAtMost, append-nil, consumes_then, joined, length-append, length_push, most_held, prepend_known}
 use Rattle.std.proofs.Common.{◌≡◌, ℕ, ◌+◌, List, [], ◌∷◌, ◌++◌, ◌≤◌, length, refl, ap, arith, ◌∙◌, sym, subst, append_assoc, rules}
 use Rattle.std.proofs.lemmas.List.Elements.{All-append, All-push}
 use Rattle.file_run.specs.declared.halt.Halt.TheVariants as halt
@@ -13,9 +13,9 @@ joined-append (line ∷ xs) ys =
 pub took_none : (left : Option (List ℕ)) → TookLines 0 left left
 took_none left = grind arith
 
--- the line that a reader lends was taken from what was to come before it
-pub line_taken : (reader : Held) (left : Option (List ℕ)) → Consumes (from_line reader left) (prepend_known reader.bytes left) (reader.line ++ 10 ∷ [])
-line_taken reader left = grind arith
+-- the line that a reader lends was taken from it and what is to come now
+pub is_lent : (reader : Held) (left : Option (List ℕ)) → IsLent (prepend_known (reader.line ++ 10 ∷ []) (prepend_known reader.bytes left)) reader left
+is_lent reader left = grind arith
 
 -- a line more
 pub took_line : (k lines : ℕ) (a b c : Option (List ℕ)) (line : List ℕ) → TookLines k a b → IsLine line → Consumes b c (line ++ 10 ∷ []) → lines ≡ k + 1 → TookLines lines a c

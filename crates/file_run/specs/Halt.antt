@@ -11,13 +11,6 @@ use Rattle.file_run.specs.declared.halt.Halt.{Halt}
 use Rattle.file_run.specs.declared.halt.Halt.TheVariants as halt
 use Rattle.file_run.specs.Ending.{ReadLines, LinesBefore}
 
--- where a line isn't taken, it has this number, or there is no memory for it
-abbrev pub Declines : {T : Type 0} → Result T Halt → ℕ → Type 0
-Declines (Ok taken) number = Unit {0}
-Declines (Err (halt.Read lines)) number = ⊥
-Declines (Err halt.Memory) number = Unit {0}
-Declines (Err (halt.Refused line cause)) number = line ≡ number
-
 -- where a read failed, what is held is no whole line
 abbrev pub Stalls : {T : Type 0} → Result T Halt → List ℕ → Type 0
 Stalls (Ok says) held = Unit {0}

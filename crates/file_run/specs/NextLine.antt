@@ -10,10 +10,10 @@ use Rattle.file_run.specs.declared.halt.Halt.{Halt}
 use Rattle.file_run.specs.declared.halt.Halt.TheVariants as halt
 use Rattle.file_run.specs.ByTitle.{first_line}
 
--- what was to come before the line that a reader lends: it with its newline, what is held behind it, and what the
--- source has left
-abbrev pub from_line : Held → Option (List ℕ) → Option (List ℕ)
-from_line reader left = prepend_known (reader.line ++ 10 ∷ []) (prepend_known reader.bytes left)
+-- the line that a reader lends was taken, with its newline, from what was to come: what is held behind it, and what the
+-- source has left, come now
+abbrev pub IsLent : Option (List ℕ) → Held → Option (List ℕ) → Type 0
+IsLent input reader left = Consumes input (prepend_known reader.bytes left) (reader.line ++ 10 ∷ [])
 
 -- the next line has these bytes, or there is none for this cause
 abbrev pub FindsLine : Result (Unit {0}) Halt → List ℕ → Option (List ℕ) → Option (List ℕ) → Type 0

@@ -3,7 +3,7 @@ ghost use Rattle.std.specs.Prelude.{◌≡◌, ◌+◌, ◌≤◌, ℕ, List, Op
 ghost use Rattle.fsoe_io.specs.Line.{IsLine, most_held};
 ghost use Rattle.file_run.specs.Ending.{Writes};
 ghost use Rattle.file_run.specs.Running.{Leaves, LeavesDone, HasRead, Runs, Start, StepsTo, since};
-ghost use Rattle.file_run.specs.NextLine.{from_line};
+ghost use Rattle.file_run.specs.NextLine.{IsLent};
 ghost use Rattle.file_run.specs.Outside.{Outside, told};
 ghost use Rattle.file_run.specs.Ran.{RanOver};
 ghost use Rattle.file_run.specs.Stop.{halted_by, last_of};
@@ -123,8 +123,8 @@ pub(crate) fn run_on<M: Machine, S: Source, K: Sink>(
     requires line { IsLine reader.old.line }
     requires lines { reader.old.lines ≡ 1 }
     requires held { length reader.old.bytes ≤ most_held }
-    ensures { let outside : Outside = record {
-      source = record { before = from_line reader.old (S.left source.old); after = S.left source.new; faults_before = S.faults source.old; faults_after = S.faults source.new };
+    ensures { (input : Option (List ℕ)) → IsLent input reader.old (S.left source.old) → let outside : Outside = record {
+      source = record { before = input; after = S.left source.new; faults_before = S.faults source.old; faults_after = S.faults source.new };
       sink = told K.written K.faults sink.old sink.new;
     } in
         RanOver (M.reporting handed.old) result outside

@@ -61,35 +61,25 @@ pub fn halt<K: Sink>(output: &mut Output, sink: &mut K, why: Halt) -> Ended
     ensures writes { Writes output.old.sent (output.old.bytes ++ last_of why) (halted_by why) result (told K.written K.faults sink.old sink.new) }
     ensures later { K.faults sink.old ≤ K.faults sink.new }
 {
-    match why {
-        Halt::Read(lines) => close(
-            output,
-            sink,
-            b"",
-            Ended {
-                status: Status::Read,
-                place: lines,
-            },
-        ),
-        Halt::Memory => close(
-            output,
-            sink,
-            b"",
-            Ended {
-                status: Status::Memory,
-                place: 0,
-            },
-        ),
+    let mut text = LineText::new();
+    let ended = match why {
+        Halt::Read(lines) => Ended {
+            status: Status::Read,
+            place: lines,
+        },
+        Halt::Memory => Ended {
+            status: Status::Memory,
+            place: 0,
+        },
         Halt::Refused(line, cause) => {
-            let mut text = LineText::new();
             write_refusal(line, cause, &mut text);
-            let ended = Ended {
+            Ended {
                 status: Status::Line,
                 place: line,
-            };
-            close(output, sink, text.bytes(), ended)
+            }
         }
-    }
+    };
+    close(output, sink, text.bytes(), ended)
 }
 
 /// Writes a whole report. The run ends so; or with `Write` and the bytes written, where the sink fails.

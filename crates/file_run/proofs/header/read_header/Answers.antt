@@ -1,75 +1,61 @@
-use Rattle.file_run.proofs.Common.{Bool, Err, from_line, prepend_known}
-use Rattle.std.proofs.Common.{◌≡◌, ◌+◌, arith, refl, ap, sym, ◌∙◌, rules}
-use Rattle.file_run.proofs.Declined.{declines_goes, declines_stalls}
-use Rattle.file_run.proofs.HeaderSeen.{header_none, header_line, header_done, header_halts, heading_as}
-use Rattle.file_run.proofs.Taken.{halts_after, line_taken, took_line, took_none, took_one}
+use Rattle.std.proofs.Common.{◌∙◌, arith, refl, sym}
+use Rattle.file_run.specs.declared.halt.Halt.TheVariants as halt
+use Rattle.file_run.specs.declared.refusal.Refusal.TheVariants as refusal
+use Rattle.file_run.proofs.HeaderSeen.{header_goes_on, header_halts, header_next, header_stopped, reading_first}
+use Rattle.file_run.proofs.Taken.{halts_after, took_line, took_one}
 use Rattle.file_run.proofs.header.read_header.Goals as goal
 
-pub returns-in-Ok-true-clause-took : goal.returns-in-Ok-true-clause-took
-returns-in-Ok-true-clause-took g c =
-    took_line 0 _ _ _ _ c.args.reader.now.line (took_none _) c.requires.line (line_taken c.args.reader.now (g.S.Source.left c.args.source.now)) (omega (arith, c.requires.lines))
+pub loop-cause-init : goal.loop-cause-init
+loop-cause-init g c = record {
+  is = c.requires.line;
+  held = c.requires.held;
+  few = omega (arith, c.requires.few, c.requires.lines);
+  kind = refl;
+  stays = refl;
+  reads = λ input lent. reading_first _ _ _ input _ c.requires.start c.requires.lines lent;
+}
 
 pub returns-in-Ok-true-clause-heads : goal.returns-in-Ok-true-clause-heads
 returns-in-Ok-true-clause-heads g c =
-    let goes = line_taken c.args.reader.now (g.S.Source.left c.args.source.now) in
-    let finds = c.in-Ok-true.ensures.finds _ _ c.requires.line goes in
-    header_done (g.F.Format.format (g.F.Format.kind c.args.header.now)) c.args.header.now c.take_heading.new.header 0 _ _ _ _ finds.0 (header_none _ _ _ c.requires.start) finds.1 finds.2 finds.3
-    (sym c.in-Ok-true.ensures.done ∙ c.in-Ok-true.field-0-test) (omega (arith, c.requires.lines))
+    let next = rw (c.loop-cause.invariant.kind, c.line.ensures) at c.in-Ok-true.ensures.next in
+    λ input lent. header_next (g.F.Format.format (g.F.Format.kind c.args.header.now)) _ c.loop-cause.reader input _ _ (c.loop-cause.invariant.reads input lent) c.loop-cause.invariant.is (λ more. rw (next.0, sym next.1 ∙ c.in-Ok-true.field-0-test) refl)
 
-pub returns-in-Err-clause-halts : goal.returns-in-Err-clause-halts
-returns-in-Err-clause-halts g c =
-    let one : c.args.reader.now.lines ≡ 0 + 1 = omega (arith, c.requires.lines) in
-    let took = took_one _ _ c.args.reader.now.line c.requires.line (line_taken c.args.reader.now (g.S.Source.left c.args.source.now)) in
-    halts_after _ _ _ c.args.reader.now.bytes 0 c.args.reader.now.lines c.in-Err.why (took_none _) (declines_goes {T = Bool} (Err c.in-Err.why) 0 c.args.reader.now.lines (from_line c.args.reader.now (g.S.Source.left c.args.source.now)) (prepend_known c.args.reader.now.bytes (g.S.Source.left c.args.source.now)) c.in-Err.ensures.declines one took)
-    (declines_stalls {T = Bool} (Err c.in-Err.why) c.args.reader.now.lines c.args.reader.now.bytes c.in-Err.ensures.declines) c.requires.held
+pub returns-in-Err-Line-clause-heads : goal.returns-in-Err-Line-clause-heads
+returns-in-Err-Line-clause-heads g c =
+    let next = rw (c.in-Err-Line.field-0-is, c.loop-cause.invariant.kind, c.line.ensures) at c.in-Err-Line.ensures.next in
+    λ input lent. rw c.lines.ensures (header_stopped (g.F.Format.format (g.F.Format.kind c.args.header.now)) _ _ _ (header_next (g.F.Format.format (g.F.Format.kind c.args.header.now)) _ c.loop-cause.reader input _ _ (c.loop-cause.invariant.reads input lent) c.loop-cause.invariant.is (λ more. rw next refl)).0)
+
+pub returns-in-Err-Line-clause-halts : goal.returns-in-Err-Line-clause-halts
+returns-in-Err-Line-clause-halts g c =
+    λ input lent.
+    let at = c.loop-cause.invariant.reads input lent in
+    halts_after input at.rest _ c.loop-cause.reader.bytes at.lines 0 (halt.Refused c.lines.result (refusal.Line c.in-Err-Line.cause)) at.took
+    (c.lines.ensures ∙ at.number, took_one _ _ c.loop-cause.reader.line c.loop-cause.invariant.is at.lent) tt c.loop-cause.invariant.held
 
 pub returns-in-Err-clause-heads : goal.returns-in-Err-clause-heads
 returns-in-Err-clause-heads g c =
-    let goes = line_taken c.args.reader.now (g.S.Source.left c.args.source.now) in
-    let one : c.args.reader.now.lines ≡ 0 + 1 = omega (arith, c.requires.lines) in
-    let took = took_one _ _ c.args.reader.now.line c.requires.line goes in
-    header_halts (g.F.Format.format (g.F.Format.kind c.args.header.now)) g.F.Format.takes c.args.header.now c.take_heading.new.header 0 c.args.reader.now.lines _ _ _ c.in-Err.why (header_none _ _ _ c.requires.start)
-    (c.in-Err.ensures.finds _ _ c.requires.line goes) (declines_goes {T = Bool} (Err c.in-Err.why) 0 c.args.reader.now.lines (from_line c.args.reader.now (g.S.Source.left c.args.source.now)) (prepend_known c.args.reader.now.bytes (g.S.Source.left c.args.source.now)) c.in-Err.ensures.declines one took)
+    let next = rw (c.loop-cause.invariant.kind, c.line.ensures) at c.in-Ok-false.ensures.next in
+    λ input lent.
+    let seen = header_goes_on (g.F.Format.format (g.F.Format.kind c.args.header.now)) _ _ c.loop-cause.reader input _ (c.loop-cause.invariant.reads input lent) c.loop-cause.invariant.is next.0 (sym next.1 ∙ c.in-Ok-false.field-0-test) in
+    header_halts (g.F.Format.format (g.F.Format.kind c.args.header.now)) _ _ _ _ _ _ _ _ c.in-Err.why seen.0 c.in-Err.ensures.finds c.in-Err.ensures.goes
 
-pub loop-why-init : goal.loop-why-init
-loop-why-init g c =
-    let goes = line_taken c.args.reader.now (g.S.Source.left c.args.source.now) in
-    let finds = c.in-Ok-false.ensures.finds _ _ c.requires.line goes in (
-      took_line 0 _ _ _ _ c.args.reader.now.line (took_none _) c.requires.line goes (omega (arith, c.requires.lines)),
-      omega (arith, c.requires.few, c.requires.lines, c.in-Ok-false.ensures.fewer),
-      c.take_heading.ensures.kind,
-      refl,
-      header_line (g.F.Format.format (g.F.Format.kind c.args.header.now)) c.args.header.now c.take_heading.new.header 0 _ _ _ _ finds.0 (header_none _ _ _ c.requires.start) finds.1 finds.2 finds.3
-          (sym c.in-Ok-false.ensures.done ∙ c.in-Ok-false.field-0-test) (omega (arith, c.requires.lines)),
-    )
+pub returns-in-Err-clause-halts : goal.returns-in-Err-clause-halts
+returns-in-Err-clause-halts g c =
+    λ input lent.
+    let at = c.loop-cause.invariant.reads input lent in
+    halts_after _ _ _ _ _ _ c.in-Err.why (took_line _ _ _ _ _ c.loop-cause.reader.line at.took c.loop-cause.invariant.is at.lent at.number) c.in-Err.ensures.goes c.in-Err.ensures.stalls c.in-Err.ensures.most
 
-pub returns-in-Ok-true-next_header_line-clause-took : goal.returns-in-Ok-true-next_header_line-clause-took
-returns-in-Ok-true-next_header_line-clause-took c = search (rules, took_line)
-
-pub returns-in-Err-next_header_line-clause-halts : goal.returns-in-Err-next_header_line-clause-halts
-returns-in-Err-next_header_line-clause-halts g c =
-    halts_after _ _ _ _ _ _ c.in-Err-next_header_line.why c.loop-why.invariant.0 c.in-Err-next_header_line.ensures.goes c.in-Err-next_header_line.ensures.stalls c.in-Err-next_header_line.ensures.most
-
-pub returns-in-Ok-true-next_header_line-clause-heads : goal.returns-in-Ok-true-next_header_line-clause-heads
-returns-in-Ok-true-next_header_line-clause-heads g c =
-    let finds = rw c.loop-why.invariant.2 at c.in-Ok-true-next_header_line.ensures.finds in
-    header_done (g.F.Format.format (g.F.Format.kind c.args.header.now)) c.loop-why.header c.next_header_line.new.header _ _ _ _ _ finds.0 c.loop-why.invariant.4 finds.1 finds.2 finds.3
-    (sym (rw c.loop-why.invariant.2 at c.in-Ok-true-next_header_line.ensures.done) ∙ c.in-Ok-true-next_header_line.field-0-test) c.in-Ok-true-next_header_line.ensures.goes
-
-pub loop-why-preserved : goal.loop-why-preserved
-loop-why-preserved g c =
-    let goes = c.in-Ok-false-next_header_line.ensures.goes in
-    let finds = rw c.loop-why.invariant.2 at c.in-Ok-false-next_header_line.ensures.finds in (
-      took_line _ _ _ _ _ finds.0 c.loop-why.invariant.0 finds.1 finds.2 goes,
-      omega (arith, goes, c.in-Ok-false-next_header_line.ensures.fewer, c.loop-why.invariant.1),
-      c.next_header_line.ensures.kind ∙ c.loop-why.invariant.2,
-      c.in-Ok-false-next_header_line.ensures.cause ∙ c.loop-why.invariant.3,
-      header_line (g.F.Format.format (g.F.Format.kind c.args.header.now)) c.loop-why.header c.next_header_line.new.header _ _ _ _ _ finds.0 c.loop-why.invariant.4 finds.1 finds.2 finds.3
-          (sym (rw c.loop-why.invariant.2 at c.in-Ok-false-next_header_line.ensures.done) ∙ c.in-Ok-false-next_header_line.field-0-test) goes,
-    )
-
-pub returns-in-Err-next_header_line-clause-heads : goal.returns-in-Err-next_header_line-clause-heads
-returns-in-Err-next_header_line-clause-heads g c =
-    header_halts (g.F.Format.format (g.F.Format.kind c.args.header.now)) g.F.Format.takes c.loop-why.header c.next_header_line.new.header _ _ _ _ _ c.in-Err-next_header_line.why c.loop-why.invariant.4
-    (heading_as (g.F.Format.format (g.F.Format.kind c.loop-why.header)) (g.F.Format.format (g.F.Format.kind c.args.header.now)) g.F.Format.takes c.loop-why.header c.next_header_line.new.header (Err c.in-Err-next_header_line.why) _ _
-    (ap g.F.Format.format c.loop-why.invariant.2) c.in-Err-next_header_line.ensures.finds) c.in-Err-next_header_line.ensures.goes
+pub loop-cause-preserved : goal.loop-cause-preserved
+loop-cause-preserved g c =
+    let next = rw (c.loop-cause.invariant.kind, c.line.ensures) at c.in-Ok-false.ensures.next in
+    let line = c.in_default.ensures in
+    record {
+      is = line.finds.0;
+      held = line.most;
+      few = omega (arith, line.goes, c.in-Ok-false.ensures.fewer, c.loop-cause.invariant.few);
+      kind = c.in-Ok-false.ensures.kind ∙ c.loop-cause.invariant.kind;
+      stays = line.cause ∙ c.loop-cause.invariant.stays;
+      reads = λ input lent.
+          let seen = header_goes_on (g.F.Format.format (g.F.Format.kind c.args.header.now)) _ _ c.loop-cause.reader input _ (c.loop-cause.invariant.reads input lent) c.loop-cause.invariant.is next.0 (sym next.1 ∙ c.in-Ok-false.field-0-test) in
+          record { lines = _; rest = _; seen = seen.0; took = seen.1; lent = line.finds.1; number = line.goes };
+    }

@@ -1,4 +1,4 @@
-use Rattle.std.proofs.Common.{◌-◌, rules}
+use Rattle.std.proofs.Common.{rules}
 use Rattle.file_run.proofs.HandedOut.{part_is}
 use Rattle.file_run.proofs.waiting.Waiting.give.Goals as goal
 
