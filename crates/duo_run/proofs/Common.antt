@@ -1,32 +1,32 @@
 -- The names that more than one file of these proofs cites, passed on from one place. Declares nothing.
 pub use Rattle.black_channel.specs.Altered.{altered, back_th}
 pub use Rattle.black_channel.specs.Window.{Pushes, WindowView, window_of}
-pub use Rattle.duo_run.specs.Acts.{Acts, Comes, Happens, Hears, MasterActs, SlaveActs, heard_at, move_at}
+pub use Rattle.duo_run.specs.Acts.{Comes, Hears, move_at}
 pub use Rattle.duo_run.specs.Bulk.{entries_of, number_line, report_of, summary_lines}
 pub use Rattle.duo_run.specs.Convert.{ConvertWrite, ConvertedAs, ConvertsReadLines, IsOnePair, RanConvert, SaysTheSame, WroteAll, converted, converted_by, ended_at_stop, event_text, header_text, last_text, line_text, only_pair, title_text}
 pub use Rattle.duo_run.specs.Converting.{FindsTaken, LineTaken, PairRead, end_taken, event_taken, full_taken, header_piece, header_taken, later_taken, left_to_take, line_taken, read_none, taken_by}
 pub use Rattle.duo_run.specs.Duo.{Advances, CountsEntry, DuoStands, DuoView, IsDuo, Misses, NextEntry, ReplayStands, ShowsLast, Steps, lengths_of, profiles_of, sent_by, steps_done}
 pub use Rattle.duo_run.specs.Pairs.{Pair, done_after, entries_over, entry_after, events_by, events_done, events_to, is_met, is_met_by, least, less_of, other_event, other_events, world_of}
-pub use Rattle.duo_run.specs.PairsReport.{ArePairs, IsPairOf, PairsInput, PairsReports, PairsRunFairly, RanPairs, closing_line, closing_lines, event_lines, line_if, lines_of_events, one_line, pairs_ended, pairs_last_lines, pairs_reporting, pairs_stop, tick_lines, with_tick}
-pub use Rattle.duo_run.specs.PairsStanding.{AllStandOver, CanStep, NotesOthers, PairsStand, StandsOver, StepsAt, TellsNext, Ticks, ToldNext}
-pub use Rattle.duo_run.specs.Replay.{AreEntries, AreSetTo, RanPair, ReplayReports, RunsFairly, ServesIfHonest, ended_at, entry_line, entry_lines, last_lines, line_of, replay_reporting, run_stop}
+pub use Rattle.duo_run.specs.PairsReport.{ArePairs, IsPairOf, PairsInput, PairsReports, PairsRunFairly, RanPairs, closing_line, closing_lines, each_line, event_lines, line_if, lines_of_events, one_line, pairs_ended, pairs_last_lines, pairs_reporting, pairs_stop, tick_lines, with_tick}
+pub use Rattle.duo_run.specs.PairsStanding.{AllStandOver, CanStep, NotesOthers, PairsStand, StandsOver, TellsNext, Ticks, ToldNext}
+pub use Rattle.duo_run.specs.Replay.{AreEntries, AreSetTo, RanPair, ReplayReports, RunsFairly, ServesIfHonest, ended_at, entry_line, entry_lines, last_lines, replay_reporting, run_stop, told_line}
 pub use Rattle.duo_run.specs.Summary.{summary_of}
 pub use Rattle.duo_run.specs.declared.summary.Summary.{Summary}
-pub use Rattle.end_model.specs.Deed.{Deed, delivered, is_empty}
-pub use Rattle.end_model.specs.Runs.{IsProper, IsRun, entries}
+pub use Rattle.end_model.specs.Deed.{Deed, is_empty}
+pub use Rattle.end_model.specs.Runs.{IsProper, IsRun}
 pub use Rattle.end_model.specs.Setup.{OfMaster, OfSlave, Setup}
-pub use Rattle.end_model.specs.Step.{run, step}
+pub use Rattle.end_model.specs.Step.{step}
 pub use Rattle.exchange_model.proofs.Fairness.Headline.{fair_before, fair_world}
 pub use Rattle.exchange_model.proofs.Honest.ServingRuns.{honest_fair, honest_serves}
 pub use Rattle.exchange_model.proofs.Worlds.Longer.{world_missed, world_next, world_on}
 pub use Rattle.exchange_model.proofs.Worlds.Others.{before_is_clean, before_is_world, number_of_first}
-pub use Rattle.exchange_model.specs.Ends.{of_end, peer, same_end}
+pub use Rattle.exchange_model.specs.Ends.{peer}
 pub use Rattle.exchange_model.specs.Fair.{Fair, data_taken}
-pub use Rattle.exchange_model.specs.Honest.{IsHonest, Match, if_on, in_turn, is_plain, keeps_time}
+pub use Rattle.exchange_model.specs.Honest.{IsHonest, if_on, in_turn, is_plain, keeps_time}
 pub use Rattle.exchange_model.specs.Monitor.{NotesParts}
 pub use Rattle.exchange_model.specs.Other.{before_other, first_of_both, first_other}
-pub use Rattle.exchange_model.specs.Schedules.{IsNextEntry, IsProperEvent, IsWorld, moves}
-pub use Rattle.exchange_model.specs.Serving.{HasNoReset, Serves, TakesDelivery, state_told}
+pub use Rattle.exchange_model.specs.Schedules.{IsNextEntry, IsProperEvent, IsWorld}
+pub use Rattle.exchange_model.specs.Serving.{HasNoReset, Serves, TakesDelivery}
 pub use Rattle.exchange_model.specs.World.{SameLengths, altered_delivery, deed_in, deeds, delivery, end_of_event, entry_at, entry_on, frames_of, going_on, move_from, next_entry, setup_of, world, world_after}
 pub use Rattle.file_run.proofs.Lines.{by_line, lines_whole}
 pub use Rattle.file_run.proofs.Sending.{Sent, cut_part, grew_written, piece_part, rose_since, sent_flushed, sent_none, sent_piece, text_part}
@@ -57,7 +57,7 @@ pub use Rattle.schedule_file.proofs.Fitting.{events_fit, pair_event_fits}
 pub use Rattle.schedule_file.proofs.OneSetting.{one_master, one_slave}
 pub use Rattle.schedule_file.proofs.PairsFitting.{pairs_event_fits, pairs_events_fit}
 pub use Rattle.schedule_file.proofs.Sound.{IfOk-every, IfOk-map, Sound, after_sound, each, gives_master, gives_slave, known, master_settings, new_sound, slave_settings}
-pub use Rattle.schedule_file.specs.Event.{Fits, FitsMade, IsWritable, made_profiles, profile_of}
+pub use Rattle.schedule_file.specs.Event.{Fits, IsWritable, made_profiles, profile_of}
 pub use Rattle.schedule_file.specs.Field.{bytes_said, fields_of, is_number, number_said}
 pub use Rattle.schedule_file.specs.Fields.{by_word, one_field, value_or}
 pub use Rattle.schedule_file.specs.Header.{Heading, IsMasterOf, IsSlaveOf, fields_taken, heading_after, heading_is_whole, heading_new, heading_with, profile_given, profile_taken, rule_place, title_taken}
@@ -78,11 +78,11 @@ pub use Rattle.schedule_file.specs.declared.pairs_line.PairsEvent.{PairsEvent}
 pub use Rattle.slave_core.specs.Standing.{SlaveIsAfter}
 pub use Rattle.std.proofs.lemmas.Bool.{and_parts, eqb-false, eqb-true, leb-true, ltb-true}
 pub use Rattle.std.proofs.lemmas.Grind.{common_steps}
-pub use Rattle.std.proofs.lemmas.List.{append-nil, length-append, length-map, length-set, length_push, map-append}
+pub use Rattle.std.proofs.lemmas.List.{append-nil, length-append, length-map, length-set, length-take-le, length_push, map-append, take_all, take_at}
 pub use Rattle.std.proofs.lemmas.List.Elements.{All-append, All-cons, All-head, All-nil, All-push, All-tail}
-pub use Rattle.std.proofs.lemmas.Option.{IfSome_then, slice_get-get_or, slice_get_read}
-pub use Rattle.std.proofs.lemmas.Result.{IfOk-at_ok, on_err_weaker}
-pub use Rattle.std.proofs.lemmas.Slice.Zip.{AllZip-long, all_zipped_more}
+pub use Rattle.std.proofs.lemmas.Option.{IfSome_then, MatchOption-at_some, same_Some, slice_get-get_or, slice_get_read, slice_get_within}
+pub use Rattle.std.proofs.lemmas.Result.{IfOk-at_ok}
+pub use Rattle.std.proofs.lemmas.Slice.Zip.{AllZip-left, AllZip-long, AllZip-right, all_zipped_more}
 pub use Rattle.std.specs.Io.KnownBytes.{Consumes, prepend_known}
 pub use Rattle.std.specs.List.{AllZip, flat_map, join_with_byte, list_all, slice_split}
 pub use Rattle.std.specs.Prelude.{Err, IfOk, IfSome, IsOk, IsSomeAnd, MatchResult, None, Ok, OnErr, OnOk, Result, Some, codes, decimal, is_some, nat_le, nat_lt, slice_get, slice_index}

@@ -6,7 +6,6 @@ pub mod Noted
 pub mod Running
 pub mod Stepping
 pub mod Fit
-pub mod Closing
 pub mod Fair
 pub mod OneReplay
 pub mod EitherVersion

@@ -34,10 +34,14 @@ abbrev pub line_if : ℕ → ℕ → Option Entry → List ℕ
 line_if n k None = []
 line_if n k (Some x) = pair_line n k x
 
+-- the lines of these one after another, of which the first has the number k
+abbrev pub each_line : {X : Type 0} → (ℕ → X → List ℕ) → ℕ → List X → List ℕ
+each_line line k [] = []
+each_line line k (x ∷ xs) = line k x ++ each_line line (suc k) xs
+
 -- the lines of a tick at one end of each pair, of which the first has the number k, after what happened to each
 abbrev pub tick_lines : ℕ → (ℕ → List Event) → End → ℕ → List Pair → List ℕ
-tick_lines n own at k [] = []
-tick_lines n own at k (p ∷ pairs) = line_if n k (entry_after p (own k) (event.Tick at)) ++ tick_lines n own at (suc k) pairs
+tick_lines n own at k pairs = each_line (λ k p. line_if n k (entry_after p (own k) (event.Tick at))) k pairs
 
 -- what happened to each pair once this end of it has ticked too
 abbrev pub with_tick : End → (ℕ → List Event) → ℕ → List Event
@@ -66,8 +70,7 @@ closing_line k other = codes "pair " ++ decimal k ++ codes " " ++ other_line oth
 
 -- those of pairs, of which the first has the number k
 abbrev pub closing_lines : ℕ → List (Option ℕ) → List ℕ
-closing_lines k [] = []
-closing_lines k (other ∷ others) = closing_line k other ++ closing_lines (suc k) others
+closing_lines k others = each_line closing_line k others
 
 -- the last lines of a run of these events, which stops so
 abbrev pub pairs_last_lines : List Pair → List PairsEvent → Stop → List ℕ

@@ -31,13 +31,9 @@ use Rattle.exchange_model.specs.World.{world}
 abbrev pub told_line : End → Did → State → List ℕ → List ℕ → List ℕ
 told_line at did state outputs sent = end_letter at ++ codes " " ++ entry_text did state outputs sent ++ codes "\n"
 
--- the line of an entry with these parts, with its number from 1
-abbrev pub line_of : ℕ → End → Did → State → List ℕ → List ℕ → List ℕ
-line_of n at did state outputs sent = decimal n ++ codes " " ++ told_line at did state outputs sent
-
--- the line of an entry
+-- the line of an entry, with its number from 1
 abbrev pub entry_line : ℕ → Entry → List ℕ
-entry_line n x = line_of n x.end x.did x.state x.outputs x.sent
+entry_line n x = decimal n ++ codes " " ++ told_line x.end x.did x.state x.outputs x.sent
 
 -- the lines of these entries, oldest first
 abbrev pub entry_lines : List Entry → List ℕ

@@ -1,5 +1,5 @@
 //! One step of either end.
-ghost use Rattle.std.specs.Prelude.{◌≡◌, ◌≤◌, false, length, option_copied};
+ghost use Rattle.std.specs.Prelude.{◌≡◌, false, option_copied};
 ghost use Rattle.end_model.specs.Setup.{OfMaster, OfSlave};
 ghost use Rattle.end_model.specs.Runs.{IsProper};
 ghost use Rattle.master_core.specs.Now.{is_due};
@@ -8,7 +8,7 @@ ghost use Rattle.slave_core.specs.Standing as slave_core;
 ghost use Rattle.duo_run.specs.Acts.{move_at, Hears};
 
 use black_channel::Window;
-use fsoe_base::{Did, FrameBuf, Image, MOST_DATA};
+use fsoe_base::{Did, FrameBuf};
 use master_core::Master;
 use param_load::Terms;
 use schedule_file::Event;
@@ -102,15 +102,6 @@ pub(crate) fn act_slave(slave: &mut Slave, event: &Event, came: &[u8], answer: &
             answer.clear();
         }
     }
-}
-
-pub(crate) fn image_of(bytes: &[u8]) -> Image
-    requires { length bytes.now ≤ MOST_DATA }
-    ensures { result ≡ bytes.now }
-{
-    let mut image = Image::new();
-    image.set(bytes);
-    image
 }
 
 pub(crate) fn copied(terms: Option<&Terms>) -> Option<Terms>

@@ -78,19 +78,6 @@ fn push_summary(summary: &Summary, text: &mut LineText)
     push_states(master.state, slave.state, text);
 }
 
-/// Appends the first line, with the number and how many events were done.
-fn push_title(number: u64, events: u64, text: &mut LineText)
-    requires { length text.old ≤ 10 }
-    ensures text { text.new ≡ text.old ++ number_line number events }
-    ensures most { length text.new ≤ length text.old + 60 }
-{
-    text.push(b"bulk ");
-    text.push_decimal(number);
-    text.push(b" ");
-    text.push_decimal(events);
-    text.push(b"\n");
-}
-
 /// Writes the whole report over what `text` held.
 fn write_summary(
     number: u64,
@@ -102,7 +89,11 @@ fn write_summary(
     ensures { text.new ≡ number_line number events ++ summary_lines summary.now ++ other_line other }
 {
     text.clear();
-    push_title(number, events, text);
+    text.push(b"bulk ");
+    text.push_decimal(number);
+    text.push(b" ");
+    text.push_decimal(events);
+    text.push(b"\n");
     push_summary(summary, text);
     push_other(other, text);
 }

@@ -71,15 +71,6 @@ pub(crate) fn came<'a>(
     }
 }
 
-fn frame_of(bytes: &[u8]) -> FrameBuf
-    requires { length bytes.now ≤ MOST_FRAME }
-    ensures { result ≡ bytes.now }
-{
-    let mut frame = FrameBuf::new();
-    frame.set(bytes);
-    frame
-}
-
 /// What an event is to its end, at which these bytes come.
 fn move_at(event: &Event, came: &[u8]) -> Move
     requires { length came.now ≤ MOST_FRAME }
@@ -87,7 +78,9 @@ fn move_at(event: &Event, came: &[u8]) -> Move
 {
     match event {
         Event::Deliver { .. } | Event::Altered { .. } | Event::Raw { .. } => {
-            Move::Deliver(frame_of(came))
+            let mut frame = FrameBuf::new();
+            frame.set(came);
+            Move::Deliver(frame)
         }
         Event::Tick { .. } => Move::Tick,
         Event::Put { load, .. } => Move::Put(load.copy()),

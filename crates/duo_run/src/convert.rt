@@ -4,11 +4,10 @@ ghost use Rattle.std.specs.Prelude.{◌≡◌, ◌+◌, ◌-◌, ◌^◌, ◌≤
 ghost use Rattle.fsoe_io.specs.Line.{IsLine, most_held};
 ghost use Rattle.schedule_file.specs.declared.header_kind.HeaderKind.TheVariants as kind;
 ghost use Rattle.schedule_file.specs.declared.line_buf.TheConstants.{MAX_LINE};
-ghost use Rattle.schedule_file.specs.Header.{heading_after};
 ghost use Rattle.schedule_file.specs.Input.{AtEnd, said_after};
 ghost use Rattle.file_run.specs.Halt.{Blames, Goes, Stalls};
 ghost use Rattle.duo_run.specs.Convert.{RanConvert, event_text, last_text};
-ghost use Rattle.duo_run.specs.Converting.{FindsTaken, Takes, event_taken, header_piece, header_taken, later_taken, left_to_take, line_taken, read_none};
+ghost use Rattle.duo_run.specs.Converting.{FindsTaken, Takes, event_taken, header_piece, later_taken, left_to_take, line_taken, read_none};
 ghost use Rattle.file_run.specs.Outside.{told};
 
 use file_run::{Halt, Refusal, close, halt_run, next_line, send_before_read, write_failed};
@@ -92,26 +91,12 @@ impl PairReading {
         if self.header.is_done() {
             self.take_later(line, text)
         } else {
-            self.take_header(number, line, text)
+            if let Err(cause) = self.header.line(line) {
+                return Err(Refusal::Line(cause));
+            }
+            write_header_line(number, line, text);
+            Ok(false)
         }
-    }
-
-    /// Takes a line of the header.
-    fn take_header(
-        &mut self,
-        number: u64,
-        line: &[u8],
-        text: &mut LineText,
-    ) -> Result<bool, Refusal>
-        requires { length line.now ≤ MAX_LINE }
-        ensures takes { Takes result self.new text.new (header_taken number self.old line.now (heading_after self.old.heading line.now)) }
-        ensures fewer { IfOk result (λ ends. left_to_take self.new < left_to_take self.old) }
-    {
-        if let Err(cause) = self.header.line(line) {
-            return Err(Refusal::Line(cause));
-        }
-        write_header_line(number, line, text);
-        Ok(false)
     }
 
     /// Takes a line after the header.

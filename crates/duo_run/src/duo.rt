@@ -1,12 +1,12 @@
 //! Both ends of a connection over a schedule.
-ghost use Rattle.std.specs.Prelude.{◌≡◌, ◌≤◌, ◌<◌, ◌+◌, ◌^◌, List, [], None, length, option_copied, IfOk, OnErr, OnOk};
+ghost use Rattle.std.specs.Prelude.{◌≡◌, ◌≤◌, ◌<◌, ◌+◌, ◌^◌, List, [], length, option_copied, IfOk, OnErr, OnOk};
 
-use crate::acting::{Answer, act_master, act_slave, copied, hear, image_of};
+use crate::acting::{Answer, act_master, act_slave, copied, hear};
 use crate::coming::{alter, came, end_of, moved};
 use crate::fault::StepFault;
 use black_channel::Window;
 use exchange_model::Monitor;
-use fsoe_base::{End, FrameBuf, MOST_DATA, State};
+use fsoe_base::{End, FrameBuf, Image, MOST_DATA, State};
 use master_core::Master;
 use param_load::{Entry, MasterSettings, SlaveSettings, Terms};
 use schedule_file::Event;
@@ -38,16 +38,14 @@ impl Model for Duo {
 
 impl Duo {
     ghost use Rattle.fsoe_base.specs.LengthsOf.{length_of};
-    ghost use Rattle.fsoe_base.specs.declared.command.End.TheVariants as end_name;
     ghost use Rattle.param_load.specs.declared.entry.Entry.{Entry};
     ghost use Rattle.param_load.specs.declared.master_settings.MasterSettings.{MasterSettings};
     ghost use Rattle.param_load.specs.declared.slave_settings.SlaveSettings.{SlaveSettings};
     ghost use Rattle.schedule_file.specs.Event.{Fits, profile_of};
     ghost use Rattle.exchange_model.specs.Ends.{peer};
-    ghost use Rattle.exchange_model.specs.World.{end_of_event, move_from, SameLengths};
+    ghost use Rattle.exchange_model.specs.World.{SameLengths};
     ghost use Rattle.exchange_model.specs.Other.{first_other};
     ghost use Rattle.duo_run.specs.Duo.{sent_by, lengths_of, profiles_of, steps_done, DuoStands, Steps, Advances, Misses, ShowsLast};
-    ghost use Rattle.duo_run.specs.Acts.{Happens};
 
     /// Creates two new ends with these settings, which have the same lengths.
     #[tactic(auto, using(crate::proofs::Pair::Began::stands_new, crate::proofs::Pair::Began::is_duo))]
@@ -70,7 +68,6 @@ impl Duo {
 
     /// Does one event, and returns the entry. `NoSuchFrame` if and only if it names a frame further back than the peer
     /// sent; then nothing changes. It must fit the lengths and the profiles, after fewer than 2^64 - 1 steps.
-    #[tactic(auto, using(crate::proofs::Pair::Stepped::steps_by, crate::proofs::Pair::Stepped::misses_by))]
     pub fn step(&mut self, event: &Event) -> Result<Entry, StepFault>
         requires fits { Fits (length_of (lengths_of self.old)) (profile_of (profiles_of self.old)) event.now }
         requires fewer { steps_done self.old + 1 < 2 ^ 64 }
@@ -85,19 +82,22 @@ impl Duo {
         let what = moved(event, self.heard(at))?;
         let mut answer = Answer::new();
         self.advance(event, &mut answer)?;
+        let mut outputs = Image::new();
+        outputs.set(self.outputs_of(at));
         Ok(Entry {
             end: at,
             what,
             did: answer.did,
             sent: answer.sent,
             state: self.state_of(at),
-            outputs: image_of(self.outputs_of(at)),
+            outputs,
             terms: copied(self.terms_of(at)),
         })
     }
 
     /// Does one event, as `step` does, and makes no entry. What the end did and the frame that it sent are written to
     /// `answer`; the rest of the entry is read from the end.
+    #[tactic(auto, using(crate::proofs::Pair::Moved::master_proper, crate::proofs::Pair::Moved::slave_proper, crate::proofs::Pair::Stepped::master_advances, crate::proofs::Pair::Stepped::slave_advances, crate::proofs::Pair::Stepped::misses_by))]
     pub(crate) fn advance(&mut self, event: &Event, answer: &mut Answer) -> Result<(), StepFault>
         requires fits { Fits (length_of (lengths_of self.old)) (profile_of (profiles_of self.old)) event.now }
         requires fewer { steps_done self.old + 1 < 2 ^ 64 }
@@ -109,51 +109,25 @@ impl Duo {
         ensures done { OnOk result (steps_done self.new ≡ steps_done self.old + 1) }
     {
         match end_of(event) {
-            End::Master => self.advance_master(event, answer),
-            End::Slave => self.advance_slave(event, answer),
+            End::Master => {
+                alter(event, &self.slave_sent, &mut self.altered);
+                let came = came(event, &self.slave_sent, &self.altered)?;
+                act_master(&mut self.master, event, came, answer);
+                self.monitor
+                    .note_parts(End::Master, came, &answer.did, &answer.sent);
+                hear(&mut self.master_sent, &answer.sent);
+                Ok(())
+            }
+            End::Slave => {
+                alter(event, &self.master_sent, &mut self.altered);
+                let came = came(event, &self.master_sent, &self.altered)?;
+                act_slave(&mut self.slave, event, came, answer);
+                self.monitor
+                    .note_parts(End::Slave, came, &answer.did, &answer.sent);
+                hear(&mut self.slave_sent, &answer.sent);
+                Ok(())
+            }
         }
-    }
-
-    #[tactic(auto, using(crate::proofs::Pair::Moved::master_proper, crate::proofs::Pair::Stepped::master_happens))]
-    fn advance_master(&mut self, event: &Event, answer: &mut Answer) -> Result<(), StepFault>
-        requires here { end_of_event event.now ≡ end_name.Master }
-        requires fits { Fits (length_of (lengths_of self.old)) (profile_of (profiles_of self.old)) event.now }
-        requires fewer { steps_done self.old + 1 < 2 ^ 64 }
-        ensures happens { OnOk result (Happens end_name.Master self.old event.now answer.new.did answer.new.sent self.new) }
-        ensures missed { OnErr result (move_from self.old.slave_sent.frames event.now ≡ None) }
-        ensures kept { OnErr result (self.new ≡ self.old) }
-        ensures lengths { lengths_of self.new ≡ lengths_of self.old }
-        ensures profiles { profiles_of self.new ≡ profiles_of self.old }
-        ensures done { OnOk result (steps_done self.new ≡ steps_done self.old + 1) }
-    {
-        alter(event, &self.slave_sent, &mut self.altered);
-        let came = came(event, &self.slave_sent, &self.altered)?;
-        act_master(&mut self.master, event, came, answer);
-        self.monitor
-            .note_parts(End::Master, came, &answer.did, &answer.sent);
-        hear(&mut self.master_sent, &answer.sent);
-        Ok(())
-    }
-
-    #[tactic(auto, using(crate::proofs::Pair::Moved::slave_proper, crate::proofs::Pair::Stepped::slave_happens))]
-    fn advance_slave(&mut self, event: &Event, answer: &mut Answer) -> Result<(), StepFault>
-        requires here { end_of_event event.now ≡ end_name.Slave }
-        requires fits { Fits (length_of (lengths_of self.old)) (profile_of (profiles_of self.old)) event.now }
-        requires fewer { steps_done self.old + 1 < 2 ^ 64 }
-        ensures happens { OnOk result (Happens end_name.Slave self.old event.now answer.new.did answer.new.sent self.new) }
-        ensures missed { OnErr result (move_from self.old.master_sent.frames event.now ≡ None) }
-        ensures kept { OnErr result (self.new ≡ self.old) }
-        ensures lengths { lengths_of self.new ≡ lengths_of self.old }
-        ensures profiles { profiles_of self.new ≡ profiles_of self.old }
-        ensures done { OnOk result (steps_done self.new ≡ steps_done self.old + 1) }
-    {
-        alter(event, &self.master_sent, &mut self.altered);
-        let came = came(event, &self.master_sent, &self.altered)?;
-        act_slave(&mut self.slave, event, came, answer);
-        self.monitor
-            .note_parts(End::Slave, came, &answer.did, &answer.sent);
-        hear(&mut self.slave_sent, &answer.sent);
-        Ok(())
     }
 
     /// The last frames of the peer of an end.
@@ -167,7 +141,7 @@ impl Duo {
     }
 
     /// The state of an end.
-    #[tactic(auto, using(crate::proofs::Pair::Told::master_state, crate::proofs::Pair::Told::slave_state))]
+    #[tactic(auto, using(crate::proofs::Pair::Told::master_shows, crate::proofs::Pair::Told::slave_shows, crate::proofs::Pair::Told::tells_state))]
     pub(crate) fn state_of(&self, at: End) -> State
         ensures { ShowsLast self.now at result (λ x. x.state) }
     {
@@ -178,7 +152,7 @@ impl Duo {
     }
 
     /// The outputs of an end.
-    #[tactic(auto, using(crate::proofs::Pair::Told::master_outputs, crate::proofs::Pair::Told::slave_outputs))]
+    #[tactic(auto, using(crate::proofs::Pair::Told::master_shows, crate::proofs::Pair::Told::slave_shows, crate::proofs::Pair::Told::tells_outputs))]
     pub(crate) fn outputs_of(&self, at: End) -> &[u8]
         ensures shown { ShowsLast self.now at result.now (λ x. x.outputs) }
         ensures most { length result.now ≤ MOST_DATA }
@@ -190,7 +164,7 @@ impl Duo {
     }
 
     /// The terms of an end, None in every state except Data.
-    #[tactic(auto, using(crate::proofs::Pair::Told::master_terms, crate::proofs::Pair::Told::slave_terms))]
+    #[tactic(auto, using(crate::proofs::Pair::Told::master_shows, crate::proofs::Pair::Told::slave_shows, crate::proofs::Pair::Told::tells_terms))]
     fn terms_of(&self, at: End) -> Option<&Terms>
         ensures { ShowsLast self.now at (option_copied result) (λ x. x.terms) }
     {

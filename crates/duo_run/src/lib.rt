@@ -24,7 +24,6 @@ mod duos;
 mod fault;
 pub mod laws;
 mod pair_run;
-mod pairs_event;
 mod pairs_run;
 mod replay;
 mod summary;

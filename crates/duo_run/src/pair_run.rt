@@ -1,13 +1,6 @@
 //! The run of both ends over a pair file.
-ghost use Rattle.std.specs.Prelude.{◌≡◌, ◌≤◌, ◌+◌, ℕ, ◌++◌, List, length, IfErr, OnErr, OnOk};
-ghost use Rattle.schedule_file.specs.Header.{Heading};
-ghost use Rattle.schedule_file.specs.Input.{schedule_format};
-ghost use Rattle.schedule_file.specs.declared.event.Event.{Event};
-ghost use Rattle.schedule_file.specs.declared.header_kind.HeaderKind.TheVariants as kind;
-ghost use Rattle.file_run.specs.Machine.{TakesEvent, MayCome, EndsStopped};
-ghost use Rattle.file_run.specs.Report.{events_line, other_line};
-ghost use Rattle.duo_run.specs.Replay.{line_of, told_line, replay_reporting, RanPair};
-ghost use Rattle.duo_run.specs.Duo.{ReplayStands};
+ghost use Rattle.std.specs.Prelude.{◌≡◌, ◌≤◌, ◌+◌, ◌++◌, length};
+ghost use Rattle.duo_run.specs.Replay.{told_line, RanPair};
 ghost use Rattle.file_run.specs.Outside.{told};
 
 use crate::acting::Answer;
@@ -33,62 +26,12 @@ pub(crate) fn push_told(at: End, state: State, outputs: &[u8], answer: &Answer, 
     text.push(b"\n");
 }
 
-/// Writes the line of the entry of this number, from 1, of an end with this state and these outputs.
-fn write_entry(
-    number: u64,
-    at: End,
-    state: State,
-    outputs: &[u8],
-    answer: &Answer,
-    text: &mut LineText,
-)
-    requires { length outputs.now ≤ MOST_DATA }
-    ensures { text.new ≡ line_of number at answer.now.did state outputs.now answer.now.sent }
-{
-    text.clear();
-    text.push_decimal(number);
-    text.push(b" ");
-    push_told(at, state, outputs, answer, text);
-}
-
-/// Writes the last lines of a run of `events` entries, with the number of the first `other` entry.
-fn write_closing(events: u64, other: Option<u64>, text: &mut LineText)
-    ensures { text.new ≡ events_line events ++ other_line other }
-{
-    write_events(events, text);
-    push_other(other, text);
-}
-
 /// Both ends over the lines of a source.
 #[derive(Drop)]
 pub(crate) struct PairRun {
     duo: Duo,
     /// What an end did last.
     answer: Answer,
-}
-
-/// Does an event, and writes the line of its entry, which has this number, from 1.
-fn write_event(
-    duo: &mut Duo,
-    answer: &mut Answer,
-    event: &Event,
-    number: u64,
-    text: &mut LineText,
-) -> Result<(), Stopped>
-    requires { MayCome (ReplayStands duo.old) (schedule_format kind.Pair) event.now number }
-    ensures takes_event { OnOk result (TakesEvent (ReplayStands duo.old) (ReplayStands duo.new) event.now number text.new) }
-    ensures stopped { IfErr result (λ why. (h : Heading) (log : List Event) (text : List ℕ) → ReplayStands duo.old h log text → EndsStopped replay_reporting h log text event.now why) }
-    ensures kept { OnErr result (duo.new ≡ duo.old) }
-{
-    match duo.advance(event, answer) {
-        Ok(()) => {
-            let at = end_of(event);
-            let outputs = duo.outputs_of(at);
-            write_entry(number, at, duo.state_of(at), outputs, answer, text);
-            Ok(())
-        }
-        Err(StepFault::NoSuchFrame) => Err(Stopped::NoFrame),
-    }
 }
 
 impl Machine for PairRun {
@@ -135,12 +78,24 @@ impl Machine for PairRun {
         number: u64,
         text: &mut LineText,
     ) -> Result<(), Stopped> {
-        write_event(&mut self.duo, &mut self.answer, event, number, text)
+        match self.duo.advance(event, &mut self.answer) {
+            Ok(()) => {
+                let at = end_of(event);
+                let outputs = self.duo.outputs_of(at);
+                text.clear();
+                text.push_decimal(number);
+                text.push(b" ");
+                push_told(at, self.duo.state_of(at), outputs, &self.answer, text);
+                Ok(())
+            }
+            Err(StepFault::NoSuchFrame) => Err(Stopped::NoFrame),
+        }
     }
 
     fn close(&mut self, _: &(), events: u64, text: &mut LineText) -> Ended {
         let other = self.duo.other();
-        write_closing(events, other, text);
+        write_events(events, text);
+        push_other(other, text);
         ended_with(other)
     }
 

@@ -1,5 +1,5 @@
 //! The run of several pairs with common ticks over their file.
-ghost use Rattle.std.specs.Prelude.{◌≡◌, ◌≤◌, [], IfOk, length, replicate, vec_len, None};
+ghost use Rattle.std.specs.Prelude.{◌≡◌, ◌≤◌, [], IfOk, length, vec_len};
 ghost use Rattle.std.specs.List.{AllZip};
 ghost use Rattle.schedule_file.specs.PairsHeader.{pairs_of};
 ghost use Rattle.schedule_file.specs.declared.pairs_header.TheConstants.{MOST_PAIRS};
@@ -7,8 +7,9 @@ ghost use Rattle.duo_run.specs.Pairs.{least, less_of};
 ghost use Rattle.duo_run.specs.PairsReport.{closing_lines};
 ghost use Rattle.duo_run.specs.Replay.{AreSetTo};
 
+use crate::duo::Duo;
 use crate::duos::Duos;
-use crate::telling::Telling;
+use crate::telling::{Telling, step_pair, tick_pairs};
 use file_run::{Format, Machine, Stopped, Untaken, ended_with, push_other, write_events};
 use fsoe_base::Memory;
 use fsoe_io::{Ended, LineText};
@@ -94,16 +95,6 @@ fn settings_of(
     Ok(settings)
 }
 
-/// The list for `count` pairs without an `other` entry.
-fn no_others(count: usize, alloc: Global) -> Result<Vec<Option<u64>>, Memory>
-    ensures { IfOk result (λ others. others.items ≡ replicate count None) }
-{
-    match vec![in alloc; None; count] {
-        Ok(others) => Ok(others),
-        Err(_) => Err(Memory),
-    }
-}
-
 /// The less of two numbers, where there are any.
 fn less_of(a: Option<u64>, b: Option<u64>) -> Option<u64>
     ensures { result ≡ less_of a b }
@@ -146,7 +137,7 @@ fn push_closing(others: &[Option<u64>], telling: &mut Telling)
 /// Several pairs over the lines of a source. All memory is allocated before the first event.
 #[derive(Drop)]
 pub(crate) struct PairsRun {
-    duos: Duos,
+    duos: Vec<Duo>,
     /// The number of the event with the first `other` entry of each pair.
     others: Vec<Option<u64>>,
     /// How many entries were made.
@@ -168,7 +159,7 @@ impl Machine for PairsRun {
 
     ghost reporting = { λ alloc. pairs_reporting };
 
-    ghost stands = { λ first run now. PairsStand run.duos run.others.items run.entries };
+    ghost stands = { λ first run now. PairsStand run.duos.items run.others.items run.entries };
 
     ghost waits = { λ run now. waits run.telling.waiting };
 
@@ -184,9 +175,13 @@ impl Machine for PairsRun {
 
     fn begin(header: &PairsHeader, alloc: &mut Global) -> Result<PairsRun, Memory> {
         let settings = settings_of(header, *alloc)?;
+        let Ok(others) = vec![in *alloc; None; settings.len()] else {
+            return Err(Memory);
+        };
+        let made = Duos::new(settings)?;
         Ok(PairsRun {
-            others: no_others(settings.len(), *alloc)?,
-            duos: Duos::new(settings)?,
+            duos: made.pairs,
+            others,
             entries: 0,
             telling: Telling::new(*alloc)?,
         })
@@ -208,13 +203,18 @@ impl Machine for PairsRun {
         self.telling.waiting.clear();
         match event {
             PairsEvent::Tick => {
-                let others = self.others.as_mut_slice();
-                self.duos
-                    .tick_telling(others, &mut self.entries, number, &mut self.telling);
+                tick_pairs(
+                    self.duos.as_mut_slice(),
+                    self.others.as_mut_slice(),
+                    &mut self.entries,
+                    number,
+                    &mut self.telling,
+                );
                 self.telling.waiting.start();
                 Ok(())
             }
-            PairsEvent::One { pair, event } => self.duos.step_telling(
+            PairsEvent::One { pair, event } => step_pair(
+                self.duos.as_mut_slice(),
                 self.others.as_mut_slice(),
                 &mut self.entries,
                 *pair,

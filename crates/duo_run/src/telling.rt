@@ -1,18 +1,24 @@
 //! What several pairs do at an event, with the lines of their entries.
-ghost use Rattle.std.specs.Prelude.{◌≡◌, ◌<◌, ◌≤◌, ◌+◌, ◌*◌, ◌^◌, [], OnErr, OnOk, is_some, length};
+ghost use Rattle.std.specs.Prelude.{◌≡◌, ◌<◌, ◌≤◌, ◌+◌, ◌*◌, ◌^◌, ℕ, List, [], IfErr, OnErr, OnOk, is_some, length};
 ghost use Rattle.fsoe_base.specs.LengthsOf.{length_of};
 ghost use Rattle.schedule_file.specs.Event.{Fits, profile_of};
+ghost use Rattle.schedule_file.specs.PairsHeader.{PairsHeading};
+ghost use Rattle.schedule_file.specs.PairsInput.{pairs_format};
+ghost use Rattle.schedule_file.specs.declared.pairs_line.PairsEvent.{PairsEvent};
+ghost use Rattle.schedule_file.specs.declared.pairs_line.PairsEvent.TheVariants as common;
+ghost use Rattle.file_run.specs.Machine.{MayCome, TakesEvent, EndsStopped};
 ghost use Rattle.file_run.specs.declared.waiting.TheConstants.{MOST_TEXT};
 ghost use Rattle.exchange_model.specs.Other.{first_of_both};
 ghost use Rattle.duo_run.specs.Duo.{Misses, lengths_of, profiles_of, steps_done};
-ghost use Rattle.duo_run.specs.PairsStanding.{CanStep, NotesOthers, TellsNext, Ticks};
+ghost use Rattle.duo_run.specs.PairsReport.{pairs_reporting};
+ghost use Rattle.duo_run.specs.PairsStanding.{CanStep, NotesOthers, PairsStand, TellsNext, Ticks};
 
 use crate::acting::Answer;
 use crate::coming::end_of;
 use crate::duo::Duo;
 use crate::fault::StepFault;
 use crate::pair_run::push_told;
-use file_run::{MOST_TEXT, Waiting};
+use file_run::{MOST_TEXT, Stopped, Waiting};
 use fsoe_base::{End, Memory};
 use fsoe_io::LineText;
 use schedule_file::Event;
@@ -45,7 +51,7 @@ impl Telling {
 }
 
 /// Does an event at the pair of this number, and writes the line of its entry, at the event of all of this number.
-pub(crate) fn tell(
+fn tell(
     duo: &mut Duo,
     event: &Event,
     number: u64,
@@ -75,7 +81,7 @@ pub(crate) fn tell(
 }
 
 /// Ticks this end of each pair, in their order, and appends the lines to the pending text.
-pub(crate) fn tick_all(duos: &mut [Duo], at: End, number: u64, telling: &mut Telling)
+fn tick_all(duos: &mut [Duo], at: End, number: u64, telling: &mut Telling)
     requires stand { CanStep duos.old }
     requires few { length duos.old ≤ 16 }
     requires room { length telling.old.waiting.text + 1024 * length duos.old ≤ MOST_TEXT }
@@ -107,11 +113,58 @@ fn noted(before: Option<u64>, other: Option<u64>, number: u64) -> Option<u64>
 }
 
 /// Notes this event for each pair that has an `other` entry and had none before.
-pub(crate) fn note_others(duos: &[Duo], number: u64, others: &mut [Option<u64>])
+fn note_others(duos: &[Duo], number: u64, others: &mut [Option<u64>])
     requires { length others.old ≡ length duos.now }
     ensures { NotesOthers number duos.now others.old others.new }
 {
     for i in 0..duos.len() {
         others[i] = noted(others[i], duos[i].other(), number);
+    }
+}
+
+/// Ticks all slaves, in the order of pairs, and then all masters. Their lines are buffered.
+pub(crate) fn tick_pairs(
+    duos: &mut [Duo],
+    others: &mut [Option<u64>],
+    entries: &mut u64,
+    number: u64,
+    telling: &mut Telling,
+)
+    requires come { MayCome (PairsStand duos.old others.old entries.old) pairs_format common.Tick number }
+    requires empty { telling.old.waiting.text ≡ [] }
+    ensures { TakesEvent (PairsStand duos.old others.old entries.old) (PairsStand duos.new others.new entries.new) common.Tick number telling.new.waiting.text }
+{
+    tick_all(duos, End::Slave, number, telling);
+    tick_all(duos, End::Master, number, telling);
+    *entries += 2 * duos.len() as u64;
+    note_others(duos, number, others);
+}
+
+/// Does an event of the pair of this number, and writes its line.
+pub(crate) fn step_pair(
+    duos: &mut [Duo],
+    others: &mut [Option<u64>],
+    entries: &mut u64,
+    pair: u16,
+    event: &Event,
+    number: u64,
+    answer: &mut Answer,
+    text: &mut LineText,
+) -> Result<(), Stopped>
+    requires { MayCome (PairsStand duos.old others.old entries.old) pairs_format (common.One pair event.now) number }
+    ensures takes_event { OnOk result (TakesEvent (PairsStand duos.old others.old entries.old) (PairsStand duos.new others.new entries.new) (common.One pair event.now) number text.new) }
+    ensures stopped { IfErr result (λ why. (h : PairsHeading) (log : List PairsEvent) (text : List ℕ) → PairsStand duos.old others.old entries.old h log text → EndsStopped pairs_reporting h log text (common.One pair event.now) why) }
+    ensures duos { OnErr result (duos.new ≡ duos.old) }
+    ensures others { OnErr result (others.new ≡ others.old) }
+    ensures entries { OnErr result (entries.new ≡ entries.old) }
+{
+    let at = usize::from(pair) - 1;
+    match tell(&mut duos[at], event, number, pair, answer, text) {
+        Ok(()) => {
+            *entries += 1;
+            note_others(duos, number, others);
+            Ok(())
+        }
+        Err(StepFault::NoSuchFrame) => Err(Stopped::NoFrame),
     }
 }

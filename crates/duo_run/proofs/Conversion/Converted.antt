@@ -46,7 +46,7 @@ abbrev later_whole : ℕ → ℕ → Stop → List (List ℕ) → Whole
 later_whole n number stop lines = record { text = flat_map event_text (take n lines) ++ last_text stop; ended = ended_at_stop stop; line = number }
 
 -- the events that stand after others in lines, and how these stop the input
-abbrev events_in : Heading → List Event → Lines → List Event
+abbrev pub events_in : Heading → List Event → Lines → List Event
 events_in h log lines = with_room is_full log (steps event_of (map (said_after kind.Pair h) (texts lines)))
 
 abbrev reading : Heading → List Event → PairRead
@@ -129,12 +129,12 @@ no_part : (first : Bool) (lines : List (List ℕ)) (w : Whole) → w ≡ after_p
 no_part first lines w = grind arith
 
 -- how the lines of a header go on, where so many stand before them: it is done, or a line is refused
-abbrev Heads : ℕ → Lines → Whole → WholeHeader → Type 0
+abbrev pub Heads : ℕ → Lines → Whole → WholeHeader → Type 0
 Heads m lines whole headed =
     (j : ℕ) × (headed.lines ≡ m + j) × (heading_is_whole headed.heading ≡ true)
     × (whole ≡ after_part (pieces (m + 1 == 1) (take j (texts lines))) (told (headed.lines + 1) (reading headed.heading []) headed.rest))
 
-abbrev Halts : ℕ → Lines → Whole → Stop → Type 0
+abbrev pub Halts : ℕ → Lines → Whole → Stop → Type 0
 Halts m lines whole stop = (j : ℕ) × (why : InputCause) × (stop ≡ Refused (m + j + 1) why) × (whole ≡ after_part (pieces (m + 1 == 1) (take j (texts lines))) (refused_whole (m + j + 1) why))
 
 halts_here : (m : ℕ) (lines : Lines) (why : InputCause) → Halts m lines (refused_whole (m + 1) why) (Refused (m + 1) why)
@@ -149,12 +149,11 @@ piece_before : (m : ℕ) (line : List ℕ) (rest : Lines) (j : ℕ) (whole w : W
     → after_part (header_piece (m + 1) line) whole ≡ after_part (pieces (m + 1 == 1) (line ∷ take j (texts rest))) w
 piece_before m line rest j whole w h = search (rules, two_parts)
 
-heads_later : (m : ℕ) (line : List ℕ) (rest : Lines) (whole : Whole) (headed : WholeHeader) → Heads (m + 1) rest whole headed → Heads m (Ok line ∷ rest) (after_part (header_piece (m + 1) line) whole) headed
-heads_later m line rest whole headed h =
+goes_later : (m : ℕ) (line : List ℕ) (rest : Lines) (whole : Whole) (r : Result WholeHeader Stop) → MatchResult r (Heads (m + 1) rest whole) (Halts (m + 1) rest whole)
+    → MatchResult r (Heads m (Ok line ∷ rest) (after_part (header_piece (m + 1) line) whole)) (Halts m (Ok line ∷ rest) (after_part (header_piece (m + 1) line) whole))
+goes_later m line rest whole (Ok headed) h =
     (suc h.0, h.1 ∙ omega arith, h.2, piece_before m line rest h.0 whole (told (headed.lines + 1) (reading headed.heading []) headed.rest) h.3)
-
-halts_later : (m : ℕ) (line : List ℕ) (rest : Lines) (whole : Whole) (stop : Stop) → Halts (m + 1) rest whole stop → Halts m (Ok line ∷ rest) (after_part (header_piece (m + 1) line) whole) stop
-halts_later m line rest whole stop h =
+goes_later m line rest whole (Err stop) h =
     let at : m + 1 + h.0 + 1 ≡ m + suc h.0 + 1 = omega arith in (
       suc h.0,
       h.1,
@@ -162,16 +161,11 @@ halts_later m line rest whole stop h =
       piece_before m line rest h.0 whole (refused_whole (m + 1 + h.0 + 1) h.1) h.3 ∙ ap (λ (n : ℕ). after_part (pieces (m + 1 == 1) (line ∷ take h.0 (texts rest))) (refused_whole n h.1)) at,
     )
 
-goes_later : (m : ℕ) (line : List ℕ) (rest : Lines) (whole : Whole) (r : Result WholeHeader Stop) → MatchResult r (Heads (m + 1) rest whole) (Halts (m + 1) rest whole)
-    → MatchResult r (Heads m (Ok line ∷ rest) (after_part (header_piece (m + 1) line) whole)) (Halts m (Ok line ∷ rest) (after_part (header_piece (m + 1) line) whole))
-goes_later m line rest whole (Ok headed) h = heads_later m line rest whole headed h
-goes_later m line rest whole (Err stop) h = halts_later m line rest whole stop h
-
 -- what is written of the lines of a header, which is done or goes no further
 abbrev of_heading : ℕ → PairRead → List ℕ → Lines → Result Heading LineCause → Whole
 of_heading m r line rest next = told_by (m + 1) (header_taken (m + 1) r line next) (λ next. told (m + 1 + 1) next rest)
 
-abbrev Goes : ℕ → Lines → Whole → Result WholeHeader Stop → Type 0
+abbrev pub Goes : ℕ → Lines → Whole → Result WholeHeader Stop → Type 0
 Goes m lines whole r = MatchResult r (Heads m lines whole) (Halts m lines whole)
 
 heading_told : (m : ℕ) (h : Heading) (line : List ℕ) (rest : Lines) → ((next : Heading) → heading_is_whole next ≡ false → Goes (m + 1) rest (told (m + 1 + 1) (reading next []) rest) (header_in (schedule_format kind.Pair) (m + 1 + 1) next rest))
@@ -187,7 +181,7 @@ heading_told m h line rest later (Ok next) =
     in
     by (heading_is_whole next) refl
 
-told_header : (m : ℕ) (h : Heading) (lines : Lines) → heading_is_whole h ≡ false → Goes m lines (told (m + 1) (reading h []) lines) (header_in (schedule_format kind.Pair) (m + 1) h lines)
+pub told_header : (m : ℕ) (h : Heading) (lines : Lines) → heading_is_whole h ≡ false → Goes m lines (told (m + 1) (reading h []) lines) (header_in (schedule_format kind.Pair) (m + 1) h lines)
 told_header m h [] open_yet = halts_here m [] NoLine
 told_header m h (Err why ∷ rest) open_yet = halts_here m (Err why ∷ rest) why
 told_header m h (Ok line ∷ rest) open_yet =

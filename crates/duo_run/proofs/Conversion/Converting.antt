@@ -1,5 +1,5 @@
 -- A run that converts a pair file: what was read of it and what was written.
-use Rattle.duo_run.proofs.Common.{AppendedPart, AtEnd, Consumes, ConvertWrite, ConvertedAs, ConvertsReadLines, CountsFaults, Ended, Err, FindsTaken, HasNoNewline, Heading, IfSome, IfSome_then, InputCause, IsLine, IsPrefix, NoLine, None, Ok, Option, Outside, PairRead, RanConvert, Refused, SaysTheSame, Sent, Some, Writes, Wrote, WroteAll, append-nil, by_line, common_steps, converted, cut_part, ended_at_stop, first_line, grew_written, halts_after, input_cause, input_of, left_to_take, length-append, length_of, line_of_end, line_taken, lines_of, lines_whole, most_held, pair_line, piece_part, prepend_known, profile_of, read_none, refused_at, refused_line, rose_since, said_after, sent_flushed, sent_none, sent_piece, taken_by, text_part, took_line, took_none}
+use Rattle.duo_run.proofs.Common.{AppendedPart, AtEnd, Consumes, ConvertWrite, ConvertedAs, ConvertsReadLines, CountsFaults, Ended, Err, FindsTaken, HasNoNewline, Heading, IfSome, IfSome_then, InputCause, IsLine, IsPrefix, NoLine, None, Ok, Option, Outside, PairRead, RanConvert, SaysTheSame, Sent, Some, Writes, Wrote, WroteAll, append-nil, by_line, common_steps, converted, cut_part, ended_at_stop, first_line, grew_written, halts_after, input_cause, input_of, left_to_take, length-append, length_of, line_of_end, line_taken, lines_of, lines_whole, most_held, pair_line, piece_part, prepend_known, profile_of, read_none, refused_at, refused_line, rose_since, said_after, sent_flushed, sent_none, sent_piece, taken_by, text_part, took_line, took_none}
 use Rattle.fsoe_base.specs.declared.lengths.Lengths.{Lengths}
 use Rattle.param_load.specs.declared.profile.Profiles.{Profiles}
 use Rattle.std.proofs.Common.{◌≡◌, ℕ, ◌+◌, ◌*◌, ◌≤◌, ◌<◌, Bool, true, false, List, [], ◌∷◌, ◌++◌, length, refl, ap, ◌∙◌, sym, subst, append_assoc, inl, inr, arith, rules}
@@ -40,13 +40,6 @@ pub record Converting (left0 left w0 w : Option (List ℕ)) (waiting : OutputVie
 none_taken : (left : Option (List ℕ)) (held : List ℕ) → held ≡ [] → Consumes left (prepend_known held left) []
 none_taken left held h = grind arith
 
-tells_start : (left : Option (List ℕ)) (held : List ℕ) (lines : ℕ) → held ≡ [] → lines ≡ 0 → Tells left (prepend_known held left) [] read_none (lines + 1)
-tells_start left held lines e z = record {
-  taken = [];
-  goes = none_taken left held e;
-  says = λ more. sym (told_whole more) ∙ ap (λ (n : ℕ). told (n + 1) read_none (lines_of more)) (sym z);
-}
-
 pub converting_start : (left w : Option (List ℕ)) (held : List ℕ) (waiting : OutputView) (r : PairRead) (lines : ℕ) → held ≡ [] → lines ≡ 0 → waiting.bytes ≡ [] → waiting.sent ≡ 0 → r ≡ read_none
     → Converting left (prepend_known held left) w w waiting r lines
 converting_start left w held waiting r lines e z none sent is =
@@ -56,7 +49,11 @@ converting_start left w held waiting r lines e z none sent is =
       text = [];
       sent = sent_none w waiting none sent;
       took = subst (λ (n : ℕ). TookLines n left (prepend_known held left)) (sym z) (subst (TookLines 0 left) (sym (nothing_held held left e)) (took_none left));
-      tells = subst (λ (r : PairRead). Tells left (prepend_known held left) [] r (lines + 1)) (sym is) (tells_start left held lines e z);
+      tells = record {
+        taken = [];
+        goes = none_taken left held e;
+        says = λ more. sym (told_whole more) ∙ ap (λ (n : ℕ). told (n + 1) read_none (lines_of more)) (sym z) ∙ ap (λ (r : PairRead). told (lines + 1) r (lines_of more)) (sym is);
+      };
       size = omega (arith, left_first, waits, sent);
       lined = omega (arith, left_first, z);
     }
@@ -102,9 +99,6 @@ converting_line left0 b c w0 w1 w2 waiting now r next lines after text k finds s
 -- a text is a first part of what the input is converted to
 abbrev Begins : Option (List ℕ) → List ℕ → Type 0
 Begins told text = IfSome told (λ input. IsPrefix text (converted input))
-
-tells_at : (xs ys text : List ℕ) (r : PairRead) (number : ℕ) → Tells (Some xs) (Some ys) text r number → converted_whole xs ≡ after_part text (told number r (lines_of ys))
-tells_at xs ys text r number k = ap converted_whole k.goes ∙ k.says ys
 
 begins : (left0 left : Option (List ℕ)) (text : List ℕ) (r : PairRead) (number : ℕ) → Tells left0 left text r number → Begins left0 text
 begins left0 left text r number h = grind arith
@@ -172,7 +166,7 @@ all_ended None b c before text line r next number tells is goes taken = tt
 all_ended (Some xs) None c before text line r next number tells is goes taken = absurd tells.goes
 all_ended (Some xs) (Some ys) None before text line r next number tells is goes taken = absurd goes
 all_ended (Some xs) (Some ys) (Some zs) before text line r next number tells is goes taken =
-    tells_at xs ys before r number tells ∙ ap (after_part before) (told_next number r next line text ys zs true is goes taken)
+    ap converted_whole tells.goes ∙ tells.says ys ∙ ap (after_part before) (told_next number r next line text ys zs true is goes taken)
 
 pub ends_at_end : (o : Outside) (b w1 : Option (List ℕ)) (held : List ℕ) (faults : ℕ) (waiting : OutputView) (r next : PairRead) (lines : ℕ) (text : List ℕ) (result : Ended) → Converting o.source.before b o.sink.before w1 waiting r lines → FindsTaken (lines + 1) r (Ok true) next text b (prepend_known held o.source.after) → length held ≤ most_held
     → Writes waiting.sent (waiting.bytes ++ text) (ended_at_stop AtEnd) result (record { before = w1; after = o.sink.after; faults_before = faults; faults_after = o.sink.faults_after }) → faults ≡ o.sink.faults_before → ConvertedAs result.status result o
@@ -198,9 +192,6 @@ all_refused : (left0 b : Option (List ℕ)) (before : List ℕ) (r : PairRead) (
 all_refused left0 b before r number why h k = grind arith
 
 -- a read failed: the lines that were taken are converted so
-still_taken : (left0 left new : Option (List ℕ)) (taken : List ℕ) → Consumes left0 left taken → Consumes left new [] → Consumes left0 new taken
-still_taken left0 left new taken goes same = subst (Consumes left0 new) (append-nil taken) (consumes_then left0 left new taken [] goes same)
-
 read_told : (told left : Option (List ℕ)) (after : Option (List ℕ)) (held text : List ℕ) (r : PairRead) (lines count : ℕ) → Tells told left text r (lines + 1) → count ≡ lines → Consumes left (prepend_known held after) [] → HasNoNewline held
     → IfSome told (λ input. ConvertsReadLines count input after text)
 read_told None left after held text r lines count k same goes none = tt
@@ -211,7 +202,7 @@ read_told (Some xs) left after held text r lines count k same goes none =
     record {
       taken = k.taken;
       held = held;
-      goes = still_taken (Some xs) left (prepend_known held after) k.taken k.goes goes;
+      goes = subst (Consumes (Some xs) (prepend_known held after)) (append-nil k.taken) (consumes_then (Some xs) left (prepend_known held after) k.taken [] k.goes goes);
       open_line = none;
       writes = ap (λ (w : Whole). w.text) whole;
       ends = ap (λ (w : Whole). w.ended) whole;

@@ -1,5 +1,5 @@
 -- What a pair file is converted to is read as a file of one pair, with the same header and the same events.
-use Rattle.duo_run.proofs.Common.{All-nil, AtEnd, Err, Event, HasNoNewline, Heading, IfOk, IfOk-at_ok, IfOk-every, IfOk-map, InputCause, IsLine, IsOnePair, IsSomeAnd, LineCause, Long, Ok, PairsEvent, PairsHeading, Result, ScheduleLine, Some, Stop, WholeHeader, WholeHeaderOf, admitted, bytes_eq, codes, common_steps, converted, converted_by, each, event_of, event_text, fields_of, fields_taken, flat_map, header_in, header_of, header_step, header_text, header_word_of, heading_after, heading_is_whole, heading_new, heading_with, input_after, input_by, input_of, input_read, is_full, is_newline, is_start, last_text, length_push, line_text, lines_in, lines_of, lines_whole, map-append, nat_le, only_pair, open_line, pair_begun, pairs_are_full, pairs_format, pairs_input, pairs_said_after, profile_given, profile_taken, rule_place, said_after, schedule_format, slice_get, slice_split, steps, stop_at, texts, title_taken, title_text, with_room}
+use Rattle.duo_run.proofs.Common.{All-nil, AtEnd, Err, Event, HasNoNewline, Heading, IfOk, IfOk-at_ok, IfOk-every, IfOk-map, InputCause, IsLine, IsOnePair, IsSomeAnd, LineCause, Long, Ok, PairsEvent, PairsHeading, Refused, Result, ScheduleLine, Some, Stop, WholeHeader, WholeHeaderOf, admitted, bytes_eq, codes, common_steps, converted, converted_by, each, event_of, event_text, fields_of, fields_taken, flat_map, header_in, header_of, header_step, header_text, header_word_of, heading_after, heading_is_whole, heading_new, heading_with, input_after, input_by, input_of, input_read, is_full, is_newline, is_start, last_text, length_push, line_text, lines_in, lines_of, lines_whole, map-append, nat_le, only_pair, open_line, pair_begun, pairs_are_full, pairs_format, pairs_input, pairs_said_after, profile_given, profile_taken, read_none, rule_place, said_after, schedule_format, slice_get, slice_split, steps, stop_at, texts, title_taken, title_text, with_room}
 use Rattle.schedule_file.specs.PairsInput.{entries_of}
 use Rattle.std.proofs.Common.{◌≡◌, ℕ, suc, ◌+◌, ◌<◌, ◌≤◌, Bool, true, false, List, [], ◌∷◌, ◌++◌, length, take, map, refl, ap, ◌∙◌, sym, subst, append_assoc, arith, rules}
 use Rattle.std.specs.Prelude.{if◌then◌else◌}
@@ -19,7 +19,7 @@ use Rattle.schedule_file.specs.declared.place.Place.{Place}
 use Rattle.schedule_file.proofs.FewEvents.{few_events}
 use Rattle.duo_run.proofs.Conversion.SameLines.{event_line_same, header_line_same, last_line_same}
 use Rattle.duo_run.proofs.Conversion.Short.{line_short}
-use Rattle.duo_run.proofs.Conversion.Converted.{Lines}
+use Rattle.duo_run.proofs.Conversion.Converted.{Goes, Halts, Lines, events_in, told, told_header}
 
 -- the lines of an input are lines
 abbrev HaveNoNewlines : List (List ℕ) → Type 0
@@ -70,9 +70,6 @@ SayEvents h (line ∷ lines) (event ∷ events) = IsLine line × (said_after kin
 SayEvents h _ _ = ⊥
 
 -- the events of an input are said by the lines after its header
-abbrev events_in : Heading → List Event → Lines → List Event
-events_in h log lines = with_room is_full log (steps event_of (map (said_after kind.Pair h) (texts lines)))
-
 say_line : (h : Heading) (log : List Event) (line : List ℕ) (rest : Lines) (r : Result ScheduleLine LineCause) → IsLine line → said_after kind.Pair h line ≡ r
     → ((event : Event) → SayEvents h (take (length (events_in h (log ++ event ∷ []) rest)) (texts rest)) (events_in h (log ++ event ∷ []) rest))
     → SayEvents h (take (length (with_room is_full log (steps event_of (r ∷ map (said_after kind.Pair h) (texts rest))))) (line ∷ texts rest)) (with_room is_full log (steps event_of (r ∷ map (said_after kind.Pair h) (texts rest))))
@@ -102,7 +99,7 @@ end_comes h (line ∷ lines) (event ∷ events) say = end_comes h lines events s
 end_comes h _ _ say = absurd say
 
 -- an event of the only pair
-abbrev of_one : Event → PairsEvent
+abbrev pub of_one : Event → PairsEvent
 of_one event = pairs_event.One 1 event
 
 one_entry : (pairs : ℕ) (log : List Event) → entries_of pairs (map of_one log) ≡ length log
@@ -168,35 +165,6 @@ record Follows (h : Heading) (m : ℕ) (lines : Lines) (headed : WholeHeader) : 
   reads : (n : ℕ) (tail : List ℕ)
       → (last : ℕ) × (pairs_header n (only_pair h) (lines_of (flat_map line_text (take (suc j) (texts lines)) ++ tail)) ≡ Ok (record { heading = only_pair headed.heading; lines = last; rest = lines_of tail }))
 
-follows_last : (h next : Heading) (m : ℕ) (line : List ℕ) (rest : Lines) → IsStarted h → heading_is_whole h ≡ false → heading_after h line ≡ Ok next → heading_is_whole next ≡ true → IsLine line → AreLines rest
-    → Follows h m (Ok line ∷ rest) (record { heading = next; lines = m; rest = rest })
-follows_last h next m line rest started more taken whole is are = record {
-  j = 0;
-  count = omega arith;
-  after = are;
-  reads = λ n tail. (
-    n,
-    ap (λ (t : List ℕ). pairs_header n (only_pair h) (lines_of t)) (append_assoc (line_text line) [] tail) ∙ line_follows h next line tail n started more taken is
-        ∙ ap (λ (b : Bool). if b then Ok (record { heading = only_pair next; lines = n; rest = lines_of tail }) else pairs_header (n + 1) (only_pair next) (lines_of tail)) whole,
-  );
-}
-
-follows_later : (h next : Heading) (m : ℕ) (line : List ℕ) (rest : Lines) (headed : WholeHeader) → IsStarted h → heading_is_whole h ≡ false → heading_after h line ≡ Ok next → heading_is_whole next ≡ false → IsLine line
-    → Follows next (m + 1) rest headed → Follows h m (Ok line ∷ rest) headed
-follows_later h next m line rest headed started more taken goes_on is f = record {
-  j = suc f.j;
-  count = f.count ∙ omega arith;
-  after = f.after;
-  reads = λ n tail.
-      let later : List ℕ = flat_map line_text (take (suc f.j) (texts rest)) in
-      let read = f.reads (n + 1) tail in (
-        read.0,
-        ap (λ (t : List ℕ). pairs_header n (only_pair h) (lines_of t)) (append_assoc (line_text line) later tail) ∙ line_follows h next line (later ++ tail) n started more taken is
-            ∙ ap (λ (b : Bool). if b then Ok (record { heading = only_pair next; lines = n; rest = lines_of (later ++ tail) }) else pairs_header (n + 1) (only_pair next) (lines_of (later ++ tail))) goes_on
-            ∙ read.1,
-      );
-}
-
 abbrev pair_header : ℕ → Heading → Lines → Result WholeHeader Stop
 pair_header m h lines = header_in (schedule_format kind.Pair) m h lines
 
@@ -206,8 +174,31 @@ follow_next : (h next : Heading) (m : ℕ) (line : List ℕ) (rest : Lines) (hea
 follow_next h next m line rest headed true started more taken whole is are later e =
     let here : WholeHeader = record { heading = next; lines = m; rest = rest } in
     let same : here ≡ headed = cc in
-    subst (Follows h m (Ok line ∷ rest)) same (follows_last h next m line rest started more taken whole is are)
-follow_next h next m line rest headed false started more taken goes_on is are later e = follows_later h next m line rest headed started more taken goes_on is (later goes_on e)
+    subst (Follows h m (Ok line ∷ rest)) same (record {
+      j = 0;
+      count = omega arith;
+      after = are;
+      reads = λ n tail. (
+        n,
+        ap (λ (t : List ℕ). pairs_header n (only_pair h) (lines_of t)) (append_assoc (line_text line) [] tail) ∙ line_follows h next line tail n started more taken is
+            ∙ ap (λ (b : Bool). if b then Ok (record { heading = only_pair next; lines = n; rest = lines_of tail }) else pairs_header (n + 1) (only_pair next) (lines_of tail)) whole,
+      );
+    })
+follow_next h next m line rest headed false started more taken goes_on is are later e =
+    let f : Follows next (m + 1) rest headed = later goes_on e in
+    record {
+      j = suc f.j;
+      count = f.count ∙ omega arith;
+      after = f.after;
+      reads = λ n tail.
+          let rest_text : List ℕ = flat_map line_text (take (suc f.j) (texts rest)) in
+          let read = f.reads (n + 1) tail in (
+            read.0,
+            ap (λ (t : List ℕ). pairs_header n (only_pair h) (lines_of t)) (append_assoc (line_text line) rest_text tail) ∙ line_follows h next line (rest_text ++ tail) n started more taken is
+                ∙ ap (λ (b : Bool). if b then Ok (record { heading = only_pair next; lines = n; rest = lines_of (rest_text ++ tail) }) else pairs_header (n + 1) (only_pair next) (lines_of (rest_text ++ tail))) goes_on
+                ∙ read.1,
+          );
+    }
 
 follow_line : (h : Heading) (m : ℕ) (line : List ℕ) (rest : Lines) (headed : WholeHeader) (r : Result Heading LineCause) → IsStarted h → heading_is_whole h ≡ false → heading_after h line ≡ r → IsLine line → AreLines rest
     → ((next : Heading) → IsStarted next → heading_is_whole next ≡ false → pair_header (m + 1) next rest ≡ Ok headed → Follows next (m + 1) rest headed)
@@ -272,23 +263,13 @@ by_lines : (lines : Lines) (headed : WholeHeader) → AreLines lines → pair_he
 by_lines (Ok title ∷ rest) headed are e stops few = by_title title rest headed (bytes_eq title (codes "fsoe 1 pair")) are.1 e stops few
 by_lines _ headed are e stops few = cc
 
--- a header that isn't done doesn't end an input
-whole_on : (number : ℕ) (rest : Lines) (h : Heading) (whole : Bool) → (pair_header (number + 1) h rest ≡ Err AtEnd → ⊥) → (if whole then Ok (record { heading = h; lines = number; rest = rest }) else pair_header (number + 1) h rest) ≡ Err AtEnd → ⊥
-whole_on number rest h whole k l = grind arith
-
-step_on : (number : ℕ) (rest : Lines) (step : Result Heading LineCause) → ((next : Heading) → pair_header (number + 1) next rest ≡ Err AtEnd → ⊥)
-    → header_step heading_is_whole number rest (λ next. pair_header (number + 1) next rest) step ≡ Err AtEnd → ⊥
-step_on number rest (Ok h) later e = whole_on number rest h (heading_is_whole h) (later h) e
-step_on number rest (Err cause) later e = cc
-
-not_at_end : (number : ℕ) (h : Heading) (lines : Lines) → pair_header number h lines ≡ Err AtEnd → ⊥
-not_at_end number h (Ok text ∷ rest) e = step_on number rest (heading_after h text) (λ next. not_at_end (number + 1) next rest) e
-not_at_end number h _ e = cc
-
 by_header : (lines : Lines) (r : Result WholeHeader Stop) → AreLines lines → pair_header 1 (heading_new kind.Pair) lines ≡ r → (input_by (schedule_format kind.Pair) r).stop ≡ AtEnd → length (input_by (schedule_format kind.Pair) r).events ≤ MAX_EVENTS
     → IsSomeAnd (input_by (schedule_format kind.Pair) r).heading (λ h. IsOnePair h (input_by (schedule_format kind.Pair) r).events (input_read pairs_format (converted_by r (texts lines))))
 by_header lines (Ok headed) are e stops few = by_lines lines headed are e stops few
-by_header lines (Err stop) are e stops few = absurd (not_at_end 1 (heading_new kind.Pair) lines (e ∙ ap Err stops))
+by_header lines (Err stop) are e stops few =
+    let halts : Halts 0 lines (told 1 read_none lines) stop = subst (Goes 0 lines (told 1 read_none lines)) e (told_header 0 (heading_new kind.Pair) lines refl) in
+    let both : AtEnd ≡ Refused (0 + halts.0 + 1) halts.1 = sym stops ∙ halts.2 in
+    cc
 
 pub converts : (bytes : List ℕ) → (input_of kind.Pair bytes).stop ≡ AtEnd → IsSomeAnd (input_of kind.Pair bytes).heading (λ h. IsOnePair h (input_of kind.Pair bytes).events (pairs_input (converted bytes)))
 converts bytes stops = by_header (lines_of bytes) (header_of kind.Pair bytes) (lines_are bytes) refl stops (few_events kind.Pair bytes)

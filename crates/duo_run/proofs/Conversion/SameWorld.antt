@@ -3,11 +3,7 @@ use Rattle.duo_run.proofs.Common.{AtEnd, Entry, Event, Heading, InputOf, IsOnePa
 use Rattle.std.proofs.Common.{◌≡◌, ℕ, List, [], ◌∷◌, ◌++◌, length, map, refl, arith, ap, sym, ◌∙◌, append_assoc}
 use Rattle.std.specs.Prelude.{if◌then◌else◌}
 use Rattle.schedule_file.specs.declared.header_kind.HeaderKind.TheVariants as kind
-use Rattle.schedule_file.specs.declared.pairs_line.PairsEvent.TheVariants as common
-use Rattle.duo_run.proofs.Conversion.OnePair.{converts}
-
-abbrev of_one : Event → PairsEvent
-of_one event = common.One 1 event
+use Rattle.duo_run.proofs.Conversion.OnePair.{converts, of_one}
 
 -- these events of the only pair are done, each of which has its entry; then those that come are done up to the first
 -- without one

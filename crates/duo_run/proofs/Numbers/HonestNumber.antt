@@ -60,8 +60,8 @@ honest : (n : ℕ) → IsHonest made_master made_slave (event.Tick end_name.Mast
 honest n = record { plain = plain end_name.Slave n; turns = turns end_name.Slave n; begun = refl; time = timely end_name.Slave n _ }
 
 -- before the first event nothing happened
-serves_none : Serves made_master [] []
-serves_none = record {
+serves : (n : ℕ) → Serves made_master (made 0 n) (entries_of 0 n)
+serves zero = record {
   whole = refl;
   no_other = refl;
   no_reset = All-nil HasNoReset;
@@ -69,13 +69,7 @@ serves_none = record {
   reaches_data = record { master = refl; slave = refl };
   takes_data = tt;
 }
-
-serves_some : (n : ℕ) → Serves made_master (made 0 (suc n)) (entries_of 0 (suc n))
-serves_some n = search (rules, honest_serves, events_of_zero, All-cons, proper, honest)
-
-serves : (n : ℕ) → Serves made_master (made 0 n) (entries_of 0 n)
-serves zero = serves_none
-serves (suc n) = serves_some n
+serves (suc n) = search (rules, honest_serves, events_of_zero, All-cons, proper, honest)
 
 -- number 0 serves
 pub zero_serves : (number events : ℕ) → number ≡ 0 → Serves made_master (made number events) (entries_of number events)

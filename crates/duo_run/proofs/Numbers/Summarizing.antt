@@ -1,6 +1,6 @@
 -- What holds of a pair after so many events of a number.
-use Rattle.duo_run.proofs.Common.{Advances, CountsEntry, Did, DuoStands, DuoView, End, Entry, Err, Event, Fits, FitsMade, IsOk, Misses, NextEntry, Ok, OnErr, Result, ShowsLast, State, Summary, end_of_event, entries_of, entry_at, event_at, length_of, lengths_of, made_lengths, made_master, made_profiles, made_slave, profile_of, profiles_of, steps_done, summary_of}
-use Rattle.std.proofs.Common.{◌≡◌, ℕ, suc, ◌+◌, List, ◌∷◌, Some, None, sym, ap, ◌∙◌, arith, rules}
+use Rattle.duo_run.proofs.Common.{Advances, CountsEntry, Did, DuoStands, DuoView, End, Entry, Err, Event, IsOk, Misses, NextEntry, Ok, OnErr, Result, ShowsLast, State, Summary, end_of_event, entries_of, entry_at, event_at, lengths_of, made_lengths, made_master, made_profiles, made_slave, profiles_of, steps_done, summary_of}
+use Rattle.std.proofs.Common.{◌≡◌, ℕ, suc, ◌+◌, List, ◌∷◌, Some, None, sym, ap, ◌∙◌, arith, rules, add-one}
 use Rattle.schedule_file.specs.Maker.{MakerView, IsMaker, Makes}
 use Rattle.duo_run.proofs.Numbers.WholeRuns.{Goes, entry_goes, entries_more, is_whole}
 
@@ -13,11 +13,6 @@ pub record AfterEvents (number count : ℕ) (maker : MakerView) (duo : DuoView) 
   pub steps : steps_done duo ≡ count
   pub tells : summary ≡ summary_of (entries_of number count)
 
--- the next event fits the pair
-pub next_fits : (number count : ℕ) (maker : MakerView) (duo : DuoView) (summary : Summary) (event : Event) → AfterEvents number count maker duo summary → FitsMade event
-    → Fits (length_of (lengths_of duo)) (profile_of (profiles_of duo)) event
-next_fits number count maker duo summary event h k = grind arith
-
 -- no event names a frame that wasn't sent
 pub never_misses : (number count : ℕ) (maker next : MakerView) (duo : DuoView) (summary : Summary) (event : Event)
     → AfterEvents number count maker duo summary → Makes maker event next → Misses duo event → ⊥
@@ -28,25 +23,19 @@ never_misses number count maker next duo summary event after made misses =
     let both : None ≡ Some goes.entry = sym none ∙ some in
     cc
 
-one_more : (number count : ℕ) (maker next : MakerView) (duo duo' : DuoView) (summary summary' : Summary) (event : Event) (at : End) (did : Did) (sent : List ℕ) (state : State)
+-- after one event more
+pub goes_on : (number count : ℕ) (maker next : MakerView) (duo duo' : DuoView) (summary summary' : Summary) (event : Event) (at : End) (did : Did) (sent : List ℕ) (state : State)
     → AfterEvents number count maker duo summary → Makes maker event next → Advances duo event did sent duo' → at ≡ end_of_event event → ShowsLast duo' at state (λ x. x.state)
     → lengths_of duo' ≡ lengths_of duo → profiles_of duo' ≡ profiles_of duo → steps_done duo' ≡ steps_done duo + 1 → CountsEntry summary at did state summary'
-    → AfterEvents number (suc count) next duo' summary'
-one_more number count maker next duo duo' summary summary' event at did sent state after made advances here states lengths profiles steps noted =
+    → AfterEvents number (count + 1) next duo' summary'
+goes_on number count maker next duo duo' summary summary' event at did sent state after made advances here states lengths profiles steps noted =
     let goes : NextEntry made_master made_slave (entries_of number count) event did sent duo' = advances.next made_master made_slave (entries_of number count) after.stands in
     let x : Entry = goes.entry in
     let end : x.end ≡ at = goes.end_is ∙ sym here in
     let is_next : entry_at made_master made_slave (entries_of number count) (event_at number (suc count)) ≡ Some x =
     ap (entry_at made_master made_slave (entries_of number count)) (sym (made.makes number count after.makes)) ∙ goes.next in
     let more : entries_of number (suc count) ≡ x ∷ entries_of number count = entries_more number count x (is_whole number count) is_next in
-    grind (arith, made_master, made_slave)
-
--- after one event more
-pub goes_on : (number count : ℕ) (maker next : MakerView) (duo duo' : DuoView) (summary summary' : Summary) (event : Event) (at : End) (did : Did) (sent : List ℕ) (state : State)
-    → AfterEvents number count maker duo summary → Makes maker event next → Advances duo event did sent duo' → at ≡ end_of_event event → ShowsLast duo' at state (λ x. x.state)
-    → lengths_of duo' ≡ lengths_of duo → profiles_of duo' ≡ profiles_of duo → steps_done duo' ≡ steps_done duo + 1 → CountsEntry summary at did state summary'
-    → AfterEvents number (count + 1) next duo' summary'
-goes_on number count maker next duo duo' summary summary' event at did sent state h k l m n o p q r = search (rules, one_more)
+    rw (add-one count) (grind (arith, made_master, made_slave))
 
 pub never_err : {X E : Type 0} (P : Type 0) (r : Result X E) → OnErr r P → (P → ⊥) → IsOk r
 never_err P (Ok x) h never = search rules

@@ -1,25 +1,16 @@
 -- No event of a number names a frame that wasn't sent, so each has its entry.
-use Rattle.duo_run.proofs.Common.{End, Entry, Event, Move, altered, altered_delivery, back_th, deeds, delivery, end_of_event, entries_of, entry_at, entry_on, event_at, event_by, frames_of, is_switch_on, load_of, made, made_master, made_slave, mask_of, move_from, next_entry, peer, place_of, setup_of, word_after, world_next}
+use Rattle.duo_run.proofs.Common.{End, Entry, Event, Move, altered, altered_delivery, deeds, delivery, end_of_event, entries_of, entry_at, entry_on, event_at, event_by, frames_of, is_switch_on, load_of, made, made_master, made_slave, mask_of, move_from, next_entry, peer, place_of, setup_of, word_after, world_next}
 use Rattle.std.proofs.Common.{◌≡◌, ℕ, zero, suc, ◌-◌, ◌≤◌, ◌/◌, ◌%◌, ◌^◌, List, [], ◌∷◌, length, Bool, if◌then◌else◌, Some, refl, sym, ap, ◌∙◌, length-append, arith, rules}
 use Rattle.fsoe_base.specs.declared.command.End.TheVariants as end_name
 use Rattle.fsoe_crc.specs.Remainder.{computing}
 use Rattle.param_load.specs.declared.entry.Move.TheVariants as move
 use Rattle.schedule_file.specs.declared.event.Event.TheVariants as event
+use Rattle.duo_run.proofs.Pairs.Ticking.{found_at}
 
 -- both ends sent two frames
 pub record SentTwo (w : List Entry) : Type 0 where
   pub master : 2 ≤ length (frames_of end_name.Master w)
   pub slave : 2 ≤ length (frames_of end_name.Slave w)
-
--- the last two frames are there
-last_two : (frames : List (List ℕ)) → 2 ≤ length frames → ((f : List ℕ) × (back_th 1 frames ≡ Some f)) × ((f : List ℕ) × (back_th 2 frames ≡ Some f))
-last_two (f ∷ g ∷ frames) two = ((f, refl), (g, refl))
-last_two _ two = absurd (omega (arith, two))
-
--- the last frame is there
-last_one : (frames : List (List ℕ)) → 1 ≤ length frames → (f : List ℕ) × (back_th 1 frames ≡ Some f)
-last_one [] one = absurd (omega (arith, one))
-last_one (f ∷ frames) one = (f, refl)
 
 -- an event has an entry
 pub record Goes (w : List Entry) (event : Event) : Type 0 where
@@ -34,7 +25,7 @@ goes_by w event what is = record {
 
 -- a frame that its peer sent comes to an end
 last_goes : (w : List Entry) (to : End) → 1 ≤ length (frames_of (peer to) w) → Goes w (event.Deliver to 1)
-last_goes w to one = let f = last_one _ one in goes_by w (event.Deliver to 1) (move.Deliver f.0) (ap delivery f.1)
+last_goes w to one = let f = found_at (frames_of (peer to) w) 0 (omega (arith, one)) in goes_by w (event.Deliver to 1) (move.Deliver f.0) (ap delivery f.1)
 
 sent_to : (w : List Entry) (to : End) → SentTwo w → 2 ≤ length (frames_of (peer to) w)
 sent_to w to h = grind arith
@@ -43,11 +34,11 @@ deliver_goes : (w : List Entry) (to : End) → SentTwo w → Goes w (event.Deliv
 deliver_goes w to two = last_goes w to (omega (arith, sent_to w to two))
 
 older_goes : (w : List Entry) (to : End) → SentTwo w → Goes w (event.Deliver to 2)
-older_goes w to two = let f = (last_two _ (sent_to w to two)).1 in goes_by w (event.Deliver to 2) (move.Deliver f.0) (ap delivery f.1)
+older_goes w to two = let f = found_at (frames_of (peer to) w) 1 (omega (arith, sent_to w to two)) in goes_by w (event.Deliver to 2) (move.Deliver f.0) (ap delivery f.1)
 
 altered_goes : (w : List Entry) (to : End) (pos mask : ℕ) → SentTwo w → Goes w (event.Altered to 1 pos mask)
 altered_goes w to pos mask two =
-    let f = (last_two _ (sent_to w to two)).0 in
+    let f = found_at (frames_of (peer to) w) 0 (omega (arith, sent_to w to two)) in
     goes_by w (event.Altered to 1 pos mask) (move.Deliver (altered pos mask f.0)) (ap (altered_delivery pos mask) f.1)
 
 choose : (w : List Entry) (test : Bool) (x y : Event) → Goes w x → Goes w y → Goes w (if test then x else y)

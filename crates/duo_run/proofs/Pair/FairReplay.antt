@@ -10,21 +10,14 @@ same_lengths h ms ss set = record { master = set.0.0 ∙ sym set.1.0; slave = se
 all_proper : (h : Heading) (ms : MasterSettings) (ss : SlaveSettings) (events : List Event) → AreSetTo h ms ss → All (Fits (own_length h) (heading_profile h)) events → All (IsProperEvent ms ss) events
 all_proper h ms ss events k l = grind arith
 
-runs_fairly : (bytes : List ℕ) → RunsFairly (input_of kind.Pair bytes)
-runs_fairly bytes =
+pub told_fairly : (told : Option (List ℕ)) → IfSome told (λ bytes. RunsFairly (input_of kind.Pair bytes))
+told_fairly None = tt
+told_fairly (Some bytes) =
     IfSome_then (input_of kind.Pair bytes).heading (events_fit bytes) (λ h fits ms ss set.
     fair_before ms ss (input_of kind.Pair bytes).events (same_lengths h ms ss set) (all_proper h ms ss (input_of kind.Pair bytes).events set fits))
 
-runs_serve : (bytes : List ℕ) → ServesIfHonest (input_of kind.Pair bytes)
-runs_serve bytes =
-    IfSome_then (input_of kind.Pair bytes).heading (events_fit bytes) (λ h fits ms ss set matching honest.
-    honest_serves ms ss (input_of kind.Pair bytes).events matching (all_proper h ms ss (input_of kind.Pair bytes).events set fits) honest)
-
--- so do the bytes that are told
-pub told_fairly : (told : Option (List ℕ)) → IfSome told (λ bytes. RunsFairly (input_of kind.Pair bytes))
-told_fairly None = tt
-told_fairly (Some bytes) = runs_fairly bytes
-
 pub told_serve : (told : Option (List ℕ)) → IfSome told (λ bytes. ServesIfHonest (input_of kind.Pair bytes))
 told_serve None = tt
-told_serve (Some bytes) = runs_serve bytes
+told_serve (Some bytes) =
+    IfSome_then (input_of kind.Pair bytes).heading (events_fit bytes) (λ h fits ms ss set matching honest.
+    honest_serves ms ss (input_of kind.Pair bytes).events matching (all_proper h ms ss (input_of kind.Pair bytes).events set fits) honest)

@@ -1,9 +1,9 @@
 -- An input has one report of both ends: its header says all that they are set to, and no more than they may be set to.
-use Rattle.duo_run.proofs.Common.{AreEntries, AreSetTo, Ended, Entry, Event, Heading, IfSome, Input, IsMasterOf, IsSlaveOf, MasterSettings, None, Option, ReplayReports, SlaveSettings, Some, ended_at, entry_lines, gives_master, gives_slave, input_of, last_lines, one_master, one_slave, run_stop, world}
-use Rattle.std.proofs.Common.{◌≡◌, ℕ, List, [], ◌++◌, refl, ap, ◌∙◌, sym, rules}
+use Rattle.duo_run.proofs.Common.{AreEntries, Ended, Entry, Event, Heading, IfSome, Input, IsMasterOf, IsSlaveOf, MasterSettings, None, Option, ReplayReports, SlaveSettings, Some, ended_at, entry_lines, gives_master, gives_slave, input_of, last_lines, one_master, one_slave, run_stop, world}
+use Rattle.std.proofs.Common.{◌≡◌, ℕ, List, [], ◌++◌, refl, ap, ◌∙◌, sym}
 use Rattle.schedule_file.specs.declared.header_kind.HeaderKind.TheVariants as kind
 
-one_entries : (heading : Option Heading) (events : List Event) (a b : List Entry) → AreEntries heading events a → AreEntries heading events b → a ≡ b
+pub one_entries : (heading : Option Heading) (events : List Event) (a b : List Entry) → AreEntries heading events a → AreEntries heading events b → a ≡ b
 one_entries None events a b x y = x ∙ sym y
 one_entries (Some h) events a b x y =
     x.3
@@ -11,25 +11,14 @@ one_entries (Some h) events a b x y =
     ∙ ap (λ (ss : SlaveSettings). world y.0 ss events) (one_slave h x.1 y.1 x.2.1 y.2.1)
     ∙ sym y.3
 
-pub one_text : (input : Input) (a b : Ended) (x y : List ℕ) → ReplayReports input a x → ReplayReports input b y → x ≡ y
-one_text input a b x y h k = search (rules, one_entries)
-
-pub one_ending : (input : Input) (a b : Ended) (x y : List ℕ) → ReplayReports input a x → ReplayReports input b y → a ≡ b
-one_ending input a b x y h k = search (rules, one_entries)
-
 -- a whole header gives the settings of both ends, and so the entries
-set_by : (heading : Option Heading) → IfSome heading (λ h. (ms : MasterSettings) × IsMasterOf h ms) → IfSome heading (λ h. (ss : SlaveSettings) × IsSlaveOf h ss)
-    → IfSome heading (λ h. (ms : MasterSettings) × (ss : SlaveSettings) × AreSetTo h ms ss)
-set_by None master slave = tt
-set_by (Some h) master slave = (master.0, slave.0, (master.1, slave.1))
-
-some_entries : (heading : Option Heading) (events : List Event) → IfSome heading (λ h. (ms : MasterSettings) × (ss : SlaveSettings) × AreSetTo h ms ss) → (w : List Entry) × AreEntries heading events w
-some_entries None events set = ([], refl)
-some_entries (Some h) events set = (world set.0 set.1 events, (set.0, set.1, set.2, refl))
+some_entries : (heading : Option Heading) (events : List Event) → IfSome heading (λ h. (ms : MasterSettings) × IsMasterOf h ms) → IfSome heading (λ h. (ss : SlaveSettings) × IsSlaveOf h ss) → (w : List Entry) × AreEntries heading events w
+some_entries None events master slave = ([], refl)
+some_entries (Some h) events master slave = (world master.0 slave.0 events, (master.0, slave.0, (master.1, slave.1), refl))
 
 pub some_replay : (bytes : List ℕ) → (report : List ℕ) × (ended : Ended) × ReplayReports (input_of kind.Pair bytes) ended report
 some_replay bytes =
     let input : Input = input_of kind.Pair bytes in
-    let run = some_entries input.heading input.events (set_by input.heading (gives_master kind.Pair bytes) (gives_slave kind.Pair bytes)) in
+    let run = some_entries input.heading input.events (gives_master kind.Pair bytes) (gives_slave kind.Pair bytes) in
     let w : List Entry = run.0 in
     (entry_lines w ++ last_lines w (run_stop input w), ended_at w (run_stop input w), (w, run.1, refl, refl))

@@ -1,65 +1,57 @@
 -- A pair does over its events what a world says, and reports it.
-use Rattle.duo_run.proofs.Common.{Advances, AtEnd, Did, DuoStands, DuoView, End, Ended, EndsReport, EndsUnmet, EndsWhole, Entry, Event, Fits, Heading, Input, MasterSettings, MayCome, Misses, NextEntry, NoFrame, None, Option, Profile, Refused, ReplayReports, ReplayStands, ReportsSoFar, ShowsLast, SlaveSettings, Some, State, Stop, TakesEvent, end_of_event, ended_at, ended_with, entry_at, entry_line, entry_lines, events_line, first_other, heading_profile, input_stopped, last_lines, length-append, length_of, length_push, lengths_of, line_of, number_of_first, other_line, own_length, pair_event_fits, profile_of, profiles_of, refused_line, replay_reporting, run_stop, schedule_format, world, world_missed, world_next}
+use Rattle.duo_run.proofs.Common.{Advances, AreSetTo, AtEnd, Did, DuoStands, DuoView, End, Ended, EndsReport, EndsUnmet, EndsWhole, Entry, Event, Fits, Heading, Input, MasterSettings, MayCome, Misses, NextEntry, NoFrame, None, Option, Profile, Refused, ReplayReports, ReplayStands, ReportsSoFar, ShowsLast, SlaveSettings, Some, State, Stop, TakesEvent, codes, decimal, end_of_event, ended_at, ended_with, entry_at, entry_line, entry_lines, events_line, first_other, heading_profile, input_stopped, last_lines, length-append, length_of, length_push, lengths_of, number_of_first, other_line, own_length, pair_event_fits, profile_of, profiles_of, refused_line, replay_reporting, run_stop, schedule_format, told_line, world, world_missed, world_next}
 use Rattle.std.proofs.Common.{◌≡◌, ℕ, ◌+◌, true, List, [], ◌∷◌, ◌++◌, length, refl, arith, ap, ◌∙◌, sym, subst, append_assoc, rules}
 use Rattle.schedule_file.specs.declared.header_kind.HeaderKind.TheVariants as kind
 use Rattle.duo_run.proofs.Pair.EntryLines.{lines_begin}
 
--- the lengths and the profiles of a pair are those of its header
-stood_lengths : (v : DuoView) (h : Heading) (log : List Event) (text : List ℕ) → ReplayStands v h log text → (end : End) → length_of (lengths_of v) end ≡ own_length h end
-stood_lengths v h log text k end = grind arith
+-- the lengths and the profiles of a pair are those of the header that it is set to
+set_lengths : (h : Heading) (ms : MasterSettings) (ss : SlaveSettings) (v : DuoView) (w : List Entry) → AreSetTo h ms ss → DuoStands ms ss v w → (end : End) → own_length h end ≡ length_of (lengths_of v) end
+set_lengths h ms ss v w set stands end = grind arith
 
-stood_profiles : (v : DuoView) (h : Heading) (log : List Event) (text : List ℕ) → ReplayStands v h log text → (end : End) → profile_of (profiles_of v) end ≡ heading_profile h end
-stood_profiles v h log text k end = grind arith
+set_profiles : (h : Heading) (ms : MasterSettings) (ss : SlaveSettings) (v : DuoView) (w : List Entry) → AreSetTo h ms ss → DuoStands ms ss v w → (end : End) → heading_profile h end ≡ profile_of (profiles_of v) end
+set_profiles h ms ss v w set stands end = grind arith
+
+-- so what fits the header fits the pair
+pub fits_set : (h : Heading) (ms : MasterSettings) (ss : SlaveSettings) (v : DuoView) (w : List Entry) (event : Event) → AreSetTo h ms ss → DuoStands ms ss v w → Fits (own_length h) (heading_profile h) event
+    → Fits (length_of (lengths_of v)) (profile_of (profiles_of v)) event
+fits_set h ms ss v w event set stands fits =
+    subst (λ (p : End → Profile). Fits (length_of (lengths_of v)) p event) (λ i. λ end. set_profiles h ms ss v w set stands end i)
+    (subst (λ (f : End → ℕ). Fits f (heading_profile h) event) (λ i. λ end. set_lengths h ms ss v w set stands end i) fits)
 
 -- an event that may come fits the pair
-pub same_word : {X : Type 0} (f g : End → X) → ((end : End) → f end ≡ g end) → f ≡ g
-same_word f g same = λ i. λ end. same end i
-
-pub fits_ends : (f g : End → ℕ) (p q : End → Profile) (event : Event) → f ≡ g → p ≡ q → Fits f p event → Fits g q event
-fits_ends f g p q event e d fits = subst (λ (q : End → Profile). Fits g q event) d (subst (λ (g : End → ℕ). Fits g p event) e fits)
-
 pub pair_fits : (v : DuoView) (event : Event) (number : ℕ) → MayCome (ReplayStands v) (schedule_format kind.Pair) event number → Fits (length_of (lengths_of v)) (profile_of (profiles_of v)) event
 pair_fits v event number may =
-    let h : Heading = may.heading in
-    fits_ends (own_length h) (length_of (lengths_of v)) (heading_profile h) (profile_of (profiles_of v)) event
-    (same_word (own_length h) (length_of (lengths_of v)) (λ end. sym (stood_lengths v h may.log may.text may.stands end)))
-    (same_word (heading_profile h) (profile_of (profiles_of v)) (λ end. sym (stood_profiles v h may.log may.text may.stands end)))
-    (pair_event_fits h may.said.0 may.said.1 event may.said.2 may.said.3)
+    let k = may.stands in
+    fits_set may.heading k.ms k.ss v k.entries event k.set k.stands (pair_event_fits may.heading may.said.0 may.said.1 event may.said.2 may.said.3)
 
 told_whole : (v : DuoView) (h : Heading) (log : List Event) (text : List ℕ) (k : ReplayStands v h log text) → length (world k.ms k.ss log) ≡ length log
 told_whole v h log text k = ap (length {A = Entry}) (sym k.is_world) ∙ k.whole
 
 -- the next entry has the line of the parts that were told
 line-is : (v : DuoView) (number : ℕ) (at : End) (did : Did) (state : State) (outputs sent : List ℕ) (ms : MasterSettings) (ss : SlaveSettings) (x : Entry) (w : List Entry) → ShowsLast v at state (λ x. x.state) → ShowsLast v at outputs (λ x. x.outputs)
-    → DuoStands ms ss v (x ∷ w) → x.end ≡ at → x.did ≡ did → x.sent ≡ sent → line_of number at did state outputs sent ≡ entry_line number x
+    → DuoStands ms ss v (x ∷ w) → x.end ≡ at → x.did ≡ did → x.sent ≡ sent → decimal number ++ codes " " ++ told_line at did state outputs sent ≡ entry_line number x
 line-is v number at did state outputs sent ms ss x w h k l m n o = grind arith
 
 -- a step goes on with its entry
-pair_goes : (old new : DuoView) (event : Event) (number : ℕ) (at : End) (did : Did) (state : State) (outputs sent piece : List ℕ) → Advances old event did sent new → at ≡ end_of_event event
-    → ShowsLast new at state (λ x. x.state) → ShowsLast new at outputs (λ x. x.outputs) → piece ≡ line_of number at did state outputs sent → (h : Heading) (log : List Event) (text : List ℕ) → number ≡ length log + 1
-    → ReplayStands old h log text → ReplayStands new h (log ++ event ∷ []) (text ++ piece)
-pair_goes old new event number at did state outputs sent piece advances here states outs written h log text n k =
-    let goes : NextEntry k.ms k.ss k.entries event did sent new = advances.next k.ms k.ss k.entries k.stands in
-    let x : Entry = goes.entry in
-    let next : entry_at k.ms k.ss k.entries event ≡ Some x = goes.next in
-    let is : piece ≡ entry_line number x = written ∙ line-is new number at did state outputs sent k.ms k.ss x k.entries states outs goes.stands (goes.end_is ∙ sym here) goes.did_is goes.sent_is in
-    let counted : number ≡ length k.entries + 1 = omega (arith, n, k.whole) in
-    record {
-      ms = k.ms;
-      ss = k.ss;
-      entries = x ∷ k.entries;
-      set = k.set;
-      stands = goes.stands;
-      is_world = ap (λ (w : List Entry). x ∷ w) k.is_world
-          ∙ sym (world_next k.ms k.ss log event x (told_whole old h log text k) (subst (λ (w : List Entry). entry_at k.ms k.ss w event ≡ Some x) k.is_world next));
-      whole = omega (arith, k.whole, length_push log event);
-      lines = ap (λ (z : List ℕ). z ++ piece) k.lines ∙ ap (λ (z : List ℕ). entry_lines k.entries ++ z) (is ∙ ap (λ (n : ℕ). entry_line n x) counted);
-    }
-
 pub pair_goes_on : (old new : DuoView) (event : Event) (number : ℕ) (at : End) (did : Did) (state : State) (outputs sent piece : List ℕ) → Advances old event did sent new → at ≡ end_of_event event
-    → ShowsLast new at state (λ x. x.state) → ShowsLast new at outputs (λ x. x.outputs) → piece ≡ line_of number at did state outputs sent → TakesEvent (ReplayStands old) (ReplayStands new) event number piece
+    → ShowsLast new at state (λ x. x.state) → ShowsLast new at outputs (λ x. x.outputs) → piece ≡ decimal number ++ codes " " ++ told_line at did state outputs sent → TakesEvent (ReplayStands old) (ReplayStands new) event number piece
 pair_goes_on old new event number at did state outputs sent piece advances here states outs written = record {
-  takes = pair_goes old new event number at did state outputs sent piece advances here states outs written;
+  takes = λ h log text n k.
+      let goes : NextEntry k.ms k.ss k.entries event did sent new = advances.next k.ms k.ss k.entries k.stands in
+      let x : Entry = goes.entry in
+      let is : piece ≡ entry_line number x = written ∙ line-is new number at did state outputs sent k.ms k.ss x k.entries states outs goes.stands (goes.end_is ∙ sym here) goes.did_is goes.sent_is in
+      let counted : number ≡ length k.entries + 1 = omega (arith, n, k.whole) in
+      record {
+        ms = k.ms;
+        ss = k.ss;
+        entries = x ∷ k.entries;
+        set = k.set;
+        stands = goes.stands;
+        is_world = ap (λ (w : List Entry). x ∷ w) k.is_world
+            ∙ sym (world_next k.ms k.ss log event x (told_whole old h log text k) (subst (λ (w : List Entry). entry_at k.ms k.ss w event ≡ Some x) k.is_world goes.next));
+        whole = omega (arith, k.whole, length_push log event);
+        lines = ap (λ (z : List ℕ). z ++ piece) k.lines ∙ ap (λ (z : List ℕ). entry_lines k.entries ++ z) (is ∙ ap (λ (n : ℕ). entry_line n x) counted);
+      };
 }
 
 -- where each event has its entry, the run stops as the input does

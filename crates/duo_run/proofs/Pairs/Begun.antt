@@ -1,15 +1,8 @@
 -- Several new pairs are set to what a header says.
-use Rattle.duo_run.proofs.Common.{All-cons, All-nil, AllZip, AllZip-long, AreSetTo, DuoStands, DuoView, Heading, IsPairOf, MasterSettings, None, Option, Pair, PairsHeading, PairsStage, PairsStand, SameLengths, SlaveSettings, Some, StandsOver, all_zipped_more, common_steps, is_done, length-map, numbered, other_events, pairs_begun, pairs_heading_is_whole, pairs_of}
+use Rattle.duo_run.proofs.Common.{All-cons, All-nil, AllZip, AllZip-left, AllZip-long, AreSetTo, DuoStands, DuoView, Heading, IsPairOf, MasterSettings, None, Option, Pair, PairsHeading, PairsStage, PairsStand, SameLengths, SlaveSettings, Some, StandsOver, all_zipped_more, common_steps, is_done, length-map, numbered, other_events, pairs_begun, pairs_heading_is_whole, pairs_of}
 use Rattle.std.proofs.Common.{◌≡◌, ◌≤◌, ◌<◌, ◌+◌, ℕ, zero, suc, List, [], ◌∷◌, ◌++◌, All, IsTrue, length, map, take, slice_get, replicate, refl, arith, ap, sym, subst, ◌∙◌, add-one}
 use Rattle.duo_run.proofs.Pair.FairReplay.{same_lengths}
-use Rattle.duo_run.proofs.Pairs.At.{named}
-use Rattle.duo_run.proofs.Pairs.Ticking.{found_at, some_same, taken}
-
--- the header of the pair after so many
-pub heading_at : (hs : List Heading) (place : ℕ) → place < length hs → (h : Heading) × (numbered (place + 1) hs ≡ Some h) × (slice_get hs place ≡ Some h)
-heading_at hs place below =
-    let found = found_at hs place below in
-    (found.0, named (place + 1) place hs found.0 refl found.1, found.1)
+use Rattle.duo_run.proofs.Pairs.Ticking.{taken}
 
 -- the settings of so many pairs, and those of the next one
 abbrev pub AreSettings : List Heading → List (MasterSettings × SlaveSettings) → Type 0
@@ -28,16 +21,6 @@ all_same_lengths (h ∷ hs) (own ∷ settings) are =
     All-cons (λ own. SameLengths own.0 own.1) own settings (same_lengths h own.0 own.1 are.0) (all_same_lengths hs settings are.1)
 all_same_lengths _ _ are = absurd are
 
--- what both lists of pairs have at a place
-zip_both : {A B : Type 0} (R : A → B → Type 0) (xs : List A) (ys : List B) (j : ℕ) (x : A) (y : B) → AllZip R xs ys → slice_get xs j ≡ Some x → slice_get ys j ≡ Some y → R x y
-zip_both R [] ys j x y zip x-at y-at = cc
-zip_both R (a ∷ xs) [] j x y zip x-at y-at = absurd zip
-zip_both R (a ∷ xs) (b ∷ ys) zero x y zip x-at y-at =
-    let x-same : a ≡ x = some_same x-at in
-    let y-same : b ≡ y = some_same y-at in
-    subst (λ y. R x y) y-same (subst (λ x. R x b) x-same zip.0)
-zip_both R (a ∷ xs) (b ∷ ys) (suc j) x y zip x-at y-at = zip_both R xs ys j x y zip.1 x-at y-at
-
 -- the pairs that have these settings
 abbrev pair_of : MasterSettings × SlaveSettings → Pair
 pair_of own = record { master = own.0; slave = own.1 }
@@ -54,7 +37,7 @@ new_stand _ _ new = absurd new
 
 stand_each : (pairs : List Pair) (duos : List DuoView) → AllZip (λ p v. StandsOver p [] v) pairs duos → (k : ℕ) (p : Pair) (v : DuoView) → numbered k pairs ≡ Some p → numbered k duos ≡ Some v → StandsOver p [] v
 stand_each pairs duos new zero p v p-at v-at = cc
-stand_each pairs duos new (suc j) p v p-at v-at = zip_both (λ p v. StandsOver p [] v) pairs duos j p v new p-at v-at
+stand_each pairs duos new (suc j) p v p-at v-at = rw (p-at, v-at) at (AllZip-left (λ p v. StandsOver p [] v) pairs duos new j)
 
 none_other : (k : ℕ) (pairs : List Pair) → replicate (length pairs) None ≡ other_events k pairs []
 none_other k [] = refl

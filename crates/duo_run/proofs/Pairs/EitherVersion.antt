@@ -9,7 +9,7 @@ use Rattle.duo_run.proofs.Pairs.Fair.{told_pairs_fairly}
 pairs_ran : (ended : Ended) (o : Outside) → RanOver pairs_reporting ended o → RanPairs ended o
 pairs_ran ended o ran = record { run = ran; fair = told_pairs_fairly o.source.before }
 
-pair_ran : (ended : Ended) (o : Outside) → RanOver replay_reporting ended o → RanPair ended o
+pub pair_ran : (ended : Ended) (o : Outside) → RanOver replay_reporting ended o → RanPair ended o
 pair_ran ended o ran = record { run = ran; fair = told_fairly o.source.before; serves = told_serve o.source.before }
 
 one_ran : (A B X Y : Type 0) → (A → X) → (B → Y) → A ⊎ B → X ⊎ Y

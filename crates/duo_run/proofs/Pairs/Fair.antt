@@ -1,11 +1,11 @@
 -- The events of several pairs are proper at the ends of each pair, so that the law of the pair holds of the entries of
 -- each.
-use Rattle.duo_run.proofs.Common.{All-append, All-cons, All-head, All-nil, All-tail, AllZip, Event, Fair, Heading, IfSome, IfSome_then, IsPairOf, IsProperEvent, None, Option, Pair, PairsEvent, PairsHeading, PairsLineFits, PairsRunFairly, Some, before_other, done_after, eqb-true, events_by, events_done, events_to, fair_before, heading_profile, is_met, line_of_event, numbered, own_length, pairs_events_fit, pairs_input, pairs_of, slice_get, world_of}
-use Rattle.std.proofs.Common.{◌≡◌, ℕ, zero, suc, List, [], ◌∷◌, Bool, All, map, refl, subst, arith}
+use Rattle.duo_run.proofs.Common.{All-append, All-cons, All-head, All-nil, All-tail, AllZip, AllZip-right, Event, Fair, Heading, IfSome, IfSome_then, IsPairOf, IsProperEvent, MatchOption-at_some, None, Option, Pair, PairsEvent, PairsHeading, PairsLineFits, PairsRunFairly, Some, before_other, done_after, eqb-true, events_by, events_done, events_to, fair_before, heading_profile, is_met, line_of_event, numbered, own_length, pairs_events_fit, pairs_input, pairs_of, slice_get, world_of}
+use Rattle.std.proofs.Common.{◌≡◌, ℕ, zero, suc, List, [], ◌∷◌, Bool, All, map, arith}
 use Rattle.std.specs.Prelude.{if◌then◌else◌}
 use Rattle.duo_run.proofs.Pair.FairReplay.{same_lengths}
 use Rattle.duo_run.proofs.Pairs.Fit.{FitsHeading, fits_heading}
-use Rattle.duo_run.proofs.Pairs.Ticking.{some_same}
+use Rattle.duo_run.proofs.Pairs.At.{there}
 
 -- an event of all fits the pairs of a header
 abbrev FitsAll : PairsHeading → PairsEvent → Type 0
@@ -33,26 +33,16 @@ by_proper : (h : PairsHeading) (k : ℕ) (own : Heading) (p : Pair) → numbered
 by_proper h k own p l m event n = grind (arith, All-cons, one_proper, pairs_of, eqb-true, fits_heading)
 
 -- each pair is set to the header of its number
-zip_back : {A B : Type 0} (R : A → B → Type 0) (xs : List A) (ys : List B) (j : ℕ) (y : B) → AllZip R xs ys → slice_get ys j ≡ Some y → (x : A) × (slice_get xs j ≡ Some x) × R x y
-zip_back R xs [] j y zip at = cc
-zip_back R [] (b ∷ ys) j y zip at = absurd zip
-zip_back R (a ∷ xs) (b ∷ ys) zero y zip at = let same : b ≡ y = some_same at in (a, refl, subst (λ y. R a y) same zip.0)
-zip_back R (a ∷ xs) (b ∷ ys) (suc j) y zip at = zip_back R xs ys j y zip.1 at
-
 pair_fair : (h : PairsHeading) (events : List PairsEvent) (pairs : List Pair) (k : ℕ) (p : Pair) → All (FitsAll h) events → AllZip IsPairOf (pairs_of h) pairs → numbered k pairs ≡ Some p
     → Fair p.master.lengths (before_other (world_of k p (events_done pairs events)))
 pair_fair h events pairs zero p fits set at = cc
 pair_fair h events pairs (suc j) p fits set at =
-    let own = zip_back IsPairOf (pairs_of h) pairs j p set at in
+    let own = there (slice_get (pairs_of h) j) (λ h. IsPairOf h p) (MatchOption-at_some (Unit {0}) _ p at (AllZip-right IsPairOf (pairs_of h) pairs set j)) in
     let done : All (FitsAll h) (events_done pairs events) = done_all (FitsAll h) pairs events [] fits (All-nil (FitsAll h)) in
     fair_before p.master p.slave (events_to (suc j) (events_done pairs events)) (same_lengths own.0 p.master p.slave own.2)
     (own_all (FitsAll h) (IsProperEvent p.master p.slave) (suc j) (by_proper h (suc j) own.0 p own.1 own.2) (events_done pairs events) done)
 
-pairs_run_fairly : (bytes : List ℕ) → PairsRunFairly (pairs_input bytes)
-pairs_run_fairly bytes =
-    IfSome_then (pairs_input bytes).heading (pairs_events_fit bytes) (λ h fits pairs k p set at. pair_fair h (pairs_input bytes).events pairs k p fits set at)
-
--- so do the bytes that are told
 pub told_pairs_fairly : (told : Option (List ℕ)) → IfSome told (λ bytes. PairsRunFairly (pairs_input bytes))
 told_pairs_fairly None = tt
-told_pairs_fairly (Some bytes) = pairs_run_fairly bytes
+told_pairs_fairly (Some bytes) =
+    IfSome_then (pairs_input bytes).heading (pairs_events_fit bytes) (λ h fits pairs k p set at. pair_fair h (pairs_input bytes).events pairs k p fits set at)

@@ -1,10 +1,10 @@
 -- An event that a line says to a pair fits this pair.
-use Rattle.duo_run.proofs.Common.{AllZip, DuoView, End, Event, Fits, FitsPair, Heading, IsPairOf, IsSaid, Option, Pair, PairsEvent, PairsHeading, PairsStand, Some, StandsOver, heading_profile, length_of, lengths_of, numbered, own_length, pairs_event_fits, pairs_format, pairs_of, profile_of, profiles_of, slice_get-get_or}
+use Rattle.duo_run.proofs.Common.{AllZip-left, DuoView, Event, Fits, FitsPair, Heading, IsPairOf, IsSaid, MatchOption-at_some, Option, PairsEvent, PairsHeading, PairsStand, Some, heading_profile, length_of, lengths_of, numbered, own_length, pairs_event_fits, pairs_format, pairs_of, profile_of, profiles_of, slice_get-get_or, slice_get_within}
 use Rattle.schedule_file.proofs.Pairs.{numbered_map}
-use Rattle.std.proofs.Common.{◌≡◌, ◌≤◌, ◌+◌, ◌-◌, ℕ, zero, suc, List, [], ◌∷◌, length, map, slice_get, slice_index_or, refl, arith, ap, sym, subst, ◌∙◌, rules}
+use Rattle.std.proofs.Common.{◌≡◌, ◌≤◌, ◌+◌, ◌-◌, ℕ, zero, suc, List, length, map, slice_get, slice_index_or, arith, ap, sym, ◌∙◌, rules}
 use Rattle.schedule_file.specs.declared.pairs_line.PairsEvent.TheVariants as common
-use Rattle.duo_run.proofs.Pairs.Ticking.{found_below, some_same}
-use Rattle.duo_run.proofs.Pair.Replaying.{fits_ends, same_word}
+use Rattle.duo_run.proofs.Pair.Replaying.{fits_set}
+use Rattle.duo_run.proofs.Pairs.At.{there}
 
 -- there is a header of this number, whose ends the event fits
 pub record FitsHeading (hs : List Heading) (k : ℕ) (event : Event) : Type 0 where
@@ -15,18 +15,6 @@ pub record FitsHeading (hs : List Heading) (k : ℕ) (event : Event) : Type 0 wh
 pub fits_heading : (hs : List Heading) (k : ℕ) (event : Event) → FitsPair (map own_length hs) (map heading_profile hs) k event → FitsHeading hs k event
 fits_heading hs k event h = search (rules, numbered_map)
 
-zip_at : {A B : Type 0} (R : A → B → Type 0) (xs : List A) (ys : List B) (j : ℕ) (x : A) → AllZip R xs ys → slice_get xs j ≡ Some x → (y : B) × (slice_get ys j ≡ Some y) × R x y
-zip_at R [] ys j x zip at = cc
-zip_at R (a ∷ xs) [] j x zip at = absurd zip
-zip_at R (a ∷ xs) (b ∷ ys) zero x zip at = let same : a ≡ x = some_same at in (b, refl, subst (λ x. R x b) same zip.0)
-zip_at R (a ∷ xs) (b ∷ ys) (suc j) x zip at = zip_at R xs ys j x zip.1 at
-
-stood_lengths : (h : Heading) (p : Pair) (v : DuoView) (own : List Event) → IsPairOf h p → StandsOver p own v → (end : End) → own_length h end ≡ length_of (lengths_of v) end
-stood_lengths h p v own k l end = grind arith
-
-stood_profiles : (h : Heading) (p : Pair) (v : DuoView) (own : List Event) → IsPairOf h p → StandsOver p own v → (end : End) → heading_profile h end ≡ profile_of (profiles_of v) end
-stood_profiles h p v own k l end = grind arith
-
 -- there is a pair of this number, which the event fits, and one step more of it can be counted
 pub record FitsOne (duos : List DuoView) (k : ℕ) (event : Event) : Type 0 where
   pub first : 1 ≤ k
@@ -36,17 +24,15 @@ pub record FitsOne (duos : List DuoView) (k : ℕ) (event : Event) : Type 0 wher
 one_by : (duos : List DuoView) (others : List (Option ℕ)) (made : ℕ) (h : PairsHeading) (log : List PairsEvent) (text : List ℕ) (k : ℕ) (event : Event) → PairsStand duos others made h log text → FitsHeading (pairs_of h) k event → FitsOne duos k event
 one_by duos others made h log text zero event s f = cc
 one_by duos others made h log text (suc j) event s f =
-    let found = zip_at IsPairOf (pairs_of h) s.pairs j f.heading s.set f.at in
-    let below = found_below s.pairs j found.0 found.1 in
+    let found = there (slice_get s.pairs j) (IsPairOf f.heading) (MatchOption-at_some (Unit {0}) _ f.heading f.at (AllZip-left IsPairOf (pairs_of h) s.pairs s.set j)) in
+    let below = slice_get_within s.pairs j found.0 found.1 in
     record {
       first = omega arith;
       last = omega (arith, below, s.stand.many);
       each = λ place v e v-at.
           let same : place ≡ j = omega (arith, e) in
           let stood = s.stand.each (suc j) found.0 v found.1 (ap (slice_get duos) (sym same) ∙ v-at) in
-          fits_ends (own_length f.heading) (length_of (lengths_of v)) (heading_profile f.heading) (profile_of (profiles_of v)) event
-          (same_word (own_length f.heading) (length_of (lengths_of v)) (stood_lengths f.heading found.0 v _ found.2 stood))
-          (same_word (heading_profile f.heading) (profile_of (profiles_of v)) (stood_profiles f.heading found.0 v _ found.2 stood)) f.fits;
+          fits_set f.heading found.0.master found.0.slave v _ event found.2 stood.stands f.fits;
     }
 
 pub one_fits : (duos : List DuoView) (others : List (Option ℕ)) (made : ℕ) (h : PairsHeading) (log : List PairsEvent) (text : List ℕ) (k : ℕ) (event : Event) → PairsStand duos others made h log text → IsSaid pairs_format h (common.One k event) → FitsOne duos k event

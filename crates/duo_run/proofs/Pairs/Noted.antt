@@ -1,8 +1,8 @@
 -- The events with the first other entries of pairs are noted, one pair after another.
-use Rattle.duo_run.proofs.Common.{AllStandOver, DuoStands, DuoView, Entry, MasterSettings, NotesOthers, Option, Pair, PairsEvent, SlaveSettings, Some, events_to, first_of_both, first_other, is_some, length-set, other_event, other_events, world_of}
+use Rattle.duo_run.proofs.Common.{AllStandOver, DuoStands, DuoView, Entry, MasterSettings, NotesOthers, Option, Pair, PairsEvent, SlaveSettings, Some, events_to, first_of_both, first_other, is_some, length-set, other_event, other_events, same_Some, slice_get_within, world_of}
 use Rattle.std.proofs.Common.{◌≡◌, ◌≤◌, ◌<◌, ◌+◌, ℕ, zero, suc, List, [], ◌∷◌, length, slice_get, slice_set, refl, arith, ap, sym, subst, ◌∙◌, below_more, rules}
 use Rattle.duo_run.proofs.Pairs.At.{set_at, set_beside}
-use Rattle.duo_run.proofs.Pairs.Ticking.{found_at, found_below, some_same}
+use Rattle.duo_run.proofs.Pairs.Ticking.{found_at}
 
 -- so many were noted
 pub record NotedTo (number i : ℕ) (duos : List DuoView) (old now : List (Option ℕ)) : Type 0 where
@@ -20,10 +20,10 @@ noted_more number i duos old now v before other is t v-at at e tells =
       done = below_more _ _
           (λ j early u noted ms ss w u-at o-at stands. set_beside now i j is (λ same. let x : i < i = subst (λ (m : ℕ). m < i) same early in omega arith) ∙ t.done j early u noted ms ss w u-at o-at stands)
           (λ u noted ms ss w u-at o-at stands.
-          let v-same : v ≡ u = some_same (sym v-at ∙ u-at) in
-          let o-same : before ≡ noted = some_same (sym at ∙ t.rest i (omega arith) ∙ o-at) in
+          let v-same : v ≡ u = same_Some _ _ (sym v-at ∙ u-at) in
+          let o-same : before ≡ noted = same_Some _ _ (sym at ∙ t.rest i (omega arith) ∙ o-at) in
           let told : other ≡ first_other w = tells ms ss w (subst (λ (u : DuoView). DuoStands ms ss u w) (sym v-same) stands) in
-          set_at now i before is at
+          set_at now i is (slice_get_within now i before at)
           ∙ ap (λ (o : Option ℕ). Some o) (e ∙ ap (λ (o : Option ℕ). first_of_both before (is_some o) number) told ∙ ap (λ (b : Option ℕ). first_of_both b (is_some (first_other w)) number) o-same));
       rest = λ j late. set_beside now i j is (λ same. omega (arith, same, late)) ∙ t.rest j (omega (arith, late));
     }
@@ -31,14 +31,14 @@ noted_more number i duos old now v before other is t v-at at e tells =
 pub noted_all : (number i : ℕ) (duos : List DuoView) (old now : List (Option ℕ)) → i ≡ length duos → NotedTo number i duos old now → NotesOthers number duos old now
 noted_all number i duos old now all t = record {
   many = t.many;
-  each = λ j v noted ms ss w v-at at stands. t.done j (let h = found_below duos j v v-at in omega (arith, h, all)) v noted ms ss w v-at at stands;
+  each = λ j v noted ms ss w v-at at stands. t.done j (let h = slice_get_within duos j v v-at in omega (arith, h, all)) v noted ms ss w v-at at stands;
 }
 
 -- the number of each pair's event stands in its place
 others_at : (k j : ℕ) (pairs : List Pair) (past : List PairsEvent) (p : Pair) → slice_get pairs j ≡ Some p → slice_get (other_events k pairs past) j ≡ Some (other_event (k + j) p past)
 others_at k j [] past p at = cc
 others_at k zero (q ∷ pairs) past p at =
-    let same : q ≡ p = some_same at in
+    let same : q ≡ p = same_Some _ _ at in
     let n : k ≡ k + 0 = omega arith in
     ap (λ (q : Pair). Some (other_event k q past)) same ∙ ap (λ (n : ℕ). Some (other_event n p past)) n
 others_at k (suc j) (q ∷ pairs) past p at =
@@ -50,7 +50,7 @@ others_are : (k : ℕ) (pairs : List Pair) (past : List PairsEvent) (others : Li
 others_are k [] past [] e each = refl
 others_are k (p ∷ pairs) past (o ∷ others) e each =
     let n : k + 0 ≡ k = omega arith in
-    let first : o ≡ other_event k p past = some_same (each 0 p refl) ∙ ap (λ (n : ℕ). other_event n p past) n in
+    let first : o ≡ other_event k p past = same_Some _ _ (each 0 p refl) ∙ ap (λ (n : ℕ). other_event n p past) n in
     ap (λ (o : Option ℕ). o ∷ others) first
     ∙ ap (λ (rest : List (Option ℕ)). other_event k p past ∷ rest)
     (others_are (suc k) pairs past others (omega (arith, e)) (λ j q at. each (suc j) q at ∙ (let m : k + suc j ≡ suc k + j = omega arith in ap (λ (n : ℕ). Some (other_event n q past)) m)))
@@ -67,7 +67,7 @@ others_after pairs past event duos number old new e was stand notes =
     let long : length old ≡ length pairs = ap (length {A = Option ℕ}) was ∙ others-length 1 pairs past in
     others_are 1 pairs (event ∷ past) new (notes.many ∙ long)
     (λ j p at.
-    let v = found_at duos j (let h = found_below pairs j p at in omega (arith, h, stand.many)) in
+    let v = found_at duos j (let h = slice_get_within pairs j p at in omega (arith, h, stand.many)) in
     let n : 1 + j ≡ suc j = omega arith in
     let s = stand.each (suc j) p v.0 at v.1 in
     let before : slice_get old j ≡ Some (other_event (suc j) p past) = search (rules, others_at) in

@@ -1,5 +1,5 @@
 -- Several pairs go on with the next event of all.
-use Rattle.duo_run.proofs.Common.{AllStandOver, AllZip-long, CanStep, DuoView, EndsUnmet, Entry, Event, IsPairOf, Misses, NoFrame, None, NotesOthers, Option, Pair, PairsEvent, PairsHeading, PairsStand, Some, StandsOver, TellsNext, Ticks, append-nil, entries_by, entries_over, entry_after, eqb-false, eqb-true, event_lines, events_by, events_to, is_met, is_met_by, is_some, length-append, length-set, length_push, line_if, lines_of_events, numbered, one_line, pairs_of, pairs_reporting, steps_done, tick_lines, with_tick}
+use Rattle.duo_run.proofs.Common.{AllStandOver, AllZip-long, CanStep, DuoView, EndsUnmet, Entry, Event, IsPairOf, Misses, NoFrame, None, NotesOthers, Option, Pair, PairsEvent, PairsHeading, PairsStand, Some, StandsOver, TellsNext, Ticks, append-nil, entries_by, entries_over, entry_after, eqb-false, eqb-true, event_lines, events_by, events_to, is_met, is_met_by, is_some, length-append, length-set, length_push, line_if, lines_of_events, numbered, one_line, pairs_of, pairs_reporting, same_Some, slice_get_within, steps_done, tick_lines, with_tick}
 use Rattle.duo_run.specs.PairsReport.{pair_line}
 use Rattle.schedule_file.specs.PairsInput.{entries_of}
 use Rattle.std.proofs.Common.{◌≡◌, ◌≤◌, ◌<◌, ◌+◌, ◌*◌, ◌^◌, ℕ, suc, Bool, true, false, List, [], ◌∷◌, ◌++◌, length, slice_get, slice_set, refl, arith, ap, sym, subst, ◌∙◌, append_assoc, rules}
@@ -10,7 +10,7 @@ use Rattle.schedule_file.specs.declared.pairs_line.PairsEvent.TheVariants as com
 use Rattle.duo_run.proofs.Pairs.At.{others_stay, named, set_at}
 use Rattle.duo_run.proofs.Pairs.Noted.{others-length, others_after}
 use Rattle.duo_run.proofs.Pairs.Running.{done_next, pairs_unsent}
-use Rattle.duo_run.proofs.Pairs.Ticking.{counted_over, found_at, found_below, goes_over, some_same}
+use Rattle.duo_run.proofs.Pairs.Ticking.{counted_over, goes_over, stood_at}
 
 -- the entries that one event more makes
 entries-push : (n : ℕ) (log : List PairsEvent) (event : PairsEvent) → entries_of n (log ++ event ∷ []) ≡ entries_of n log + entries_by n event
@@ -84,8 +84,8 @@ stand_one : (pairs : List Pair) (past : List PairsEvent) (old new : List DuoView
     → StandsOver q (events_to k past ++ (if pair == k then own ∷ [] else [])) v
 stand_one pairs past old new pair place own p after e p-at is new-at stand goes k q v q-at v-at true test =
     let here : pair ≡ k = eqb-true pair k test in
-    let p-same : p ≡ q = some_same (sym p-at ∙ ap (λ (j : ℕ). numbered j pairs) here ∙ q-at) in
-    let v-same : after ≡ v = some_same (sym new-at ∙ ap (λ (j : ℕ). numbered j new) here ∙ v-at) in
+    let p-same : p ≡ q = same_Some _ _ (sym p-at ∙ ap (λ (j : ℕ). numbered j pairs) here ∙ q-at) in
+    let v-same : after ≡ v = same_Some _ _ (sym new-at ∙ ap (λ (j : ℕ). numbered j new) here ∙ v-at) in
     subst (λ (b : Bool). StandsOver q (events_to k past ++ (if b then own ∷ [] else [])) v) (sym test)
     (subst (λ (j : ℕ). StandsOver q (events_to j past ++ own ∷ []) v) here
     (subst (λ (v : DuoView). StandsOver q (events_to pair past ++ own ∷ []) v) v-same (subst (λ (q : Pair). StandsOver q (events_to pair past ++ own ∷ []) after) p-same goes)))
@@ -106,14 +106,13 @@ pub one_goes : (old new : List DuoView) (others noted : List (Option ℕ)) (made
     → TellsNext v own number pair after piece → new ≡ slice_set old place after → NotesOthers number new others noted → now ≡ made + 1 → number ≡ length log + 1 → PairsStand old others made h log text
     → PairsStand new noted now h (log ++ common.One pair own ∷ []) (text ++ piece)
 one_goes old new others noted made now number pair place own v after piece h log text e v-at tells is notes count f k =
-    let below : place < length old = found_below old place v v-at in
-    let found = found_at k.pairs place (omega (arith, below, k.stand.many)) in
-    let p : Pair = found.0 in
-    let p-at : numbered pair k.pairs ≡ Some p = named pair place k.pairs p e found.1 in
-    let stood : StandsOver p (events_to pair k.past) v = k.stand.each pair p v p-at (named pair place old v e v-at) in
-    let told = tells.tells p.master p.slave (entries_over p (events_to pair k.past)) stood.stands in
-    let goes : StandsOver p (events_to pair k.past ++ own ∷ []) after = goes_over p (events_to pair k.past) own told.entry after stood.whole told.next told.stands in
-    let new-at : numbered pair new ≡ Some after = named pair place new after e (ap (λ (n : List DuoView). slice_get n place) is ∙ set_at old place v after v-at) in
+    let below : place < length old = slice_get_within old place v v-at in
+    let stood = stood_at k.pairs (events_to pair k.past) old place v k.stand.many v-at (λ p p-at. k.stand.each pair p v (named pair place k.pairs p e p-at) (named pair place old v e v-at)) in
+    let p : Pair = stood.0 in
+    let p-at : numbered pair k.pairs ≡ Some p = named pair place k.pairs p e stood.1 in
+    let told = tells.tells p.master p.slave (entries_over p (events_to pair k.past)) stood.2.stands in
+    let goes : StandsOver p (events_to pair k.past ++ own ∷ []) after = goes_over p (events_to pair k.past) own told.entry after stood.2.whole told.next told.stands in
+    let new-at : numbered pair new ≡ Some after = named pair place new after e (ap (λ (n : List DuoView). slice_get n place) is ∙ set_at old place after below) in
     let many : length new ≡ length old = ap (length {A = DuoView}) is ∙ length-set old place after in
     let stand : AllStandOver k.pairs (λ j. events_to j (common.One pair own ∷ k.past)) new = record {
       many = many ∙ k.stand.many;
@@ -140,12 +139,10 @@ one_goes old new others noted made now number pair place own v after piece h log
 pub one_unsent : (old : List DuoView) (others : List (Option ℕ)) (made pair place : ℕ) (own : Event) (v : DuoView) (h : PairsHeading) (log : List PairsEvent) (text : List ℕ) → pair ≡ place + 1 → slice_get old place ≡ Some v → Misses v own
     → PairsStand old others made h log text → EndsUnmet pairs_reporting h log text (common.One pair own) NoFrame
 one_unsent old others made pair place own v h log text e v-at misses k =
-    let below : place < length old = found_below old place v v-at in
-    let found = found_at k.pairs place (omega (arith, below, k.stand.many)) in
-    let p : Pair = found.0 in
-    let p-at : numbered pair k.pairs ≡ Some p = named pair place k.pairs p e found.1 in
-    let stood : StandsOver p (events_to pair k.past) v = k.stand.each pair p v p-at (named pair place old v e v-at) in
-    pairs_unsent old others made h log text (common.One pair own) k (one_met k.pairs k.past pair own p None p-at (misses.misses p.master p.slave (entries_over p (events_to pair k.past)) stood.stands))
+    let stood = stood_at k.pairs (events_to pair k.past) old place v k.stand.many v-at (λ p p-at. k.stand.each pair p v (named pair place k.pairs p e p-at) (named pair place old v e v-at)) in
+    let p : Pair = stood.0 in
+    pairs_unsent old others made h log text (common.One pair own) k
+    (one_met k.pairs k.past pair own p None (named pair place k.pairs p e stood.1) (misses.misses p.master p.slave (entries_over p (events_to pair k.past)) stood.2.stands))
 
 -- what an event of all needs: there are at most 16 pairs, each noted, and the entries so far are few
 by_most : (n : ℕ) (event : PairsEvent) → n ≤ 16 → entries_by n event ≤ 33
@@ -167,8 +164,7 @@ noted_each duos others made h log text k = ap (length {A = Option ℕ}) k.others
 pub one_counted : (duos : List DuoView) (others : List (Option ℕ)) (made : ℕ) (h : PairsHeading) (log : List PairsEvent) (text : List ℕ) (number place : ℕ) (v : DuoView) → PairsStand duos others made h log text → number ≡ length log + 1 → number ≤ 200000
     → slice_get duos place ≡ Some v → steps_done v + 1 < 2 ^ 64
 one_counted duos others made h log text number place v k e few v-at =
-    let below : place < length duos = found_below duos place v v-at in
-    let found = found_at k.pairs place (omega (arith, below, k.stand.many)) in
-    let counted = counted_over found.0 (events_to (suc place) k.past) v (k.stand.each (suc place) found.0 v found.1 v-at) in
+    let stood = stood_at k.pairs (events_to (suc place) k.past) duos place v k.stand.many v-at (λ p p-at. k.stand.each (suc place) p v p-at v-at) in
+    let counted = counted_over stood.0 (events_to (suc place) k.past) v stood.2 in
     let a = events_few (suc place) k.past in
     omega (arith, counted, a, k.whole, e, few)

@@ -1,6 +1,9 @@
 use Rattle.duo_run.proofs.Numbers.Summarizing.{never_misses, never_err, goes_on}
 use Rattle.duo_run.proofs.bulk.summarize.Goals as goal
 
+pub advance-requires-clause-fits : goal.advance-requires-clause-fits
+advance-requires-clause-fits c = rw (c.loop.invariant.lengths, c.loop.invariant.profiles) c.next_into.ensures.fits
+
 pub unwrap-requires : goal.unwrap-requires
 unwrap-requires c = never_err _ c.advance.result c.advance.ensures.misses (never_misses _ _ _ _ _ _ _ c.loop.invariant c.next_into.ensures.makes)
 

@@ -1,5 +1,5 @@
 use Rattle.duo_run.proofs.Common.{input_cause, took_one}
-use Rattle.std.proofs.Common.{◌+◌, ◌∙◌, rules}
+use Rattle.std.proofs.Common.{◌+◌, ◌∙◌}
 use Rattle.duo_run.proofs.Conversion.Converting.{next_refused}
 use Rattle.duo_run.proofs.convert.next_taken.Goals as goal
 
@@ -10,4 +10,4 @@ returns-in-Err-take-clause-finds g c =
     (rw (c.line.ensures, c.lines.ensures ∙ c.in-Ok.ensures.goes) at c.in-Err-take.ensures.takes)
 
 pub returns-in-Err-take-clause-goes : goal.returns-in-Err-take-clause-goes
-returns-in-Err-take-clause-goes c = search (rules, took_one)
+returns-in-Err-take-clause-goes g c = (c.lines-in-Err-take.ensures ∙ c.in-Ok.ensures.goes, took_one _ _ c.next_line.new.reader.line c.in-Ok.ensures.finds.0 c.in-Ok.ensures.finds.1)

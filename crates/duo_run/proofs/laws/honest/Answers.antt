@@ -1,8 +1,12 @@
-use Rattle.duo_run.proofs.Pair.Ran.{serves_honest, fair_honest}
+use Rattle.duo_run.proofs.Common.{Entry, Fair, Serves, honest_fair, honest_serves}
+use Rattle.std.proofs.Common.{List, sym, subst}
+use Rattle.duo_run.proofs.Pair.Ran.{entries_are_world}
 use Rattle.duo_run.proofs.laws.honest.Goals as goal
 
 pub returns-clause-serves : goal.returns-clause-serves
-returns-clause-serves c = serves_honest
+returns-clause-serves c = λ ms ss first last events w matching proper honest h r.
+    subst (λ (w : List Entry). Serves ms events w) (sym (entries_are_world ms ss first last events w h r)) (honest_serves ms ss events matching proper honest)
 
 pub returns-clause-fair : goal.returns-clause-fair
-returns-clause-fair c = fair_honest
+returns-clause-fair c = λ ms ss first last events w matching proper honest h r.
+    subst (λ (w : List Entry). Fair ms.lengths w) (sym (entries_are_world ms ss first last events w h r)) (honest_fair ms ss events matching proper honest)

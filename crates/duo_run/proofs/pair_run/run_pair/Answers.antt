@@ -1,7 +1,5 @@
-use Rattle.duo_run.proofs.Pair.FairReplay.{told_fairly, told_serve}
+use Rattle.duo_run.proofs.Pairs.EitherVersion.{pair_ran}
 use Rattle.duo_run.proofs.pair_run.run_pair.Goals as goal
 
 pub returns : goal.returns
-returns g c =
-    let told = g.S.Source.left c.args.source.now in
-    record { run = c.run_over.ensures.ran; fair = told_fairly told; serves = told_serve told }
+returns g c = pair_ran c.run_over.result _ c.run_over.ensures.ran

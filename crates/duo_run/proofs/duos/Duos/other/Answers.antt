@@ -1,11 +1,11 @@
-use Rattle.duo_run.proofs.Common.{Some, slice_get_read}
-use Rattle.std.proofs.Common.{◌≡◌, ◌≤◌, ◌-◌, ℕ, length, slice_get, refl, sym, subst, arith}
-use Rattle.duo_run.proofs.Pairs.At.{for_named, named}
+use Rattle.duo_run.proofs.Common.{Some, numbered}
+use Rattle.std.proofs.Common.{◌≡◌, ◌-◌, arith}
+use Rattle.duo_run.proofs.Pairs.At.{at_number}
 use Rattle.duo_run.proofs.duos.Duos.other.Goals as goal
 
 pub returns : goal.returns
 returns c =
-    let place : ℕ = c.from.result - 1 in
-    let fits : c.args.pair ≤ length c.self.inside.pairs.items = subst (λ v. c.args.pair ≤ length v) (sym c.self.view_is) c.requires.last in
-    let at : slice_get c.self.inside.pairs.items place ≡ Some c.index.result.now = slice_get_read c.self.inside.pairs.items _ place _ refl (omega arith) c.index.ensures in
-    rw (← c.self.view_is) (for_named _ c.args.pair c.self.inside.pairs.items c.index.result.now (named c.args.pair place c.self.inside.pairs.items c.index.result.now (omega arith) at) c.other.ensures)
+    let at : numbered c.args.pair c.args.self.now ≡ Some c.index.result.now =
+    at_number c.self.inside.pairs.items _ _ (c.from.result - 1) _ c.self.view_is (omega arith) c.requires.first c.requires.last c.index.ensures
+    in
+    rw at c.other.ensures

@@ -1,34 +1,41 @@
-use Rattle.duo_run.proofs.Common.{Fits, IfSome, length_of, lengths_of, numbered, on_err_weaker, profile_of, profiles_of, steps_done}
-use Rattle.std.proofs.Common.{◌<◌, ◌-◌, ◌+◌, ◌^◌, ℕ, refl, sym, subst, arith}
-use Rattle.duo_run.proofs.Pairs.At.{at_number, for_named, named, of_named, others_stay, steps_at, with_both}
+use Rattle.duo_run.proofs.Common.{Some, numbered}
+use Rattle.std.proofs.Common.{◌≡◌, ◌-◌, ℕ, length, refl, ap, arith}
+use Rattle.duo_run.proofs.Pairs.At.{at_number, named, others_stay, set_at, with_both}
 use Rattle.duo_run.proofs.duos.Duos.step.Goals as goal
 
-pub step-requires-clause-fits : goal.step-requires-clause-fits
-step-requires-clause-fits c =
-    let at = at_number c.self.inside.pairs.items _ c.args.pair (c.from.result - 1) c.index_mut.result.now c.self.view_is (omega arith) c.requires.first c.requires.last c.index_mut.ensures.value in
-    of_named (λ v. Fits (length_of (lengths_of v)) (profile_of (profiles_of v)) c.args.event.now) c.args.pair c.self.inside.pairs.items c.index_mut.result.now (named c.args.pair (c.from.result - 1) c.self.inside.pairs.items c.index_mut.result.now (omega arith) at)
-    (subst (λ v. IfSome (numbered c.args.pair v) (λ v. Fits (length_of (lengths_of v)) (profile_of (profiles_of v)) c.args.event.now)) (sym c.self.view_is) c.requires.fits)
-
-pub step-requires-clause-fewer : goal.step-requires-clause-fewer
-step-requires-clause-fewer c =
-    let at = at_number c.self.inside.pairs.items _ c.args.pair (c.from.result - 1) c.index_mut.result.now c.self.view_is (omega arith) c.requires.first c.requires.last c.index_mut.ensures.value in
-    of_named (λ v. steps_done v + 1 < 2 ^ 64) c.args.pair c.self.inside.pairs.items c.index_mut.result.now (named c.args.pair (c.from.result - 1) c.self.inside.pairs.items c.index_mut.result.now (omega arith) at)
-    (subst (λ v. IfSome (numbered c.args.pair v) (λ v. steps_done v + 1 < 2 ^ 64)) (sym c.self.view_is) c.requires.fewer)
+pub step-requires : goal.step-requires
+step-requires c =
+    let at : numbered c.args.pair c.args.self.now ≡ Some c.index_mut.result.now =
+    at_number c.self.inside.pairs.items _ _ (c.from.result - 1) _ c.self.view_is (omega arith) c.requires.first c.requires.last c.index_mut.ensures.value
+    in
+    record { fits = rw at at c.requires.fits; fewer = rw at at c.requires.fewer }
 
 pub returns-clause-steps : goal.returns-clause-steps
 returns-clause-steps c =
-    let at = at_number c.self.inside.pairs.items _ c.args.pair (c.from.result - 1) c.index_mut.result.now c.self.view_is (omega arith) c.requires.first c.requires.last c.index_mut.ensures.value in
-    rw (← c.self.view_is)
-    (with_both c.step.result _ _ _ c.step.ensures.steps c.step.ensures.done
-    (λ x steps counts. steps_at c.args.pair (c.from.result - 1) c.self.inside.pairs.items _ c.args.event.now x c.index_mut.result.now c.step.new.self (omega arith) at refl steps counts c.step.ensures.lengths c.step.ensures.profiles))
+    let place : ℕ = c.from.result - 1 in
+    let at : numbered c.args.pair c.args.self.now ≡ Some c.index_mut.result.now =
+    at_number c.self.inside.pairs.items _ _ place _ c.self.view_is (omega arith) c.requires.first c.requires.last c.index_mut.ensures.value
+    in
+    with_both c.step.result _ _ _ c.step.ensures.steps c.step.ensures.done
+    (λ x steps counts.
+    record {
+      before = c.index_mut.result.now;
+      after = c.step.new.self;
+      was = at;
+      is = named _ place _ _ (omega arith) (set_at c.self.inside.pairs.items place c.step.new.self (omega (arith, ap length c.self.view_is)));
+      steps = steps;
+      counts = counts;
+      lengths = c.step.ensures.lengths;
+      profiles = c.step.ensures.profiles;
+    })
 
 pub returns-clause-misses : goal.returns-clause-misses
 returns-clause-misses c =
-    let at = at_number c.self.inside.pairs.items _ c.args.pair (c.from.result - 1) c.index_mut.result.now c.self.view_is (omega arith) c.requires.first c.requires.last c.index_mut.ensures.value in
-    rw (← c.self.view_is)
-    (on_err_weaker c.step.result (λ misses. for_named _ c.args.pair c.self.inside.pairs.items c.index_mut.result.now (named c.args.pair (c.from.result - 1) c.self.inside.pairs.items c.index_mut.result.now (omega arith) at) misses) c.step.ensures.misses)
+    let at : numbered c.args.pair c.args.self.now ≡ Some c.index_mut.result.now =
+    at_number c.self.inside.pairs.items _ _ (c.from.result - 1) _ c.self.view_is (omega arith) c.requires.first c.requires.last c.index_mut.ensures.value
+    in
+    rw at c.step.ensures.misses
 
 pub returns-clause-others : goal.returns-clause-others
 returns-clause-others c = λ other no.
-    let place : ℕ = c.from.result - 1 in
-    rw (← c.self.view_is) (others_stay c.args.pair place other c.self.inside.pairs.items _ c.step.new.self (omega arith) refl no)
+    rw (← c.self.view_is) (others_stay c.args.pair (c.from.result - 1) other c.self.inside.pairs.items _ c.step.new.self (omega arith) refl no)

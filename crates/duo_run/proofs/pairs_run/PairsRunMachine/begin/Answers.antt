@@ -1,5 +1,5 @@
 use Rattle.duo_run.proofs.Common.{None, pairs_of}
-use Rattle.std.proofs.Common.{◌≡◌, ◌≤◌, ℕ, length, replicate, ap, ◌∙◌, arith}
+use Rattle.std.proofs.Common.{◌≡◌, ◌≤◌, ℕ, length, replicate, ap, ◌∙◌, arith, rules}
 use Rattle.duo_run.proofs.Pairs.Begun.{all_same_lengths, pairs_begin, some_settings}
 use Rattle.duo_run.proofs.pairs_run.PairsRunMachine.begin.Goals as goal
 
@@ -15,4 +15,6 @@ pub returns-clause-stands : goal.returns-clause-stands
 returns-clause-stands c =
     let many : c.len.result ≡ length c.in_ok-settings.settings.items = omega (arith, c.len.ensures, c.in_ok-settings.settings.ok.0) in
     let few : length c.in_ok-settings.settings.items ≤ 16 = omega (arith, c.in_ok-settings.ensures.most, c.in_ok-settings.settings.ok.0) in
-    pairs_begin c.args.header.now c.in_ok-settings.settings.items c.in_ok-new.field-0 c.in_ok-no_others.field-0.items c.requires.done c.in_ok-settings.ensures.set few c.in_ok-new.ensures (c.in_ok-no_others.ensures ∙ ap (λ (n : ℕ). replicate n None) many)
+    let none : c.in-Ok.others.items ≡ replicate c.len.result None = search rules in
+    rw c.made.view_is
+    (pairs_begin c.args.header.now c.in_ok-settings.settings.items c.in_ok-made.made c.in-Ok.others.items c.requires.done c.in_ok-settings.ensures.set few c.in_ok-made.ensures (none ∙ ap (λ (n : ℕ). replicate n None) many))

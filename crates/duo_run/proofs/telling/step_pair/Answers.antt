@@ -1,7 +1,7 @@
 use Rattle.std.proofs.Common.{◌-◌, arith, rules}
 use Rattle.duo_run.proofs.Pairs.Fit.{duo_there, one_fits}
 use Rattle.duo_run.proofs.Pairs.Stepping.{few_entries, noted_each, one_counted, one_goes, one_unsent}
-use Rattle.duo_run.proofs.pairs_event.step_pair.Goals as goal
+use Rattle.duo_run.proofs.telling.step_pair.Goals as goal
 
 pub overflow_sub-at : goal.overflow_sub-at
 overflow_sub-at c =
@@ -15,19 +15,12 @@ bounds-duos-at c =
     let f = one_fits _ _ _ k.heading k.log k.text c.args.pair c.args.event.now k.stands k.said in
     omega (arith, f.first, f.last, c.from-at.ensures)
 
-pub tell-requires-clause-fits : goal.tell-requires-clause-fits
-tell-requires-clause-fits c =
+pub tell-requires : goal.tell-requires
+tell-requires c =
     let k = c.requires in
     let f = one_fits _ _ _ k.heading k.log k.text c.args.pair c.args.event.now k.stands k.said in
     let at = duo_there c.args.duos.now c.args.pair (c.from-at.result - 1) c.index-duos-at.result f.first f.last (omega (arith, c.from-at.ensures)) in
-    f.each _ _ at.0 at.1
-
-pub tell-requires-clause-fewer : goal.tell-requires-clause-fewer
-tell-requires-clause-fewer c =
-    let k = c.requires in
-    let f = one_fits _ _ _ k.heading k.log k.text c.args.pair c.args.event.now k.stands k.said in
-    let at = duo_there c.args.duos.now c.args.pair (c.from-at.result - 1) c.index-duos-at.result f.first f.last (omega (arith, c.from-at.ensures)) in
-    one_counted _ _ _ k.heading k.log k.text c.args.number _ _ k.stands k.number_is k.few at.1
+    record { fits = f.each _ _ at.0 at.1; fewer = one_counted _ _ _ k.heading k.log k.text c.args.number _ _ k.stands k.number_is k.few at.1 }
 
 pub overflow_add-entries : goal.overflow_add-entries
 overflow_add-entries c =

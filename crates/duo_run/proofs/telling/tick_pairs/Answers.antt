@@ -1,6 +1,6 @@
 use Rattle.std.proofs.Common.{◌+◌, ◌*◌, ℕ, length, ap, ◌∙◌, arith, rules}
 use Rattle.duo_run.proofs.Pairs.Stepping.{can_step, can_step_on, few_duos, few_entries, noted_each, tick_goes}
-use Rattle.duo_run.proofs.pairs_event.tick_pairs.Goals as goal
+use Rattle.duo_run.proofs.telling.tick_pairs.Goals as goal
 
 pub tick_all-requires-clause-stand : goal.tick_all-requires-clause-stand
 tick_all-requires-clause-stand c =
