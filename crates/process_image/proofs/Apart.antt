@@ -1,6 +1,7 @@
 -- Slots of a plan without a fault lie inside the output image, and share no byte of it.
 use Rattle.process_image.proofs.Common.{Place, Plan, first_fault, first_outside, first_pair, first_with, lie_inside, overlap, pair_or, share, spans_of}
-use Rattle.std.proofs.Common.{◌≡◌, ◌≤◌, ◌⊎◌, ℕ, ◌+◌, ◌&&◌, ◌||◌, List, [], ◌∷◌, length, Option, Some, None, Bool, true, false, nat_lt, nat_le, if◌then◌else◌, arith, rules}
+use Rattle.std.proofs.Common.{◌≡◌, ◌≤◌, ◌⊎◌, ℕ, ◌+◌, ◌&&◌, List, [], ◌∷◌, length, Option, Some, None, Bool, true, false, nat_lt, nat_le, if◌then◌else◌, leb-true, arith, rules}
+use Rattle.std.proofs.lemmas.Bool.{and_parts, or_parts}
 use Rattle.process_image.specs.declared.fault.SlotFault.{SlotFault}
 use Rattle.process_image.proofs.Giving.{len_at, AwayFrom, AreApart}
 
@@ -14,18 +15,6 @@ passed b x rest h = grind arith
 no-pair : (a : ℕ) (o : Option ℕ) (later : Option SlotFault) → pair_or a o later ≡ None → (o ≡ None) × (later ≡ None)
 no-pair a o later h = grind arith
 
-second-true : (a b : Bool) → (a && b) ≡ true → b ≡ true
-second-true a b h = grind arith
-
-first-true : (a b : Bool) → (a && b) ≡ true → a ≡ true
-first-true a b h = grind arith
-
-second-false : (a b : Bool) → (a || b) ≡ false → b ≡ false
-second-false a b h = grind arith
-
-inside-out : (n size : ℕ) → nat_le n size ≡ true → n ≤ size
-inside-out n size h = grind arith
-
 away : (a la b lb : ℕ) → (nat_lt a (b + lb) && nat_lt b (a + la)) ≡ false → (a + la ≤ b) ⊎ (b + lb ≤ a)
 away a la b lb h = grind arith
 
@@ -33,14 +22,14 @@ away-all : (p : Place) (places : List Place) → first_with (spans_of p) places 
 away-all p [] h = tt
 away-all p (q ∷ places) h =
     let c = chosen (overlap (spans_of p) (spans_of q)) q.number (first_with (spans_of p) places) h in
-    (away p.at_out (len_at p) q.at_out (len_at q) (second-false (share p.at_in (spans_of p).len_in q.at_in (spans_of q).len_in) (share p.at_out (len_at p) q.at_out (len_at q)) c.0), away-all p places c.1)
+    (away p.at_out (len_at p) q.at_out (len_at q) (or_parts (share p.at_in (spans_of p).len_in q.at_in (spans_of q).len_in) (share p.at_out (len_at p) q.at_out (len_at q)) c.0).1, away-all p places c.1)
 
 apart : (size_in size_out : ℕ) (places : List Place) → first_outside size_in size_out places ≡ None → first_pair places ≡ None → AreApart size_out places
 apart size_in size_out [] h i = tt
 apart size_in size_out (p ∷ places) h i =
     let c = passed (lie_inside size_in size_out (spans_of p)) p.number (first_outside size_in size_out places) h in
     let d = no-pair p.number (first_with (spans_of p) places) (first_pair places) i in (
-      inside-out (p.at_out + len_at p) size_out (second-true (nat_le (p.at_in + (spans_of p).len_in) size_in) (nat_le (p.at_out + len_at p) size_out) c.0),
+      leb-true _ _ (and_parts (nat_le (p.at_in + (spans_of p).len_in) size_in) (nat_le (p.at_out + len_at p) size_out) c.0).1,
       away-all p places d.0,
       apart size_in size_out places c.1 d.1,
     )
@@ -57,12 +46,8 @@ inside-all : (size_in size_out : ℕ) (places : List Place) → first_outside si
 inside-all size_in size_out [] h = tt
 inside-all size_in size_out (p ∷ places) h =
     let c = passed (lie_inside size_in size_out (spans_of p)) p.number (first_outside size_in size_out places) h in
-    let a : Bool = nat_le (p.at_in + (spans_of p).len_in) size_in in
-    let b : Bool = nat_le (p.at_out + len_at p) size_out in (
-      inside-out (p.at_in + (spans_of p).len_in) size_in (first-true a b c.0),
-      inside-out (p.at_out + len_at p) size_out (second-true a b c.0),
-      inside-all size_in size_out places c.1,
-    )
+    let i = and_parts (nat_le (p.at_in + (spans_of p).len_in) size_in) (nat_le (p.at_out + len_at p) size_out) c.0 in
+    (leb-true _ _ i.0, leb-true _ _ i.1, inside-all size_in size_out places c.1)
 
 pub plan_inside : (plan : Plan) → first_fault plan ≡ None → AreInside plan.size_in plan.size_out plan.places
 plan_inside plan h = search (rules, inside-all)

@@ -1,7 +1,8 @@
 -- Images that were just made.
-use Rattle.process_image.proofs.Common.{All-cons, All-head, All-nil, All-tail, AllZip, AreNumbered, ImagesView, IsNew, IsNewSeat, IsSeatOf, IsSound, IsSoundSeat, Place, Seat, Setup, Slot, StandsFor, bytes_at, first_fault, frame_len, frame_of, is_length, length-replicate, nat_tests, places_from, plan_of, receives, sends, setup_of, with_bytes, with_frames}
-use Rattle.std.proofs.Common.{◌≡◌, ◌≤◌, ℕ, zero, suc, ◌+◌, ◌-◌, List, [], ◌∷◌, ◌++◌, map, length, take, drop, replicate, All, None, IsTrue, refl, sym, ap, ap₂, ◌∙◌, arith, inl, inr, rules}
+use Rattle.process_image.proofs.Common.{All-cons, All-head, All-nil, All-tail, AllZip, AllZip-long, AreNumbered, ImagesView, IsNew, IsNewSeat, IsSeatOf, IsSound, IsSoundSeat, Place, Seat, Setup, Slot, StandsFor, bytes_at, first_fault, frame_len, frame_of, is_length, length-replicate, nat_tests, places_from, plan_of, receives, sends, setup_of, with_bytes, with_frames}
+use Rattle.std.proofs.Common.{◌≡◌, ◌≤◌, ℕ, suc, ◌+◌, List, [], ◌∷◌, map, length, replicate, All, None, IsTrue, refl, sym, ap, ap₂, ◌∙◌, arith, inl, inr, rules}
 use Rattle.std.proofs.lemmas.Bool.{cases_eq}
+use Rattle.std.proofs.lemmas.List.{drop-replicate, replicate-append-replicate, take-replicate}
 use Rattle.process_image.proofs.Apart.{AreInside, plan_inside, few_places}
 use Rattle.process_image.proofs.Faults.{places_count}
 use Rattle.process_image.proofs.Giving.{len_at}
@@ -11,25 +12,11 @@ pub frame_most : (l : ℕ) → IsTrue (is_length l) → frame_len l ≤ 255
 frame_most l h = elim (cases_eq l 1) [ inl one ↦ grind (arith, nat_tests) | inr other ↦ grind (arith, nat_tests) ]
 
 -- zeros in zeros
-take-zeros : (n m : ℕ) → n ≤ m → take {A = ℕ} n (replicate m 0) ≡ replicate n 0
-take-zeros zero m h = refl
-take-zeros (suc n) zero h = absurd (omega arith)
-take-zeros (suc n) (suc m) h = ap (λ (zs : List ℕ). 0 ∷ zs) (take-zeros n m (omega arith))
-
-drop-zeros : (n m : ℕ) → n ≤ m → drop {A = ℕ} n (replicate m 0) ≡ replicate (m - n) 0
-drop-zeros zero m h = let e : m ≡ m - 0 = omega arith in ap (λ (k : ℕ). replicate k 0) e
-drop-zeros (suc n) zero h = absurd (omega arith)
-drop-zeros (suc n) (suc m) h = let e : m - n ≡ suc m - suc n = omega arith in drop-zeros n m (omega arith) ∙ ap (λ (k : ℕ). replicate k 0) e
-
-append-zeros : (n m : ℕ) → replicate n 0 ++ replicate m 0 ≡ replicate {A = ℕ} (n + m) 0
-append-zeros zero m = let e : m ≡ 0 + m = omega arith in ap (λ (k : ℕ). replicate k 0) e
-append-zeros (suc n) m = let e : suc (n + m) ≡ suc n + m = omega arith in ap (λ (zs : List ℕ). 0 ∷ zs) (append-zeros n m) ∙ ap (λ (k : ℕ). replicate k 0) e
-
 pub zeros_at : (at len size : ℕ) → at + len ≤ size → bytes_at at len (replicate size 0) ≡ replicate len 0
-zeros_at at len size h = search (rules, drop-zeros, take-zeros)
+zeros_at at len size h = search (rules, drop-replicate, take-replicate)
 
 pub zeros_with : (at len size : ℕ) → at + len ≤ size → with_bytes at (replicate len 0) (replicate size 0) ≡ replicate size 0
-zeros_with at len size h = search (rules, length-replicate, take-zeros, drop-zeros, append-zeros)
+zeros_with at len size h = search (rules, length-replicate, take-replicate, drop-replicate, replicate-append-replicate)
 
 -- slots are numbered from n on
 pub numbered_so : (n : ℕ) (slots : List Slot) → AreNumbered n (places_from n slots)
@@ -62,11 +49,6 @@ new-sound size_in size_out n (slot ∷ slots) (seat ∷ seats) new z i =
     (new-sound size_in size_out (suc n) slots seats (All-tail (λ slot. IsNew slot.core) slot slots new) z.1 i.2)
 new-sound size_in size_out n _ _ new z i = absurd z
 
-new-count : (slots : List Slot) (seats : List Seat) → AllZip IsNewSeat slots seats → length seats ≡ length slots
-new-count [] [] z = refl
-new-count (slot ∷ slots) (seat ∷ seats) z = ap suc (new-count slots seats z.1)
-new-count _ _ z = absurd z
-
 pub new_setups : (slots : List Slot) (seats : List Seat) → AllZip IsNewSeat slots seats → map (λ s. setup_of s.core) seats ≡ map (λ slot. setup_of slot.core) slots
 new_setups [] [] z = refl
 new_setups (slot ∷ slots) (seat ∷ seats) z = ap₂ (λ (t : Setup) (ts : List Setup). t ∷ ts) (ap setup_of z.0.core_is) (new_setups slots seats z.1)
@@ -90,5 +72,5 @@ pub new_sound : (size_in size_out : ℕ) (slots : List Slot) (v : ImagesView) �
     → v.input ≡ replicate size_in 0 → v.output ≡ replicate size_out 0 → IsSound v
 new_sound size_in size_out slots v none new z now out = record {
   seats = rw (now, out, length-replicate {A = ℕ} size_in 0, length-replicate {A = ℕ} size_out 0) (new-sound size_in size_out 1 slots v.seats new z (plan_inside (plan_of size_in size_out slots) none));
-  most = rw (new-count slots v.seats z ∙ sym (places_count 1 slots)) (few_places (plan_of size_in size_out slots) none);
+  most = rw (AllZip-long IsNewSeat slots v.seats z ∙ sym (places_count 1 slots)) (few_places (plan_of size_in size_out slots) none);
 }

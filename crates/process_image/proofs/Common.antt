@@ -1,10 +1,10 @@
 -- The names that more than one file of these proofs cites, passed on from one place. Declares nothing.
 pub use Rattle.end_core.proofs.Either.{set_answers, setup_is}
 pub use Rattle.end_core.specs.Core.{IsAtRest, setup_of}
-pub use Rattle.end_core.specs.Standing.{Answers, IsAfter, IsNew, Shows}
+pub use Rattle.end_core.specs.Standing.{Answers, IsAfter, IsNew}
 pub use Rattle.end_core.specs.declared.one_end.Core.{Core}
 pub use Rattle.end_model.specs.Deed.{Deed, is_empty}
-pub use Rattle.end_model.specs.Readiness.{held, offer, state_of}
+pub use Rattle.end_model.specs.Readiness.{held, offer}
 pub use Rattle.end_model.specs.Runs.{IsProper, IsRun, IsSetting, profile_of}
 pub use Rattle.end_model.specs.Setup.{OfMaster, OfSlave, Setup, piece_len, receives, sends}
 pub use Rattle.end_model.specs.Step.{after_phase, download_frame, goes_on, master_answer, run, sealed, sent_on, slave_answer, step, with_data, with_piece}
@@ -28,11 +28,11 @@ pub use Rattle.process_image.specs.Own.{Unwritten, WritesFit, at_samples, distin
 pub use Rattle.process_image.specs.Places.{AreNumbered, Place, Plan, lie_inside, numbered, overlap, share, spans_of}
 pub use Rattle.process_image.specs.Ran.{image_format, image_reporting}
 pub use Rattle.process_image.specs.Report.{IsEndOf, IsImageReport, IsPlanOf, IsSlotOf, end_terms, entry_line, event_in, event_lines, last_lines, lines_of_events, move_line, report_of}
-pub use Rattle.process_image.specs.SlotLines.{AddsLine, AreLinesOf, IsLineOf, Tells, TellsEach, entry_told, told_line}
+pub use Rattle.process_image.specs.SlotLines.{AreLinesOf, IsLineOf, entry_told, told_line}
 pub use Rattle.process_image.specs.Sound.{IsNewSeat, IsSound, IsSoundSeat, MaySend}
-pub use Rattle.process_image.specs.Standing.{AnswersReset, AnswersSample, AnswersTick, Follows, HasSlot, HoldsFrames, ImagesView, IsBeside, IsSeatOf, ShowsAt, ShowsFrames, StandsFor, setups_of, told}
-pub use Rattle.process_image.specs.Steps.{Does, DoesEach, IsSampleStep, IsSeatStep, IsTickStep, Makes, SeatStep, after_steps, answer_in, did_in, seat_contents, told_by, with_sent}
-pub use Rattle.process_image.specs.Telling.{DoesEvent, FitsImages, RunStands, RunView, TellsEvent}
+pub use Rattle.process_image.specs.Standing.{AnswersReset, AnswersSample, AnswersTick, Follows, HasSlot, HoldsFrames, ImagesView, IsBeside, IsSeatOf, Keeps, ShowsAt, ShowsFrames, StandsFor, setups_of, told}
+pub use Rattle.process_image.specs.Steps.{Does, DoesEach, IsSampleStep, IsSeatStep, IsStepOf, Makes, SeatStep, after_steps, did_in, seat_contents, told_by, with_sent}
+pub use Rattle.process_image.specs.Telling.{DoesEvent, FitsImages, IsDidOf, RunStands, RunView, TellsEvent, slot_in}
 pub use Rattle.process_image.specs.Tested.{Fit, IsApart, IsTested, and_placed, is_placed, tested_by}
 pub use Rattle.process_image.specs.declared.event.ImageEvent.{ImageEvent}
 pub use Rattle.process_image.specs.declared.header.SlotHeader.{SlotHeader}
@@ -51,7 +51,7 @@ pub use Rattle.std.proofs.lemmas.Bool.Decides.{nat_tests}
 pub use Rattle.std.proofs.lemmas.Grind.{common_steps}
 pub use Rattle.std.proofs.lemmas.List.{append-nil, length-append, length-replicate, length-set, length-take, length-take-le, reverse-append, take_all, take_more}
 pub use Rattle.std.proofs.lemmas.List.Elements.{All-cons, All-get_or, All-head, All-nil, All-push, All-tail}
-pub use Rattle.std.proofs.lemmas.Option.{get_or_from_slice_get, slice_get-get_or, slice_get-map, slice_get_read, slice_get_within}
+pub use Rattle.std.proofs.lemmas.Option.{get_or_from_slice_get, slice_get-map, slice_get_read, slice_get_within}
 pub use Rattle.std.proofs.lemmas.Slice.Zip.{AllZip-long, AllZip-right, all_zipped_more}
 pub use Rattle.std.proofs.Math.Seq.{map-set_same}
 pub use Rattle.std.specs.Cmp.Lexicographic.{pointwise, same_text}

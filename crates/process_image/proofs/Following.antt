@@ -1,9 +1,9 @@
 -- What stood for some calls stands for one more.
-use Rattle.process_image.proofs.Common.{AllZip, Core, Deed, ImageEvent, ImagesView, IsAfter, IsRun, IsSeatOf, IsSeatStep, Makes, Move, Place, Plan, Seat, SeatStep, Setup, StandsFor, after_steps, and_move, contents, deeds, frame_len, frame_of, input, is_empty, last_frame, length-replicate, move_in, moves, run, sampled, sends, setup_is, setup_of, step}
+use Rattle.process_image.proofs.Common.{All-cons, All-nil, AllZip, Core, Deed, ImageEvent, ImagesView, IsAfter, IsRun, IsSeatOf, IsSeatStep, Makes, Move, Place, Plan, Seat, SeatStep, Setup, StandsFor, after_steps, and_move, contents, deeds, frame_len, frame_of, input, is_empty, last_frame, length-replicate, move_in, moves, run, sampled, sends, setup_is, setup_of, step}
 use Rattle.std.proofs.Common.{◌≡◌, ℕ, ◌==◌, List, [], ◌∷◌, map, length, replicate, Option, Some, None, Bool, false, if◌then◌else◌, refl, sym, ap, subst, ◌∙◌, arith, rules}
 use Rattle.end_model.proofs.Runs.{run_append}
 use Rattle.process_image.proofs.Apart.{plan_apart}
-use Rattle.process_image.proofs.Giving.{Gives, len_at, steps_give}
+use Rattle.process_image.proofs.Giving.{AreLong, Gives, len_at, steps_give}
 use Rattle.process_image.proofs.SentLength.{next_long}
 use Rattle.process_image.proofs.Seats.{some_frame}
 
@@ -23,9 +23,9 @@ deeds_same size p calls call h = ap (λ (o : Option Move). run p.setup (and_move
 last-by : (p : Place) (y : Deed) (e : List Deed) (b : Bool) → is_empty y.sent ≡ b → IsRun p.setup (y ∷ e) → length (last_frame p.setup e) ≡ len_at p → length (if b then last_frame p.setup e else y.sent) ≡ len_at p
 last-by p y e b h k l = search (rules, next_long)
 
-pub last_long : (p : Place) (e : List Deed) → IsRun p.setup e → length (last_frame p.setup e) ≡ len_at p
-last_long p [] r = length-replicate (len_at p) 0
-last_long p (y ∷ e) r = last-by p y e (is_empty y.sent) refl r (last_long p e r.1)
+last-long : (p : Place) (e : List Deed) → IsRun p.setup e → length (last_frame p.setup e) ≡ len_at p
+last-long p [] r = length-replicate (len_at p) 0
+last-long p (y ∷ e) r = last-by p y e (is_empty y.sent) refl r (last-long p e r.1)
 
 unsent : (len : ℕ) (sent before : List ℕ) → (0 == len) ≡ false → sent ≡ [] → before ≡ (if length sent == len then sent else before)
 unsent len sent before n h = let q : (length sent == len) ≡ false = ap (λ (f : List ℕ). length f == len) h ∙ n in sym (ap (λ b. if b then sent else before) q)
@@ -76,8 +76,7 @@ part-gives size calls call p x part =
       at_is = part.before.at_out_is;
       len_is = n;
       frame_is = frame-more size p calls call x (move_in size p calls call) refl (made-by size calls call p x part) part.before.end_is n;
-      old_long = last_long p (deeds size p calls) (reached p.setup x.old.core (deeds size p calls) part.before.end_is);
-      new_long = last_long p (deeds size p (call ∷ calls)) (reached p.setup x.new.core (deeds size p (call ∷ calls)) (part-after size calls call p x part));
+      new_long = last-long p (deeds size p (call ∷ calls)) (reached p.setup x.new.core (deeds size p (call ∷ calls)) (part-after size calls call p x part));
     }
 
 -- so at all slots
@@ -93,6 +92,13 @@ gives-more size calls call [] [] h = tt
 gives-more size calls call (p ∷ places) (x ∷ xs) h = (part-gives size calls call p x h.0, gives-more size calls call places xs h.1)
 gives-more size calls call _ _ h = absurd h
 
+-- the frames of slots have the lengths of theirs
+pub seats_long : (size : ℕ) (calls : List ImageEvent) (places : List Place) (seats : List Seat) → AllZip (IsSeatOf size calls) places seats → AreLong (frame_of size calls) places
+seats_long size calls [] [] z = All-nil (λ p. length (frame_of size calls p) ≡ len_at p)
+seats_long size calls (p ∷ places) (seat ∷ seats) z =
+    All-cons (λ p. length (frame_of size calls p) ≡ len_at p) p places (last-long p (deeds size p calls) (reached p.setup seat.core (deeds size p calls) z.0.end_is)) (seats_long size calls places seats z.1)
+seats_long size calls _ _ z = absurd z
+
 -- images after the steps of all slots
 pub stands_more : (plan : Plan) (old new : ImagesView) (calls : List ImageEvent) (call : ImageEvent) (xs : List SeatStep) → StandsFor plan old calls → AllZip (IsPart plan.size_in calls call) plan.places xs
     → map (λ x. x.new) xs ≡ new.seats → new.input ≡ input plan.size_in (call ∷ calls) → new.output ≡ after_steps xs old.output → StandsFor plan new (call ∷ calls)
@@ -103,5 +109,5 @@ stands_more plan old new calls call xs h parts seats now out = record {
   output_is = out
       ∙ ap (after_steps xs) h.output_is
       ∙ steps_give (frame_of plan.size_in calls) (frame_of plan.size_in (call ∷ calls)) plan.size_out plan.places xs (replicate plan.size_out 0)
-      (gives-more plan.size_in calls call plan.places xs parts) (plan_apart plan h.made.no_fault) (length-replicate plan.size_out 0);
+      (gives-more plan.size_in calls call plan.places xs parts) (plan_apart plan h.made.no_fault) (seats_long plan.size_in calls plan.places old.seats h.slots) (length-replicate plan.size_out 0);
 }

@@ -1,12 +1,13 @@
 -- What an output image has at each slot, and beside all slots.
-use Rattle.process_image.proofs.Common.{All-cons, All-head, All-nil, All-tail, AllZip, HoldsFrames, ImageEvent, ImagesView, IsBeside, IsSeatOf, Place, Plan, Seat, ShowsFrames, StandsFor, WritesFit, bytes_at, common_steps, contents, deeds, frame_of, input, length-replicate, output, share, spans_of, with_bytes, with_frames}
-use Rattle.std.proofs.Common.{◌≡◌, ◌≤◌, ◌+◌, ◌-◌, ◌⊎◌, ℕ, zero, suc, List, [], ◌∷◌, ◌++◌, length, take, drop, All, false, refl, sym, ap, ◌∙◌, arith, rules}
+use Rattle.process_image.proofs.Common.{All-cons, All-head, All-nil, All-tail, HoldsFrames, ImageEvent, ImagesView, IsBeside, Place, Plan, ShowsFrames, StandsFor, WritesFit, bytes_at, common_steps, contents, input, length-replicate, output, share, spans_of, with_bytes, with_frames}
+use Rattle.std.proofs.Common.{◌≡◌, ◌≤◌, ◌+◌, ◌-◌, ◌⊎◌, ℕ, zero, suc, List, [], ◌∷◌, ◌++◌, length, take, drop, All, false, refl, sym, ap, subst, ◌∙◌, arith, rules}
+use Rattle.std.proofs.lemmas.List.{drop-drop, drop_at}
 use Rattle.process_image.specs.declared.event.ImageEvent.TheVariants as event
 use Rattle.process_image.proofs.Apart.{plan_apart}
 use Rattle.process_image.proofs.Beginning.{zeros_at}
-use Rattle.process_image.proofs.Following.{reached, last_long}
-use Rattle.process_image.proofs.Giving.{len_at, IsAway, AwayFrom, AreApart}
-use Rattle.process_image.proofs.WithBytes.{later, drop_none, same_size}
+use Rattle.process_image.proofs.Following.{seats_long}
+use Rattle.process_image.proofs.Giving.{len_at, IsAway, AwayFrom, AreApart, AreLong, frames_long}
+use Rattle.process_image.proofs.WithBytes.{later, same_size}
 
 -- so many bytes from a place on, said by their number
 bytes-are : (at len : ℕ) (image : List ℕ) → bytes_at at len image ≡ take len (drop at image)
@@ -26,10 +27,11 @@ stay_before (suc at) len _ f _ h inside = absurd (omega arith)
 
 -- and those behind them
 drop-past : (at : ℕ) (f image : List ℕ) → length f ≤ at → drop at (f ++ drop (length f) image) ≡ drop at image
-drop-past at [] image h = refl
-drop-past zero (b ∷ f) image h = absurd (omega arith)
-drop-past (suc at) (b ∷ f) [] h = ap (λ (rest : List ℕ). drop at (f ++ rest)) (sym (drop_none (length f))) ∙ drop-past at f [] (omega arith) ∙ drop_none at
-drop-past (suc at) (b ∷ f) (x ∷ image) h = drop-past at f image (omega arith)
+drop-past at f image h =
+    let e : length f + (at - length f) ≡ at = omega arith in
+    let there : drop (length f) (f ++ drop (length f) image) ≡ drop (length f) image = drop_at f (drop (length f) image) (length f) refl in
+    subst (λ (n : ℕ). drop n (f ++ drop (length f) image) ≡ drop n image) e
+    (sym (drop-drop (at - length f) (length f) (f ++ drop (length f) image)) ∙ ap (drop (at - length f)) there ∙ drop-drop (at - length f) (length f) image)
 
 pub stay_behind : (at b : ℕ) (f image : List ℕ) → b + length f ≤ at → b + length f ≤ length image → drop at (with_bytes b f image) ≡ drop at image
 stay_behind at b f image h k = grind (arith, common_steps, drop-past)
@@ -37,17 +39,6 @@ stay_behind at b f image h k = grind (arith, common_steps, drop-past)
 -- bytes beside those that were written stay
 pub stays : (at len b : ℕ) (f image : List ℕ) → ((at + len ≤ b) ⊎ (b + length f ≤ at)) → b + length f ≤ length image → bytes_at at len (with_bytes b f image) ≡ bytes_at at len image
 stays at len b f image h k = search (rules, stay_before, stay_behind)
-
--- frames as long as those that their ends send
-abbrev AreLong : (Place → List ℕ) → List Place → Type 0
-AreLong frame places = All (λ p. length (frame p) ≡ len_at p) places
-
-frames-long : (frame : Place → List ℕ) (size : ℕ) (places : List Place) (image : List ℕ) → AreApart size places → AreLong frame places → length image ≡ size → length (with_frames frame places image) ≡ size
-frames-long frame size [] image apart long n = n
-frames-long frame size (p ∷ places) image apart long n =
-    let e : length (frame p) ≡ len_at p = All-head (λ p. length (frame p) ≡ len_at p) p places long in
-    let m : length (with_frames frame places image) ≡ size = frames-long frame size places image apart.2 (All-tail (λ p. length (frame p) ≡ len_at p) p places long) n in
-    same_size p.at_out (frame p) (with_frames frame places image) (rw (e, m) apart.0) ∙ m
 
 -- the frame of a slot in an image
 abbrev Has : (Place → List ℕ) → List ℕ → Place → Type 0
@@ -71,7 +62,7 @@ frames_there frame size (p ∷ places) image apart long n =
     let e : length (frame p) ≡ len_at p = All-head (λ p. length (frame p) ≡ len_at p) p places long in
     let rest : List ℕ = with_frames frame places image in
     let more : AreLong frame places = All-tail (λ p. length (frame p) ≡ len_at p) p places long in
-    let m : length rest ≡ size = frames-long frame size places image apart.2 more n in
+    let m : length rest ≡ size = frames_long frame size places image apart.2 more n in
     let inside : p.at_out + length (frame p) ≤ length rest = rw (e, m) apart.0 in
     All-cons (Has frame (with_frames frame (p ∷ places) image)) p places
     (bytes-are p.at_out (len_at p) (with_bytes p.at_out (frame p) rest) ∙ ap (λ (k : ℕ). take k (drop p.at_out (with_bytes p.at_out (frame p) rest))) (sym e) ∙ there p.at_out (frame p) rest inside)
@@ -88,19 +79,13 @@ beside_all frame size (p ∷ places) image at len apart long n beside =
     let e : length (frame p) ≡ len_at p = All-head (λ p. length (frame p) ≡ len_at p) p places long in
     let rest : List ℕ = with_frames frame places image in
     let more : AreLong frame places = All-tail (λ p. length (frame p) ≡ len_at p) p places long in
-    let m : length rest ≡ size = frames-long frame size places image apart.2 more n in
+    let m : length rest ≡ size = frames_long frame size places image apart.2 more n in
     let one : (at + len ≤ p.at_out) ⊎ (p.at_out + length (frame p) ≤ at) = rw e (unshared at len p.at_out (len_at p) (All-head (IsBeside at len) p places beside)) in
     stays at len p.at_out (frame p) rest one (rw (e, m) apart.0) ∙ beside_all frame size places image at len apart.2 more n (All-tail (IsBeside at len) p places beside)
 
 -- so of images that stand for calls
-seats-long : (size : ℕ) (calls : List ImageEvent) (places : List Place) (seats : List Seat) → AllZip (IsSeatOf size calls) places seats → AreLong (frame_of size calls) places
-seats-long size calls [] [] z = All-nil (λ p. length (frame_of size calls p) ≡ len_at p)
-seats-long size calls (p ∷ places) (seat ∷ seats) z =
-    All-cons (λ p. length (frame_of size calls p) ≡ len_at p) p places (last_long p (deeds size p calls) (reached p.setup seat.core (deeds size p calls) z.0.end_is)) (seats-long size calls places seats z.1)
-seats-long size calls _ _ z = absurd z
-
 pub holds_frames : (plan : Plan) (v : ImagesView) (calls : List ImageEvent) → StandsFor plan v calls → HoldsFrames plan calls (output plan calls)
-holds_frames plan v calls h = search (rules, plan_apart, seats-long, length-replicate, frames_there, beside_all, zeros_at)
+holds_frames plan v calls h = search (rules, plan_apart, seats_long, length-replicate, frames_there, beside_all, zeros_at)
 
 pub shows_frames : (v : ImagesView) (shown : List ℕ) → shown ≡ v.output → ShowsFrames v shown
 shows_frames v shown e = record { shows = λ plan calls h. rw (e, h.output_is) (holds_frames plan v calls h) }

@@ -1,6 +1,6 @@
 -- The output image while slots send, one after another.
-use Rattle.process_image.proofs.Common.{AllZip, Place, SeatStep, after_steps, spans_of, with_bytes, with_frames, with_sent}
-use Rattle.std.proofs.Common.{◌≡◌, ℕ, ◌+◌, ◌≤◌, ◌⊎◌, ◌==◌, List, [], ◌∷◌, length, Bool, if◌then◌else◌, refl, sym, ap, ◌∙◌, rules}
+use Rattle.process_image.proofs.Common.{All-head, All-tail, AllZip, Place, SeatStep, after_steps, spans_of, with_bytes, with_frames, with_sent}
+use Rattle.std.proofs.Common.{◌≡◌, ℕ, ◌+◌, ◌≤◌, ◌⊎◌, ◌==◌, List, [], ◌∷◌, length, All, Bool, if◌then◌else◌, refl, sym, ap, ◌∙◌, rules}
 use Rattle.process_image.proofs.WithBytes.{again, behind, same_size}
 
 -- the bytes of a frame that the end of a slot sends
@@ -25,7 +25,6 @@ pub record Gives (frame frame' : Place → List ℕ) (p : Place) (x : SeatStep) 
   pub at_is : x.old.at_out ≡ p.at_out
   pub len_is : x.old.len_out ≡ len_at p
   pub frame_is : frame' p ≡ (if length x.sent == x.old.len_out then x.sent else frame p)
-  pub old_long : length (frame p) ≡ len_at p
   pub new_long : length (frame' p) ≡ len_at p
 
 -- one slot
@@ -54,27 +53,31 @@ steps-away frame frame' p f size (q ∷ places) (x ∷ xs) image g away apart e 
     ap (after_steps xs) one ∙ steps-away frame frame' p f size places xs (with_sent x.old x.sent image) g.1 away.1 apart.2 e inside n'
 steps-away frame frame' p f size _ _ image g away apart e inside n = absurd g
 
-zip-size : (frame frame' : Place → List ℕ) (size : ℕ) (places : List Place) (xs : List SeatStep) (image : List ℕ) → AllZip (Gives frame frame') places xs → AreApart size places → length image ≡ size
-    → length (with_frames frame places image) ≡ size
-zip-size frame frame' size [] xs image g apart n = n
-zip-size frame frame' size (p ∷ places) [] image g apart n = absurd g
-zip-size frame frame' size (p ∷ places) (x ∷ xs) image g apart n =
-    let m = zip-size frame frame' size places xs image g.1 apart.2 n in
-    same_size p.at_out (frame p) (with_frames frame places image) (rw (g.0.old_long, m) apart.0) ∙ m
+-- frames as long as those that their ends send
+abbrev pub AreLong : (Place → List ℕ) → List Place → Type 0
+AreLong frame places = All (λ p. length (frame p) ≡ len_at p) places
+
+pub frames_long : (frame : Place → List ℕ) (size : ℕ) (places : List Place) (image : List ℕ) → AreApart size places → AreLong frame places → length image ≡ size → length (with_frames frame places image) ≡ size
+frames_long frame size [] image apart long n = n
+frames_long frame size (p ∷ places) image apart long n =
+    let e : length (frame p) ≡ len_at p = All-head (λ p. length (frame p) ≡ len_at p) p places long in
+    let m : length (with_frames frame places image) ≡ size = frames_long frame size places image apart.2 (All-tail (λ p. length (frame p) ≡ len_at p) p places long) n in
+    same_size p.at_out (frame p) (with_frames frame places image) (rw (e, m) apart.0) ∙ m
 
 -- after the steps of all slots the image has their new frames
-pub steps_give : (frame frame' : Place → List ℕ) (size : ℕ) (places : List Place) (xs : List SeatStep) (image : List ℕ) → AllZip (Gives frame frame') places xs → AreApart size places → length image ≡ size
+pub steps_give : (frame frame' : Place → List ℕ) (size : ℕ) (places : List Place) (xs : List SeatStep) (image : List ℕ) → AllZip (Gives frame frame') places xs → AreApart size places → AreLong frame places → length image ≡ size
     → after_steps xs (with_frames frame places image) ≡ with_frames frame' places image
-steps_give frame frame' size [] [] image g apart n = refl
-steps_give frame frame' size (p ∷ places) (x ∷ xs) image g apart n =
+steps_give frame frame' size [] [] image g apart long n = refl
+steps_give frame frame' size (p ∷ places) (x ∷ xs) image g apart long n =
+    let more : AreLong frame places = All-tail (λ p. length (frame p) ≡ len_at p) p places long in
     let rest : List ℕ = with_frames frame places image in
-    let m : length rest ≡ size = zip-size frame frame' size places xs image g.1 apart.2 n in
+    let m : length rest ≡ size = frames_long frame size places image apart.2 more n in
     let inside : x.old.at_out + x.old.len_out ≤ length rest = rw (g.0.at_is, g.0.len_is, m) apart.0 in
     let one : with_sent x.old x.sent (with_bytes x.old.at_out (frame p) rest) ≡ with_bytes x.old.at_out (if length x.sent == x.old.len_out then x.sent else frame p) rest =
-    put-by x.old.at_out x.old.len_out x.sent (frame p) rest (length x.sent == x.old.len_out) refl (g.0.old_long ∙ sym g.0.len_is) inside
+    put-by x.old.at_out x.old.len_out x.sent (frame p) rest (length x.sent == x.old.len_out) refl (All-head (λ p. length (frame p) ≡ len_at p) p places long ∙ sym g.0.len_is) inside
     in
     let here : with_sent x.old x.sent (with_bytes p.at_out (frame p) rest) ≡ with_bytes p.at_out (frame' p) rest = search (rules, with_bytes) in
     ap (after_steps xs) here
     ∙ steps-away frame frame' p (frame' p) size places xs rest g.1 apart.1 apart.2 g.0.new_long apart.0 m
-    ∙ ap (with_bytes p.at_out (frame' p)) (steps_give frame frame' size places xs image g.1 apart.2 n)
-steps_give frame frame' size _ _ image g apart n = absurd g
+    ∙ ap (with_bytes p.at_out (frame' p)) (steps_give frame frame' size places xs image g.1 apart.2 more n)
+steps_give frame frame' size _ _ image g apart long n = absurd g

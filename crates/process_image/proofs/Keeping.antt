@@ -1,16 +1,20 @@
 -- What stays when all slots do their part.
-use Rattle.process_image.proofs.Common.{All-cons, All-head, All-nil, All-tail, Did, DoesEach, ImagesView, IsSampleStep, IsSeatStep, IsSound, IsSoundSeat, IsTickStep, Seat, SeatStep, Setup, common_steps, did_in, frame_len, receives, sends, setup_of, told_by}
-use Rattle.std.proofs.Common.{◌≡◌, ◌≤◌, ℕ, List, [], ◌∷◌, map, length, take, drop, ◌++◌, Option, All, refl, sym, ap, ap₂, subst, ◌∙◌, arith}
+use Rattle.process_image.proofs.Common.{All-cons, All-head, All-nil, All-tail, DoesEach, ImagesView, IsAtRest, IsSeatStep, IsSound, IsSoundSeat, Seat, SeatStep, Setup, common_steps, frame_len, receives, sends, setup_of}
+use Rattle.std.proofs.Common.{◌≡◌, ◌≤◌, ℕ, List, [], ◌∷◌, map, length, take, drop, ◌++◌, All, refl, sym, ap, ap₂, subst, ◌∙◌, arith}
 
--- a step leaves a slot sound
-step-sound : (si so : ℕ) (x : SeatStep) → IsSoundSeat si so x.old → IsSeatStep x → IsSoundSeat si so x.new
-step-sound si so x s q = record {
-  rest = q.rest;
-  seen_len = q.seen_len ∙ s.seen_len ∙ ap (λ (t : Setup). frame_len (receives t)) (sym q.setup);
-  len_out_is = q.len_out_is ∙ s.len_out_is ∙ ap (λ (t : Setup). frame_len (sends t)) (sym q.setup);
-  inside_in = rw (q.at_in_is, q.seen_len) s.inside_in;
-  inside_out = rw (q.at_out_is, q.len_out_is) s.inside_out;
+-- a slot stays sound with another end that is set alike
+pub kept_sound : (si so : ℕ) (old new : Seat) → IsSoundSeat si so old → new.at_in ≡ old.at_in → new.at_out ≡ old.at_out → new.len_out ≡ old.len_out → length new.seen ≡ length old.seen → setup_of new.core ≡ setup_of old.core
+    → IsAtRest new.core → IsSoundSeat si so new
+kept_sound si so old new s at_in at_out len_out seen setup rest = record {
+  rest = rest;
+  seen_len = seen ∙ s.seen_len ∙ ap (λ (t : Setup). frame_len (receives t)) (sym setup);
+  len_out_is = len_out ∙ s.len_out_is ∙ ap (λ (t : Setup). frame_len (sends t)) (sym setup);
+  inside_in = rw (at_in, seen) s.inside_in;
+  inside_out = rw (at_out, len_out) s.inside_out;
 }
+
+step-sound : (si so : ℕ) (x : SeatStep) → IsSoundSeat si so x.old → IsSeatStep x → IsSoundSeat si so x.new
+step-sound si so x s q = kept_sound si so x.old x.new s q.at_in_is q.at_out_is q.len_out_is q.seen_len q.setup q.rest
 
 steps-sound : (Q : SeatStep → Type 0) (si so : ℕ) (xs : List SeatStep) → ((x : SeatStep) → Q x → IsSeatStep x) → All Q xs → All (IsSoundSeat si so) (map (λ x. x.old) xs) → All (IsSoundSeat si so) (map (λ x. x.new) xs)
 steps-sound Q si so [] is q s = All-nil (IsSoundSeat si so)
@@ -43,15 +47,6 @@ does_count Q tell old before new after told d = ap length (sym d.new_are) ∙ st
 -- a list that was written through a slice of all of it
 pub written_back : {A : Type 0} (xs ys : List A) (n : ℕ) → n ≡ length ys → length xs ≡ length ys → take n (xs ++ drop (length xs) ys) ≡ xs
 written_back xs ys n h e = grind (arith, common_steps)
-
--- the same, of the lists that are at hand
-pub sampled_alike : (input input' : List ℕ) (old old' : List Seat) (before before' : List ℕ) (new : List Seat) (after : List ℕ) (told : List (Option Did)) → DoesEach (IsSampleStep input) told_by old before new after told
-    → input ≡ input' → old ≡ old' → before ≡ before' → DoesEach (IsSampleStep input') told_by old' before' new after told
-sampled_alike input input' old old' before before' new after told h k l m = grind arith
-
-pub ticked_alike : (old old' : List Seat) (before before' : List ℕ) (new : List Seat) (after : List ℕ) (dids : List Did) → DoesEach IsTickStep did_in old before new after dids → old ≡ old' → before ≡ before'
-    → DoesEach IsTickStep did_in old' before' new after dids
-ticked_alike old old' before before' new after dids h k l = grind arith
 
 -- images stay sound
 pub images_sound : {T : Type 0} (Q : SeatStep → Type 0) (tell : SeatStep → T) (v : ImagesView) (new : List Seat) (after : List ℕ) (told : List T) → ((x : SeatStep) → Q x → IsSeatStep x) → IsSound v

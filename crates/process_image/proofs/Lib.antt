@@ -7,7 +7,6 @@ pub mod Faults
 pub mod Following
 pub mod Frames
 pub mod Giving
-pub mod Headers
 pub mod ImageText
 pub mod Keeping
 pub mod Looping

@@ -1,11 +1,10 @@
 -- A call that is a move of one slot, or of none.
-use Rattle.process_image.proofs.Common.{All-head, All-tail, AllZip, AreNumbered, Core, Did, Follows, ImageEvent, ImagesView, IsAtRest, IsSeatOf, IsSeatStep, IsSoundSeat, Move, Place, Seat, SeatStep, after_steps, contents, if_named, input, move_in, nat_tests, sampled, setup_of, with_bytes, with_sent}
+use Rattle.process_image.proofs.Common.{All-head, All-tail, AllZip, AreNumbered, Core, Did, Follows, ImageEvent, ImagesView, IsSeatOf, IsSoundSeat, IsStepOf, Move, Place, Seat, SeatStep, after_steps, contents, if_named, input, move_in, nat_tests, sampled, with_bytes, with_sent}
 use Rattle.std.proofs.Common.{◌≡◌, ◌<◌, ℕ, zero, suc, ◌+◌, ◌==◌, List, [], ◌∷◌, map, slice_get, slice_set, All, Some, None, true, false, if◌then◌else◌, refl, sym, ap, subst, ◌∙◌, arith}
 use Rattle.param_load.specs.declared.entry.Move.TheVariants as move
-use Rattle.end_core.specs.Standing as end_core
 use Rattle.process_image.specs.declared.event.ImageEvent.TheVariants as event
 use Rattle.process_image.proofs.Following.{IsPart, stands_more}
-use Rattle.process_image.proofs.Seats.{stays, still}
+use Rattle.process_image.proofs.Seats.{Moved, named_step, stays, step_to, still, still_step}
 
 -- a call after which the slots have seen what they saw before
 abbrev pub Unsampled : ℕ → List ImageEvent → ImageEvent → Type 0
@@ -15,7 +14,7 @@ still-part : (size si so : ℕ) (calls : List ImageEvent) (call : ImageEvent) (p
     → Unsampled size calls call → IsPart size calls call p (still seat)
 still-part size si so calls call p seat h s none same = record {
   before = h;
-  is = record { makes = (refl, refl); at_in_is = refl; at_out_is = refl; len_out_is = refl; seen_len = refl; setup = refl; rest = s.rest };
+  is = still_step si so seat s;
   what_is = sym none;
   seen_is = h.seen_is ∙ ap (contents p) (sym same);
   len_is = s.len_out_is;
@@ -58,32 +57,23 @@ one_moves (suc k) (seat ∷ seats) x = still seat ∷ one_moves k seats x
 abbrev pub Names : ImageEvent → ℕ → Move → Type 0
 Names call slot what = (size : ℕ) (p : Place) (calls : List ImageEvent) → move_in size p calls call ≡ if_named slot p what
 
-other : (slot : ℕ) (p : Place) (what : Move) (n : ℕ) → p.number ≡ n → slot < n → if_named slot p what ≡ None
-other slot p what n e h = let q : (slot == p.number) ≡ false = grind (arith, nat_tests) in ap (λ b. if b then Some what else None) q
+pub unnamed : (slot : ℕ) (p : Place) (what : Move) (n : ℕ) → p.number ≡ n → (slot ≡ n → ⊥) → if_named slot p what ≡ None
+unnamed slot p what n e h = let q : (slot == p.number) ≡ false = grind (arith, nat_tests) in ap (λ b. if b then Some what else None) q
 
-before-it : (slot : ℕ) (p : Place) (what : Move) (n : ℕ) → p.number ≡ n → n < slot → if_named slot p what ≡ None
-before-it slot p what n e h = let q : (slot == p.number) ≡ false = grind (arith, nat_tests) in ap (λ b. if b then Some what else None) q
-
-it : (slot : ℕ) (p : Place) (what : Move) → p.number ≡ slot → if_named slot p what ≡ Some what
+pub it : (slot : ℕ) (p : Place) (what : Move) → p.number ≡ slot → if_named slot p what ≡ Some what
 it slot p what e = let q : (slot == p.number) ≡ true = grind (arith, nat_tests) in ap (λ b. if b then Some what else None) q
 
 later-parts : (size si so n slot : ℕ) (what : Move) (calls : List ImageEvent) (call : ImageEvent) (places : List Place) (seats : List Seat) → AllZip (IsSeatOf size calls) places seats
     → All (IsSoundSeat si so) seats → AreNumbered n places → slot < n → Names call slot what → Unsampled size calls call → AllZip (IsPart size calls call) places (map still seats)
 later-parts size si so n slot what calls call [] [] h s numbers late names same = tt
 later-parts size si so n slot what calls call (p ∷ places) (seat ∷ seats) h s numbers late names same = (
-  still-part size si so calls call p seat h.0 (All-head (IsSoundSeat si so) seat seats s) (names size p calls ∙ other slot p what n numbers.0 late) same,
+  still-part size si so calls call p seat h.0 (All-head (IsSoundSeat si so) seat seats s) (names size p calls ∙ unnamed slot p what n numbers.0 (λ is. omega arith)) same,
   later-parts size si so (suc n) slot what calls call places seats h.1 (All-tail (IsSoundSeat si so) seat seats s) numbers.1 (omega arith) names same,
 )
 later-parts size si so n slot what calls call _ _ h s numbers late names same = absurd h
 
--- the step of the slot that is named
-pub record IsNamedStep (what : Move) (x : SeatStep) : Type 0 where
-  pub is : IsSeatStep x
-  pub what_is : x.what ≡ Some what
-  pub seen_is : x.new.seen ≡ x.old.seen
-
 named-part : (size si so slot : ℕ) (what : Move) (calls : List ImageEvent) (call : ImageEvent) (p : Place) (x : SeatStep) → IsSeatOf size calls p x.old → IsSoundSeat si so x.old → p.number ≡ slot
-    → IsNamedStep what x → Names call slot what → Unsampled size calls call → IsPart size calls call p x
+    → IsStepOf what x → Names call slot what → Unsampled size calls call → IsPart size calls call p x
 named-part size si so slot what calls call p x h s n x-is names same = record {
   before = h;
   is = x-is.is;
@@ -93,7 +83,7 @@ named-part size si so slot what calls call p x h s n x-is names same = record {
 }
 
 one-parts : (size si so n k slot : ℕ) (what : Move) (calls : List ImageEvent) (call : ImageEvent) (places : List Place) (seats : List Seat) (x : SeatStep) → AllZip (IsSeatOf size calls) places seats
-    → All (IsSoundSeat si so) seats → AreNumbered n places → slot ≡ n + k → slice_get seats k ≡ Some x.old → IsNamedStep what x → Names call slot what → Unsampled size calls call
+    → All (IsSoundSeat si so) seats → AreNumbered n places → slot ≡ n + k → slice_get seats k ≡ Some x.old → IsStepOf what x → Names call slot what → Unsampled size calls call
     → AllZip (IsPart size calls call) places (one_moves k seats x)
 one-parts size si so n k slot what calls call [] [] x h s numbers e at x-is names same = absurd (cc at)
 one-parts size si so n zero slot what calls call (p ∷ places) (seat ∷ seats) x h s numbers e at x-is names same =
@@ -102,7 +92,7 @@ one-parts size si so n zero slot what calls call (p ∷ places) (seat ∷ seats)
       later-parts size si so (suc n) slot what calls call places seats h.1 (All-tail (IsSoundSeat si so) seat seats s) numbers.1 (omega arith) names same,
     )
 one-parts size si so n (suc k) slot what calls call (p ∷ places) (seat ∷ seats) x h s numbers e at x-is names same = (
-  still-part size si so calls call p seat h.0 (All-head (IsSoundSeat si so) seat seats s) (names size p calls ∙ before-it slot p what n numbers.0 (omega arith)) same,
+  still-part size si so calls call p seat h.0 (All-head (IsSoundSeat si so) seat seats s) (names size p calls ∙ unnamed slot p what n numbers.0 (λ is. omega arith)) same,
   one-parts size si so (suc n) k slot what calls call places seats x h.1 (All-tail (IsSoundSeat si so) seat seats s) numbers.1 (omega arith) at x-is names same,
 )
 one-parts size si so n k slot what calls call _ _ x h s numbers e at x-is names same = absurd h
@@ -122,7 +112,7 @@ one-out si so (suc k) (seat ∷ seats) x image s at =
 
 -- one slot moves, and the input image stays
 pub one_follows : (si so k slot : ℕ) (what : Move) (call : ImageEvent) (old new : ImagesView) (x : SeatStep) → All (IsSoundSeat si so) old.seats → slot ≡ 1 + k → slice_get old.seats k ≡ Some x.old
-    → IsNamedStep what x → Names call slot what → ((size : ℕ) (calls : List ImageEvent) → Unsampled size calls call) → ((size : ℕ) (calls : List ImageEvent) → input size (call ∷ calls) ≡ input size calls)
+    → IsStepOf what x → Names call slot what → ((size : ℕ) (calls : List ImageEvent) → Unsampled size calls call) → ((size : ℕ) (calls : List ImageEvent) → input size (call ∷ calls) ≡ input size calls)
     → new.seats ≡ slice_set old.seats k x.new → new.input ≡ old.input → new.output ≡ with_sent x.old x.sent old.output → Follows old call new
 one_follows si so k slot what call old new x s e at x-is names same unwritten seats now out = record {
   stands = λ plan calls h.
@@ -131,26 +121,9 @@ one_follows si so k slot what call old new x s e at x-is names same unwritten se
       (one-new k old.seats x ∙ sym seats) (now ∙ h.input_is ∙ sym (unwritten plan.size_in calls)) (out ∙ one-out si so k old.seats x old.output s at);
 }
 
--- what a call made of the end of a slot
-pub record Moved (what : Move) (old : Seat) (end : Core) (did : Did) (sent : List ℕ) : Type 0 where
-  pub follows : end_core.Follows old.core what end
-  pub answers : end_core.Answers old.core what did sent
-  pub setup : setup_of end ≡ setup_of old.core
-  pub rest : IsAtRest end
-
-abbrev pub step_to : Move → Seat → Core → Did → List ℕ → SeatStep
-step_to what old end did sent = record { old = old; what = Some what; did = did; sent = sent; new = record old { core = end } }
-
-pub named_step : (what : Move) (old : Seat) (end : Core) (did : Did) (sent : List ℕ) → Moved what old end did sent → IsNamedStep what (step_to what old end did sent)
-named_step what old end did sent m = record {
-  is = record { makes = (m.follows, m.answers); at_in_is = refl; at_out_is = refl; len_out_is = refl; seen_len = refl; setup = m.setup; rest = m.rest };
-  what_is = refl;
-  seen_is = refl;
-}
-
 pub reset_follows : (si so k slot : ℕ) (old new : ImagesView) (seat : Seat) (end : Core) (did : Did) (sent : List ℕ) → All (IsSoundSeat si so) old.seats → slot ≡ 1 + k
     → slice_get old.seats k ≡ Some seat → Moved move.Local seat end did sent → new.seats ≡ slice_set old.seats k (record seat { core = end }) → new.input ≡ old.input
     → new.output ≡ with_sent seat sent old.output → Follows old (event.Reset slot) new
 reset_follows si so k slot old new seat end did sent s e at m seats now out =
-    one_follows si so k slot move.Local (event.Reset slot) old new (step_to move.Local seat end did sent) s e at (named_step move.Local seat end did sent m)
+    one_follows si so k slot move.Local (event.Reset slot) old new (step_to move.Local seat end seat.seen did sent) s e at (named_step move.Local seat end did sent m)
     (λ size p calls. refl) (λ size calls. refl) (λ size calls. refl) seats now out

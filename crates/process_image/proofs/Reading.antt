@@ -1,51 +1,55 @@
 -- What is shown of one slot.
-use Rattle.process_image.proofs.Common.{AnswersReset, Deed, Did, ImagesView, IsSeatOf, IsSoundSeat, Place, Seat, Setup, ShowsAt, bytes_at, deeds, entry_told, frame_len, frame_of, last_frame, numbered, output, sends, setup_is, setup_of, setups_of, told_line}
-use Rattle.std.proofs.Common.{◌≡◌, ℕ, suc, arith, Bool, true, false, List, [], slice_get, Option, Some, IfSome, option_map, sym, ap, subst, ◌∙◌}
+use Rattle.process_image.proofs.Common.{AnswersReset, Deed, Did, ImageEvent, ImagesView, IsSeatOf, IsSoundSeat, Place, Plan, Seat, Setup, ShowsAt, bytes_at, deeds, entry_told, frame_len, frame_of, last_frame, numbered, output, sends, setup_is, setup_of, setups_of, told_line}
+use Rattle.std.proofs.Common.{◌≡◌, ℕ, zero, suc, arith, Bool, true, false, List, [], All, Option, Some, IfSome, option_map, sym, ap, subst, ◌∙◌}
 use Rattle.std.specs.Prelude.{if◌then◌else◌}
 use Rattle.param_load.specs.declared.entry.Move.TheVariants as move
 use Rattle.end_core.specs.Standing as end_core
 use Rattle.process_image.proofs.Counts.{at_setup}
 use Rattle.process_image.proofs.Frames.{holds_frames}
 use Rattle.process_image.proofs.Giving.{len_at}
-use Rattle.process_image.proofs.Zips.{all_at, at_place}
+use Rattle.process_image.proofs.Zips.{all_at, at_number}
 
--- a word of the end of a slot at a place is that word of what it did
-pub shown_at : {X : Type 0} (v : ImagesView) (slot place : ℕ) (seat : Seat) (shown : X) (word : Setup → List Deed → X) → slot ≡ suc place → slice_get v.seats place ≡ Some seat
-    → end_core.Shows seat.core shown word → ShowsAt v slot shown word
-shown_at v slot place seat shown word n at s = record {
+-- a word of the end of a slot is that word of what it did
+pub shown_at : {X : Type 0} (v : ImagesView) (slot : ℕ) (seat : Seat) (shown : X) (word : Setup → List Deed → X) → numbered slot v.seats ≡ Some seat → end_core.Shows seat.core shown word → ShowsAt v slot shown word
+shown_at v slot seat shown word at s = record {
   shows = λ plan calls h.
-      let p = at_place (IsSeatOf plan.size_in calls) plan.places v.seats place seat h.slots at in
-      rw (n, p.is) (ap (λ x. Some x) (sym (s.shows p.there.setup (deeds plan.size_in p.there calls) p.holds.end_is)));
+      let p = at_number (IsSeatOf plan.size_in calls) plan.places v.seats slot seat h.slots at in
+      rw p.is (ap (λ x. Some x) (sym (s.shows p.there.setup (deeds plan.size_in p.there calls) p.holds.end_is)));
 }
 
 -- what the end of a slot did at a reset is what is told of it
-pub reset_answers : (v : ImagesView) (slot place : ℕ) (seat : Seat) (did : Did) (sent : List ℕ) → slot ≡ suc place → slice_get v.seats place ≡ Some seat → end_core.Answers seat.core move.Local did sent
-    → AnswersReset v slot did
-reset_answers v slot place seat did sent n at a = record {
+pub reset_answers : (v : ImagesView) (slot : ℕ) (seat : Seat) (did : Did) (sent : List ℕ) → numbered slot v.seats ≡ Some seat → end_core.Answers seat.core move.Local did sent → AnswersReset v slot did
+reset_answers v slot seat did sent at a = record {
   did = λ plan calls h.
-      let p = at_place (IsSeatOf plan.size_in calls) plan.places v.seats place seat h.slots at in
-      rw (n, p.is) (ap (λ (d : Did). Some d) (sym (a.did p.there.setup (deeds plan.size_in p.there calls) p.holds.end_is)));
+      let p = at_number (IsSeatOf plan.size_in calls) plan.places v.seats slot seat h.slots at in
+      rw p.is (ap (λ (d : Did). Some d) (sym (a.did p.there.setup (deeds plan.size_in p.there calls) p.holds.end_is)));
 }
 
 -- what is known of the setup of the end of a slot
-pub named_at : (v : ImagesView) (slot place : ℕ) (seat : Seat) (P : Setup → Type 0) → slot ≡ suc place → slice_get v.seats place ≡ Some seat → P (setup_of seat.core) → IfSome (numbered slot (setups_of v)) P
-named_at v slot place seat P n at h = rw n (subst (λ o. IfSome o P) (sym (at_setup v.seats place seat at)) h)
+pub named_at : (v : ImagesView) (slot : ℕ) (seat : Seat) (P : Setup → Type 0) → numbered slot v.seats ≡ Some seat → P (setup_of seat.core) → IfSome (numbered slot (setups_of v)) P
+named_at v zero seat P at h = absurd (cc at)
+named_at v (suc k) seat P at h = subst (λ o. IfSome o P) (sym (at_setup v.seats k seat at)) h
 
--- the last frame of a slot is what stands in its place
-pub frame_shown : (v : ImagesView) (si so slot place : ℕ) (seat : Seat) (shown : List ℕ) → IsSoundSeat si so seat → slot ≡ suc place → slice_get v.seats place ≡ Some seat → shown ≡ bytes_at seat.at_out seat.len_out v.output
-    → ShowsAt v slot shown last_frame
-frame_shown v si so slot place seat shown s n at e = record {
+-- what stands in each place is the last frame of its slot
+frame-at : (plan : Plan) (calls : List ImageEvent) (slot : ℕ) (q : Place) → All (λ q. bytes_at q.at_out (len_at q) (output plan calls) ≡ frame_of plan.size_in calls q) plan.places → numbered slot plan.places ≡ Some q
+    → bytes_at q.at_out (len_at q) (output plan calls) ≡ frame_of plan.size_in calls q
+frame-at plan calls zero q all at = absurd (cc at)
+frame-at plan calls (suc k) q all at = all_at (λ q. bytes_at q.at_out (len_at q) (output plan calls) ≡ frame_of plan.size_in calls q) plan.places k q all at
+
+pub frame_shown : (v : ImagesView) (slot : ℕ) (seat : Seat) (si so : ℕ) (shown : List ℕ) → numbered slot v.seats ≡ Some seat → IsSoundSeat si so seat → shown ≡ bytes_at seat.at_out seat.len_out v.output → ShowsAt v slot shown last_frame
+frame_shown v slot seat si so shown at s e = record {
   shows = λ plan calls h.
-      let p = at_place (IsSeatOf plan.size_in calls) plan.places v.seats place seat h.slots at in
+      let p = at_number (IsSeatOf plan.size_in calls) plan.places v.seats slot seat h.slots at in
       let q : Place = p.there in
       let len : seat.len_out ≡ len_at q = s.len_out_is ∙ ap (λ (t : Setup). frame_len (sends t)) (setup_is q.setup seat.core (deeds plan.size_in q calls) p.holds.end_is) in
-      let has : bytes_at q.at_out (len_at q) (output plan calls) ≡ frame_of plan.size_in calls q =
-      all_at (λ q. bytes_at q.at_out (len_at q) (output plan calls) ≡ frame_of plan.size_in calls q) plan.places place q (holds_frames plan v calls h).frames p.is
-      in
       let is : shown ≡ frame_of plan.size_in calls q =
-      e ∙ ap (λ (a : ℕ). bytes_at a seat.len_out v.output) p.holds.at_out_is ∙ ap (λ (l : ℕ). bytes_at q.at_out l v.output) len ∙ ap (bytes_at q.at_out (len_at q)) h.output_is ∙ has
+      e
+      ∙ ap (λ (a : ℕ). bytes_at a seat.len_out v.output) p.holds.at_out_is
+      ∙ ap (λ (l : ℕ). bytes_at q.at_out l v.output) len
+      ∙ ap (bytes_at q.at_out (len_at q)) h.output_is
+      ∙ frame-at plan calls slot q (holds_frames plan v calls h).frames p.is
       in
-      rw (n, p.is) (ap (λ (f : List ℕ). Some f) (sym is));
+      rw p.is (ap (λ (f : List ℕ). Some f) (sym is));
 }
 
 -- the frame that an end sent is its last one, if it sent one
@@ -56,17 +60,16 @@ last-at : (o : Option Place) (p : Place) (word : Place → List ℕ) (sent : Lis
 last-at o p word sent e h = let s : Some (word p) ≡ Some sent = ap (option_map word) (sym e) ∙ h in cc
 
 -- a line that shows what the end of a slot did
-pub told_at : (v : ImagesView) (slot place : ℕ) (seat : Seat) (n : ℕ) (did : Did) (sent line : List ℕ) → slot ≡ suc place → slice_get v.seats place ≡ Some seat → end_core.Shows seat.core line (entry_told n slot did sent)
+pub told_at : (v : ImagesView) (slot : ℕ) (seat : Seat) (n : ℕ) (did : Did) (sent line : List ℕ) → numbered slot v.seats ≡ Some seat → end_core.Shows seat.core line (entry_told n slot did sent)
     → (did.sent ≡ true → ShowsAt v slot sent last_frame) → (did.sent ≡ false → sent ≡ []) → ShowsAt v slot line (told_line n slot did)
-told_at v slot place seat n did sent line named at s frame none = record {
+told_at v slot seat n did sent line at s frame none = record {
   shows = λ plan calls h.
-      let p = at_place (IsSeatOf plan.size_in calls) plan.places v.seats place seat h.slots at in
+      let p = at_number (IsSeatOf plan.size_in calls) plan.places v.seats slot seat h.slots at in
       let q : Place = p.there in
       let e : List Deed = deeds plan.size_in q calls in
-      let there : numbered slot plan.places ≡ Some q = rw named p.is in
       let last : did.sent ≡ true → last_frame q.setup e ≡ sent =
-      λ yes. last-at (numbered slot plan.places) q (λ (p : Place). last_frame p.setup (deeds plan.size_in p calls)) sent there ((frame yes).shows plan calls h)
+      λ yes. last-at (numbered slot plan.places) q (λ (p : Place). last_frame p.setup (deeds plan.size_in p calls)) sent p.is ((frame yes).shows plan calls h)
       in
-      ap (option_map (λ (p : Place). told_line n slot did p.setup (deeds plan.size_in p calls))) there
+      ap (option_map (λ (p : Place). told_line n slot did p.setup (deeds plan.size_in p calls))) p.is
       ∙ ap (λ (line : List ℕ). Some line) (sym (s.shows q.setup e p.holds.end_is ∙ ap (λ (sent : List ℕ). entry_told n slot did sent q.setup e) (sent-is did.sent sent (last_frame q.setup e) last none)));
 }

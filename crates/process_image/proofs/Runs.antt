@@ -1,7 +1,7 @@
 -- A run of images over the events of an input.
 use Rattle.process_image.proofs.Common.{All, All-cons, All-nil, AllZip, DoesEvent, Err, FitsImages, HasSlot, IfOk, ImageEvent, ImageHeading, ImagesView, IsEndOf, IsMadeOf, IsNew, IsPlanOf, IsPrefix, IsSeatOf, IsSlotOf, IsTrue, LineCause, Ok, Place, Plan, Refused, ReportsSoFar, Result, RunStands, RunView, Seat, Setup, Slot, SlotHeader, StandsFor, allows_id, append-nil, by_word, bytes_said, common_steps, deeds, each, end_at, end_terms, ended_at, event_in, event_lines, fields_of, id_at, image_format, image_line, image_reporting, image_said, known, last_lines, lines_of_events, map_ok, nat_le, next_field, no_field, number_16, number_32, numbered, one_field, places_from, plan_of, profile_of, report_of, reverse-append, sends, setup_is, setup_of, setups_of, slots_of, value_or, word_of}
 use Rattle.schedule_file.specs.EventLine.{switch_of}
-use Rattle.std.proofs.Common.{◌≡◌, ◌≤◌, ◌+◌, ◌==◌, ℕ, zero, suc, List, [], ◌∷◌, ◌++◌, Bool, true, false, length, map, reverse, slice_get, Option, Some, None, IfSome, append_assoc, refl, sym, ap, subst, ◌∙◌, arith}
+use Rattle.std.proofs.Common.{◌≡◌, ◌+◌, ◌==◌, ℕ, zero, suc, List, [], ◌∷◌, ◌++◌, Bool, true, false, length, map, reverse, slice_get, Option, Some, None, IfSome, append_assoc, leb-true, eqb-true, refl, sym, ap, subst, ◌∙◌, arith}
 use Rattle.std.specs.Prelude.{◌<◌, if◌then◌else◌}
 use Rattle.schedule_file.specs.declared.line_cause.LineCause.TheVariants as cause
 use Rattle.file_run.specs.Machine.{IsSaid}
@@ -76,12 +76,6 @@ bare l (Err e) P h = tt
 found : (o : Option SlotEnd) → IfOk (value_or cause.NoLink o) (λ end. o ≡ Some end)
 found o = grind arith
 
-inside : (n size : ℕ) → nat_le n size ≡ true → n ≤ size
-inside n size h = grind arith
-
-equal : (n m : ℕ) → (n == m) ≡ true → n ≡ m
-equal n m h = grind arith
-
 put-len : (o : Option Setup) (n : ℕ) (end : SlotEnd) → n ≡ end.sends → IfSome o (λ s. (sends s ≡ end.sends) × (profile_of s ≡ end.profile)) → IfSome o (λ s. n ≡ sends s)
 put-len o n end h k = grind arith
 
@@ -102,13 +96,13 @@ said-fits : (size : ℕ) (ends : List SlotEnd) (v : ImagesView) (w : Option Word
 said-fits size ends v None fields h = tt
 said-fits size ends v (Some word.Write) fields h =
     each (next_field fields) _ _ (λ place. each (one_field place.1) _ _ (λ digits. each (number_16 place.0) _ _ (λ at. each (value_or cause.Hex (bytes_said 256 digits)) _ _
-    (λ bytes. tested (nat_le (at + length bytes) size) (line.Step (event.Write at bytes)) cause.Position (OnStep (FitsImages v)) (λ t. let i = inside (at + length bytes) size t in rw h.size_is i)))))
+    (λ bytes. tested (nat_le (at + length bytes) size) (line.Step (event.Write at bytes)) cause.Position (OnStep (FitsImages v)) (λ t. rw h.size_is (leb-true (at + length bytes) size t))))))
 said-fits size ends v (Some word.Sample) fields h = bare (line.Step event.Sample) (no_field fields) (OnStep (FitsImages v)) tt
 said-fits size ends v (Some word.Tick) fields h = bare (line.Step event.Tick) (no_field fields) (OnStep (FitsImages v)) tt
 said-fits size ends v (Some word.Put) fields h =
     each (next_field fields) _ _ (λ first. each (one_field first.1) _ _ (λ digits. each (number_16 first.0) _ _ (λ slot. known (end_at slot ends) _ (λ end. numbered slot ends ≡ Some end) _ (found (numbered slot ends))
     (λ end e. each (value_or cause.Hex (bytes_said 126 digits)) _ _ (λ bytes. tested (length bytes == end.sends) (line.Step (event.Put slot bytes)) cause.Length (OnStep (FitsImages v))
-    (λ t. let a = h.ends_are slot end e in (a.0, put-len (numbered slot (setups_of v)) (length bytes) end (equal (length bytes) end.sends t) a.1)))))))
+    (λ t. let a = h.ends_are slot end e in (a.0, put-len (numbered slot (setups_of v)) (length bytes) end (eqb-true (length bytes) end.sends t) a.1)))))))
 said-fits size ends v (Some word.Hold) fields h =
     each (next_field fields) _ _ (λ first. each (one_field first.1) _ _ (λ field. each (number_16 first.0) _ _ (λ slot. each (value_or cause.Number (switch_of field)) _ _
     (λ failsafe. known (end_at slot ends) _ (λ end. numbered slot ends ≡ Some end) _ (found (numbered slot ends)) (λ end e. (h.ends_are slot end e).0)))))

@@ -1,10 +1,11 @@
 -- Images at which the end of one slot was called.
-use Rattle.process_image.proofs.Common.{Core, Follows, HasSlot, ImageEvent, ImagesView, IsAtRest, IsSetting, IsSound, IsSoundSeat, Move, Seat, Setup, frame_len, input, length-set, nothing, numbered, receives, sends, set_answers, setup_of, setups_of}
-use Rattle.std.proofs.Common.{◌≡◌, ◌≤◌, ◌-◌, ℕ, suc, List, [], ◌∷◌, map, length, get_or, slice_get, slice_set, Some, IfSome, sym, ap, subst, ◌∙◌, arith, rules}
+use Rattle.process_image.proofs.Common.{Core, Follows, HasSlot, ImageEvent, ImagesView, IsAtRest, IsSetting, IsSound, IsSoundSeat, Move, Seat, Setup, input, length-set, nothing, numbered, set_answers, setup_of, setups_of}
+use Rattle.std.proofs.Common.{◌≡◌, ◌≤◌, ◌-◌, ℕ, suc, List, [], ◌∷◌, map, length, get_or, slice_get, slice_set, Some, IfSome, refl, sym, subst, ◌∙◌, arith, rules}
 use Rattle.end_core.specs.Standing as end_core
 use Rattle.process_image.proofs.Counts.{at_setup, seat_there}
-use Rattle.process_image.proofs.One.{Moved, Names, Unsampled, named_step, one_follows, step_to}
-use Rattle.process_image.proofs.Seats.{stays}
+use Rattle.process_image.proofs.Keeping.{kept_sound}
+use Rattle.process_image.proofs.One.{Names, Unsampled, one_follows}
+use Rattle.process_image.proofs.Seats.{Moved, named_step, stays, step_to}
 use Rattle.process_image.proofs.Zips.{all_at, all_set, map_set}
 
 -- a seat with another end in it
@@ -19,22 +20,14 @@ pub own_setup : (v w : ImagesView) (slot place : ℕ) (seat : Seat) (P : Setup �
 own_setup v w slot place seat P same at has is holds =
     named-setup v slot place seat P (omega arith) (seat_there v w slot place seat same at has is) (subst (λ (v : ImagesView). IfSome (numbered slot (setups_of v)) P) (sym same) holds)
 
--- a seat stays sound with an end that is set alike
-sound-end : (si so : ℕ) (seat : Seat) (end : Core) → IsSoundSeat si so seat → setup_of end ≡ setup_of seat.core → IsAtRest end → IsSoundSeat si so (with_end end seat)
-sound-end si so seat end s setup rest = record {
-  rest = rest;
-  seen_len = s.seen_len ∙ ap (λ (t : Setup). frame_len (receives t)) (sym setup);
-  len_out_is = s.len_out_is ∙ ap (λ (t : Setup). frame_len (sends t)) (sym setup);
-  inside_in = s.inside_in;
-  inside_out = s.inside_out;
-}
-
-pub set_sound : (v : ImagesView) (k : ℕ) (seat : Seat) (end : Core) → IsSound v → slice_get v.seats k ≡ Some seat → setup_of end ≡ setup_of seat.core → IsAtRest end
-    → IsSound (record { seats = slice_set v.seats k (with_end end seat); input = v.input; output = v.output })
-set_sound v k seat end s at setup rest =
-    let P : Seat → Type 0 = IsSoundSeat (length v.input) (length v.output) in
+-- images stay sound, also where their output image changed, with as many bytes
+pub set_sound : (v : ImagesView) (k : ℕ) (seat : Seat) (end : Core) (after : List ℕ) → IsSound v → slice_get v.seats k ≡ Some seat → setup_of end ≡ setup_of seat.core → IsAtRest end → length after ≡ length v.output
+    → IsSound (record { seats = slice_set v.seats k (with_end end seat); input = v.input; output = after })
+set_sound v k seat end after s at setup rest n =
+    let si : ℕ = length v.input in
+    let so : ℕ = length v.output in
     record {
-      seats = all_set P v.seats k (with_end end seat) s.seats (sound-end (length v.input) (length v.output) seat end (all_at P v.seats k seat s.seats at) setup rest);
+      seats = rw n (all_set (IsSoundSeat si so) v.seats k (with_end end seat) s.seats (kept_sound si so seat (with_end end seat) (all_at (IsSoundSeat si so) v.seats k seat s.seats at) refl refl refl refl setup rest));
       most = subst (λ (n : ℕ). n ≤ 64) (sym (length-set v.seats k (with_end end seat))) s.most;
     }
 
@@ -42,11 +35,6 @@ set_sound v k seat end s at setup rest =
 pub set_setups : (v : ImagesView) (k : ℕ) (seat : Seat) (end : Core) → slice_get v.seats k ≡ Some seat → setup_of end ≡ setup_of seat.core
     → map (λ s. setup_of s.core) (slice_set v.seats k (with_end end seat)) ≡ setups_of v
 set_setups v k seat end at setup = map_set (λ (s : Seat). setup_of s.core) v.seats k seat (with_end end seat) at setup
-
--- so are images whose output image changed too, with as many bytes
-pub reset_sound : (v : ImagesView) (k : ℕ) (seat : Seat) (end : Core) (after : List ℕ) → IsSound v → slice_get v.seats k ≡ Some seat → setup_of end ≡ setup_of seat.core → IsAtRest end → length after ≡ length v.output
-    → IsSound (record { seats = slice_set v.seats k (with_end end seat); input = v.input; output = after })
-reset_sound v k seat end after h l m n o = search (rules, set_sound)
 
 -- an end goes on by a put, a hold or a nonce, and does and sends nothing
 pub set_follows : (v w new : ImagesView) (slot place : ℕ) (what : Move) (call : ImageEvent) (seat : Seat) (end : Core) → v ≡ w → IsSound v → place ≡ slot - 1 → HasSlot w slot → seat ≡ get_or v.seats place seat → IsSetting what
@@ -58,5 +46,5 @@ set_follows v w new slot place what call seat end same s n has read setting name
     let at : slice_get v.seats place ≡ Some seat = seat_there v w slot place seat same n has read in
     let moved : Moved what seat end nothing [] = record { follows = follows; answers = set_answers seat.core what setting; setup = setup; rest = rest } in
     subst (λ (old : ImagesView). Follows old call new) same
-    (one_follows si so place slot what call v new (step_to what seat end nothing []) s.seats (omega arith) at (named_step what seat end nothing [] moved) names unsampled unwritten seats now
+    (one_follows si so place slot what call v new (step_to what seat end seat.seen nothing []) s.seats (omega arith) at (named_step what seat end nothing [] moved) names unsampled unwritten seats now
     (out ∙ stays si so seat v.output (all_at (IsSoundSeat si so) v.seats place seat s.seats at)))

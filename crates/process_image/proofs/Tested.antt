@@ -2,7 +2,8 @@
 use Rattle.process_image.proofs.Common.{AllZip, Err, Fit, Heading, IfOk, ImageHeading, IsApart, IsMadeOf, IsTested, IsTrue, LineCause, None, Ok, Option, Result, Slot, SlotHeader, Some, and_placed, bytes_eq, common_steps, either, fields_of, fields_taken, first_fault, first_outside, first_pair, first_with, fits_images, heading_after, heading_is_whole, heading_spans, heading_with, image_heading_is_whole, is_end_line, is_placed, kind_after, lie_inside, list_any, map_ok, no_field, node_heading_after, not, one_hex_field, overlap, pair_or, places_from, plan_of, profile_given, profile_taken, slot_spans, slots_of, tested_by, title_taken}
 use Rattle.schedule_file.specs.Fields.{◌>>=◌}
 use Rattle.std.proofs.Common.{◌≡◌, ◌≤◌, ◌⊎◌, inl, inr, ℕ, suc, List, [], ◌∷◌, ◌++◌, Bool, true, false, length, map, refl, sym, ap, subst, ◌∙◌, arith, rules}
-use Rattle.std.specs.Prelude.{◌&&◌, ◌||◌, if◌then◌else◌}
+use Rattle.std.specs.Prelude.{◌&&◌, if◌then◌else◌}
+use Rattle.std.proofs.lemmas.Bool.{or_parts}
 use Rattle.std.proofs.lemmas.Result.{IfOk-weaker}
 use Rattle.schedule_file.specs.HeaderKind.{title_of}
 use Rattle.schedule_file.specs.HeaderLine.{header_line, lengths_line, master_line, profile_line, slave_line, rule_line, range_line}
@@ -21,9 +22,6 @@ use Rattle.process_image.specs.declared.spans.Spans.{Spans}
 use Rattle.process_image.proofs.Faults.{tested}
 
 -- the tests of a slot
-or-parts : (a b : Bool) → (a || b) ≡ false → (a ≡ false) × (b ≡ false)
-or-parts a b h = grind arith
-
 and-parts : (a b : Bool) → (a && not b) ≡ true → (a ≡ true) × (b ≡ false)
 and-parts a b h = grind arith
 
@@ -36,7 +34,7 @@ fit-push : (si so : ℕ) (ss : List SlotHeader) (t : SlotHeader) → Fit si so (
     → Fit si so (map heading_spans (ss ++ t ∷ []))
 fit-push si so [] t f inside none = (inside, tt, tt)
 fit-push si so (s ∷ ss) t f inside none =
-    let h = or-parts (overlap (heading_spans s) (heading_spans t)) (list_any (λ s. overlap (heading_spans s) (heading_spans t)) ss) none in
+    let h = or_parts (overlap (heading_spans s) (heading_spans t)) (list_any (λ s. overlap (heading_spans s) (heading_spans t)) ss) none in
     (f.0, apart-push (heading_spans s) ss t f.1 h.0, fit-push si so ss t f.2 inside h.1)
 
 -- and those before it

@@ -1,9 +1,13 @@
 -- The lines of an event, slot by slot.
-use Rattle.process_image.proofs.Common.{AllZip, AreLinesOf, AreNumbered, Deed, Did, ImageEvent, ImagesView, IsAfter, IsLineOf, IsRun, IsSeatOf, Makes, Move, Place, Plan, Seat, SeatStep, Setup, ShowsAt, StandsFor, deeds, entry_line, event_lines, last_frame, move_in, move_line, next_deed, option_map, told_line}
-use Rattle.std.proofs.Common.{◌≡◌, ◌+◌, ℕ, zero, suc, List, [], ◌∷◌, ◌++◌, length, slice_get, Option, Some, sym, ap, ap₂, subst, ◌∙◌, arith, rules}
+use Rattle.process_image.proofs.Common.{AllZip, AnswersSample, AnswersTick, AreLinesOf, AreNumbered, Deed, Did, Follows, ImageEvent, ImagesView, IsLineOf, IsRun, IsSeatOf, Move, Place, Plan, Seat, Setup, ShowsAt, StandsFor, TellsEvent, append-nil, deeds, entry_line, event_lines, last_frame, length-take-le, move_in, move_line, next_deed, option_map, take_all, take_more, told, told_line}
+use Rattle.std.proofs.Common.{◌≡◌, ◌+◌, ◌<◌, ◌≤◌, ℕ, zero, suc, List, [], ◌∷◌, ◌++◌, length, map, take, get_or, slice_get, Option, None, Some, append_assoc, refl, sym, ap, ap₂, subst, ◌∙◌, arith, rules}
+use Rattle.param_load.specs.declared.entry.Move.TheVariants as move
+use Rattle.process_image.specs.declared.event.ImageEvent.TheVariants as event
 use Rattle.std.specs.Prelude.{if◌then◌else◌}
 use Rattle.end_model.proofs.Told.{told_sent}
-use Rattle.process_image.proofs.Following.{IsPart, deeds_more, reached}
+use Rattle.process_image.proofs.Following.{deeds_more, reached}
+use Rattle.process_image.proofs.Zips.{is_there}
+use Rattle.std.proofs.lemmas.Slice.Zip.{AllZip-left}
 
 sent-is : (s : Setup) (e : List Deed) (x : Deed) → IsRun s (x ∷ e) → (if x.did.sent then last_frame s (x ∷ e) else []) ≡ x.sent
 sent-is s e x h = search (rules, told_sent)
@@ -14,12 +18,9 @@ told-entry n slot p e x h k = search (rules, sent-is)
 
 -- what a slot did was reached
 run-at : (size : ℕ) (calls : List ImageEvent) (places : List Place) (seats : List Seat) (k : ℕ) (p : Place) → AllZip (IsSeatOf size calls) places seats → slice_get places k ≡ Some p → IsRun p.setup (deeds size p calls)
-run-at size calls [] seats k p z at = absurd (cc at)
-run-at size calls (q ∷ places) [] k p z at = absurd z
-run-at size calls (q ∷ places) (seat ∷ seats) zero p z at =
-    let i : q ≡ p = cc in
-    subst (λ (q : Place). IsRun q.setup (deeds size q calls)) i (reached q.setup seat.core (deeds size q calls) z.0.end_is)
-run-at size calls (q ∷ places) (seat ∷ seats) (suc k) p z at = run-at size calls places seats k p z.1 at
+run-at size calls places seats k p z e =
+    let seat = is_there (slice_get seats k) (λ seat. IsSeatOf size calls p seat) (rw e at (AllZip-left (IsSeatOf size calls) places seats z k)) in
+    reached p.setup seat.there.core (deeds size p calls) seat.holds.end_is
 
 pub number_at : (n : ℕ) (places : List Place) (k : ℕ) (p : Place) → AreNumbered n places → slice_get places k ≡ Some p → p.number ≡ n + k
 number_at n [] k p h at = absurd (cc at)
@@ -42,19 +43,52 @@ shown_entry plan v calls event n k p what did text h at moves done shows =
     in
     sym is ∙ ap₂ (λ (d : Did) (e : List Deed). told_line n (suc k) d p.setup e) done more ∙ told-entry n (suc k) p e x number run
 
--- the line of a step of a slot is that of its move
-line-by : (size number slot : ℕ) (calls : List ImageEvent) (p : Place) (x : SeatStep) (o : Option Move) (line : List ℕ) → number ≡ length calls + 1 → slot ≡ p.number → IsAfter p.setup x.old.core (deeds size p calls) → Makes o x
-    → IsLineOf o number slot x line → line ≡ move_line (length calls + 1) size p calls o
-line-by size number slot calls p x o line h k l m n = grind arith
+-- the line of what is told of a slot is that of its move
+line-is : (plan : Plan) (v : ImagesView) (calls : List ImageEvent) (event : ImageEvent) (n k : ℕ) (p : Place) (o : Option Move) (line : List ℕ) → StandsFor plan v (event ∷ calls) → n ≡ length calls + 1 → slice_get plan.places k ≡ Some p
+    → move_in plan.size_in p calls event ≡ o → IsLineOf v n (suc k) (option_map (λ what. (next_deed plan.size_in p calls what).did) o) line → line ≡ move_line (length calls + 1) plan.size_in p calls o
+line-is plan v calls event n k p None line h number at moves shown = shown
+line-is plan v calls event n k p (Some what) line h number at moves shown =
+    shown_entry plan v calls event n k p what (next_deed plan.size_in p calls what).did line h at moves refl shown
+    ∙ ap (λ (m : ℕ). entry_line m p (deeds plan.size_in p calls) (next_deed plan.size_in p calls what)) number
 
--- so the lines of all are those of the event
-pub lines_are : (size number n : ℕ) (calls : List ImageEvent) (event : ImageEvent) (places : List Place) (xs : List SeatStep) (text : List ℕ) → number ≡ length calls + 1 → AllZip (IsPart size calls event) places xs
-    → AreNumbered n places → AreLinesOf number n xs text → text ≡ event_lines size calls event places
-lines_are size number n calls event [] [] text e z numbers h = h
-lines_are size number n calls event (p ∷ places) (x ∷ xs) text e z numbers h =
-    let o : Option Move = move_in size p calls event in
-    h.4
+-- so the lines of all slots from one on are those of the event
+lines-are : {T : Type 0} (tell : T → Option Did) (word : Place → T) (plan : Plan) (v : ImagesView) (calls : List ImageEvent) (event : ImageEvent) (n k : ℕ) (places : List Place) (text : List ℕ) → StandsFor plan v (event ∷ calls)
+    → n ≡ length calls + 1 → ((p : Place) → tell (word p) ≡ told plan.size_in calls event p) → ((j : ℕ) → slice_get places j ≡ slice_get plan.places (k + j)) → AreLinesOf tell v n (suc k) (map word places) text
+    → text ≡ event_lines plan.size_in calls event places
+lines-are tell word plan v calls event n k [] text h number same at l = l
+lines-are tell word plan v calls event n k (p ∷ places) text h number same at l =
+    let i : k + 0 ≡ k = omega arith in
+    let here : slice_get plan.places k ≡ Some p = ap (slice_get plan.places) (sym i) ∙ sym (at 0) in
+    l.4
     ∙ ap₂ (λ (a b : List ℕ). a ++ b)
-    (line-by size number n calls p x o h.0 e (sym numbers.0) z.0.before.end_is (subst (λ (o : Option Move). Makes o x) z.0.what_is z.0.is.makes) (subst (λ (o : Option Move). IsLineOf o number n x h.0) z.0.what_is h.2))
-    (lines_are size number (suc n) calls event places xs h.1 e z.1 numbers.1 h.3)
-lines_are size number n calls event _ _ text e z numbers h = absurd z
+    (line-is plan v calls event n k p (move_in plan.size_in p calls event) l.0 h number here refl (subst (λ (o : Option Did). IsLineOf v n (suc k) o l.0) (same p) l.2))
+    (lines-are tell word plan v calls event n (suc k) places l.1 h number same (λ j. let e : k + suc j ≡ suc k + j = omega arith in at (suc j) ∙ ap (slice_get plan.places) e) l.3)
+
+pub sample_tells : (old new : ImagesView) (n i : ℕ) (dids : List (Option Did)) (text : List ℕ) → Follows old event.Sample new → AnswersSample old dids → length dids ≤ i → AreLinesOf (λ o. o) new n 1 (take i dids) text → TellsEvent old event.Sample n text
+sample_tells old new n i dids text f a all l = record {
+  lines = λ plan calls h number.
+      lines-are (λ (o : Option Did). o) (told plan.size_in calls event.Sample) plan new calls event.Sample n 0 plan.places text (f.stands plan calls h) number (λ p. refl) (λ j. let e : j ≡ 0 + j = omega arith in ap (slice_get plan.places) e)
+      (subst (λ (dids : List (Option Did)). AreLinesOf (λ o. o) new n 1 dids text) (take_all i dids all ∙ a.told_are plan calls h) l);
+}
+
+pub tick_tells : (old new : ImagesView) (n i : ℕ) (dids : List Did) (text : List ℕ) → Follows old event.Tick new → AnswersTick old dids → length dids ≤ i → AreLinesOf (λ did. Some did) new n 1 (take i dids) text → TellsEvent old event.Tick n text
+tick_tells old new n i dids text f a all l = record {
+  lines = λ plan calls h number.
+      lines-are (λ (did : Did). Some did) (λ p. (next_deed plan.size_in p calls move.Tick).did) plan new calls event.Tick n 0 plan.places text (f.stands plan calls h) number (λ p. refl) (λ j. let e : j ≡ 0 + j = omega arith in ap (slice_get plan.places) e)
+      (subst (λ (dids : List Did). AreLinesOf (λ did. Some did) new n 1 dids text) (take_all i dids all ∙ a.told_are plan calls h) l);
+}
+
+-- one line more
+lines-push : {T : Type 0} (tell : T → Option Did) (v : ImagesView) (n slot k : ℕ) (dids : List T) (did : T) (text line : List ℕ) → k ≡ slot + length dids → AreLinesOf tell v n slot dids text → IsLineOf v n k (tell did) line
+    → AreLinesOf tell v n slot (dids ++ did ∷ []) (text ++ line)
+lines-push tell v n slot k [] did text line e h is =
+    let same : k ≡ slot = omega arith in
+    (line, [], subst (λ (k : ℕ). IsLineOf v n k (tell did) line) same is, refl, ap (λ (xs : List ℕ). xs ++ line) h ∙ sym (append-nil line))
+lines-push tell v n slot k (x ∷ dids) did text line e h is =
+    (h.0, h.1 ++ line, h.2, lines-push tell v n (suc slot) k dids did h.1 line (omega arith) h.3 is, ap (λ (xs : List ℕ). xs ++ line) h.4 ∙ append_assoc h.0 h.1 line)
+
+pub lines_more : {T : Type 0} (tell : T → Option Did) (v : ImagesView) (n : ℕ) (dids : List T) (i : ℕ) (x : T) (o : Option Did) (text text' line : List ℕ) → i < length dids → tell (get_or dids i x) ≡ o
+    → AreLinesOf tell v n 1 (take i dids) text → IsLineOf v n (i + 1) o line → text' ≡ text ++ line → AreLinesOf tell v n 1 (take (i + 1) dids) text'
+lines_more tell v n dids i x o text text' line within told h shown e =
+    let k : i + 1 ≡ 1 + length (take i dids) = omega (arith, length-take-le i dids (omega arith)) in
+    rw (take_more dids i x within, e) (lines-push tell v n 1 (i + 1) (take i dids) (get_or dids i x) text line k h (subst (λ (o : Option Did). IsLineOf v n (i + 1) o line) (sym told) shown))

@@ -15,9 +15,6 @@ pub same_size : (at : ℕ) (bytes image : List ℕ) → at + length bytes ≤ le
 same_size at bytes image h = grind (arith, common_steps)
 
 -- bytes in the same place are overwritten
-pub drop_none : (n : ℕ) → drop {A = ℕ} n [] ≡ []
-drop_none n = grind arith
-
 pub again : (at : ℕ) (g f image : List ℕ) → length g ≡ length f → at + length f ≤ length image → with_bytes at g (with_bytes at f image) ≡ with_bytes at g image
 again at g f image h k = grind (arith, common_steps)
 

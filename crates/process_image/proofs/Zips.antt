@@ -1,6 +1,6 @@
 -- Two lists side by side, at a place.
-use Rattle.process_image.proofs.Common.{All-get_or, AllZip, AllZip-right, IsSomeAnd, all_zipped_more, get_or_from_slice_get, map-set_same, slice_get_within, take_all, take_more}
-use Rattle.std.proofs.Common.{◌≡◌, ◌≤◌, ◌<◌, ◌+◌, ℕ, List, [], ◌∷◌, ◌++◌, length, take, get_or, map, slice_get, slice_set, All, Option, None, Some, refl, sym, ap, subst, ◌∙◌, rules}
+use Rattle.process_image.proofs.Common.{All-get_or, AllZip, AllZip-right, IsSomeAnd, all_zipped_more, get_or_from_slice_get, map-set_same, numbered, slice_get_within, take_all, take_more}
+use Rattle.std.proofs.Common.{◌≡◌, ◌≤◌, ◌<◌, ◌+◌, ℕ, zero, suc, List, [], ◌∷◌, ◌++◌, length, take, get_or, map, slice_get, slice_set, All, Option, None, Some, refl, sym, ap, subst, ◌∙◌, rules}
 
 -- there is something that has this property
 pub record There {A : Type 0} (o : Option A) (P : A → Type 0) : Type 0 where
@@ -8,13 +8,18 @@ pub record There {A : Type 0} (o : Option A) (P : A → Type 0) : Type 0 where
   pub is : o ≡ Some there
   pub holds : P there
 
-is-there : {A : Type 0} (o : Option A) (P : A → Type 0) → IsSomeAnd o P → There o P
-is-there None P h = absurd h
-is-there (Some x) P h = record { there = x; is = refl; holds = h }
+pub is_there : {A : Type 0} (o : Option A) (P : A → Type 0) → IsSomeAnd o P → There o P
+is_there None P h = absurd h
+is_there (Some x) P h = record { there = x; is = refl; holds = h }
 
 -- what is at a place of the first list goes with what is at that place of the second
-pub at_place : {A B : Type 0} (R : A → B → Type 0) (xs : List A) (ys : List B) (k : ℕ) (y : B) → AllZip R xs ys → slice_get ys k ≡ Some y → There (slice_get xs k) (λ x. R x y)
-at_place R xs ys k y h e = is-there (slice_get xs k) (λ x. R x y) (rw e at (AllZip-right R xs ys h k))
+at-place : {A B : Type 0} (R : A → B → Type 0) (xs : List A) (ys : List B) (k : ℕ) (y : B) → AllZip R xs ys → slice_get ys k ≡ Some y → There (slice_get xs k) (λ x. R x y)
+at-place R xs ys k y h e = is_there (slice_get xs k) (λ x. R x y) (rw e at (AllZip-right R xs ys h k))
+
+-- and what is of a number, from 1
+pub at_number : {A B : Type 0} (R : A → B → Type 0) (xs : List A) (ys : List B) (slot : ℕ) (y : B) → AllZip R xs ys → numbered slot ys ≡ Some y → There (numbered slot xs) (λ x. R x y)
+at_number R xs ys zero y h e = absurd (cc e)
+at_number R xs ys (suc k) y h e = at-place R xs ys k y h e
 
 -- all have a property still, where another stands at a place that has it
 pub all_set : {A : Type 0} (P : A → Type 0) (xs : List A) (k : ℕ) (y : A) → All P xs → P y → All P (slice_set xs k y)

@@ -52,6 +52,12 @@ pub record StandsFor (plan : Plan) (v : ImagesView) (calls : List ImageEvent) : 
 pub record Follows (old : ImagesView) (call : ImageEvent) (new : ImagesView) : Type 0 where
   pub stands : (plan : Plan) (calls : List ImageEvent) → StandsFor plan old calls → StandsFor plan new (call ∷ calls)
 
+-- what the ends are set to stays, and so do the sizes of both images
+pub record Keeps (old new : ImagesView) : Type 0 where
+  pub setups : setups_of new ≡ setups_of old
+  pub size_in : length new.input ≡ length old.input
+  pub size_out : length new.output ≡ length old.output
+
 -- what is told of a slot at a call: what its end did, where the call is a move of it
 abbrev pub told : ℕ → List ImageEvent → ImageEvent → Place → Option Did
 told size calls call p = option_map (λ what. (next_deed size p calls what).did) (move_in size p calls call)

@@ -2,7 +2,6 @@
 use Rattle.std.specs.Prelude.{◌≡◌, ℕ, ◌==◌, List, [], ◌∷◌, map, length, All, Option, Some, None, option_map, if◌then◌else◌}
 use Rattle.fsoe_base.specs.declared.did.Did.{Did}
 use Rattle.param_load.specs.declared.entry.Move.{Move}
-use Rattle.param_load.specs.declared.entry.Move.TheVariants as move
 use Rattle.end_core.specs.Core.{setup_of, IsAtRest}
 use Rattle.end_core.specs.Standing.{Follows, Answers}
 use Rattle.process_image.specs.Calls.{delivery}
@@ -57,10 +56,10 @@ pub record IsSampleStep (input : List ℕ) (x : SeatStep) : Type 0 where
   pub what_is : x.what ≡ delivery x.old.seen (seat_contents x.old input)
   pub seen_is : x.new.seen ≡ seat_contents x.old input
 
--- a tick at a slot
-pub record IsTickStep (x : SeatStep) : Type 0 where
+-- this move of a slot, at which nothing is sampled
+pub record IsStepOf (what : Move) (x : SeatStep) : Type 0 where
   pub is : IsSeatStep x
-  pub what_is : x.what ≡ Some move.Tick
+  pub what_is : x.what ≡ Some what
   pub seen_is : x.new.seen ≡ x.old.seen
 
 -- one slot does its part by a step of this kind, and tells this of it
@@ -84,7 +83,3 @@ pub record DoesEach {T : Type 0} (Q : SeatStep → Type 0) (tell : SeatStep → 
 -- what a tick tells of a step
 abbrev pub did_in : SeatStep → Did
 did_in x = x.did
-
--- what the end of a slot did in a step, and the frame that it sent
-abbrev pub answer_in : SeatStep → Did × List ℕ
-answer_in x = (x.did, x.sent)

@@ -1,11 +1,13 @@
 -- The text of an event of images: a line for each slot of which the event is a move; and what contracts see of a run.
 use Rattle.std.specs.Prelude.{◌≡◌, ◌≤◌, ℕ, ◌+◌, List, length, IfSome, IsTrue, reverse}
+use Rattle.fsoe_base.specs.Did.{nothing}
+use Rattle.fsoe_base.specs.declared.did.Did.{Did}
 use Rattle.param_load.specs.Profile.{allows_id}
 use Rattle.end_model.specs.Setup.{sends}
 use Rattle.end_model.specs.Runs.{profile_of}
 use Rattle.process_image.specs.Places.{Plan, numbered}
 use Rattle.process_image.specs.Report.{event_lines, lines_of_events, IsPlanOf}
-use Rattle.process_image.specs.Standing.{ImagesView, StandsFor, Follows, HasSlot, setups_of}
+use Rattle.process_image.specs.Standing.{ImagesView, AnswersReset, StandsFor, Follows, HasSlot, Keeps, setups_of}
 use Rattle.process_image.specs.declared.event.ImageEvent.{ImageEvent}
 use Rattle.process_image.specs.declared.event.ImageEvent.TheVariants as event
 use Rattle.process_image.specs.Header.{ImageHeading}
@@ -21,6 +23,19 @@ FitsImages v (event.Hold slot failsafe) = HasSlot v slot
 FitsImages v (event.Nonce slot id) = HasSlot v slot × IfSome (numbered slot (setups_of v)) (λ s. IsTrue (allows_id (profile_of s) id))
 FitsImages v (event.Reset slot) = HasSlot v slot
 
+-- the slot that an event names, and 0 where it names none
+abbrev pub slot_in : ImageEvent → ℕ
+slot_in (event.Put slot load) = slot
+slot_in (event.Hold slot failsafe) = slot
+slot_in (event.Nonce slot id) = slot
+slot_in (event.Reset slot) = slot
+slot_in other = 0
+
+-- this is what the end of the slot did that an event names
+abbrev pub IsDidOf : ImagesView → ImageEvent → Did → Type 0
+IsDidOf v (event.Reset slot) did = AnswersReset v slot did
+IsDidOf v other did = did ≡ nothing
+
 -- the text of an event of this number that comes to images
 pub record TellsEvent (old : ImagesView) (event : ImageEvent) (number : ℕ) (text : List ℕ) : Type 0 where
   pub lines : (plan : Plan) (calls : List ImageEvent) → StandsFor plan old calls → number ≡ length calls + 1 → text ≡ event_lines plan.size_in calls event plan.places
@@ -29,9 +44,7 @@ pub record TellsEvent (old : ImagesView) (event : ImageEvent) (number : ℕ) (te
 pub record DoesEvent (old : ImagesView) (event : ImageEvent) (number : ℕ) (new : ImagesView) (text : List ℕ) : Type 0 where
   pub follows : Follows old event new
   pub tells : TellsEvent old event number text
-  pub setups : setups_of new ≡ setups_of old
-  pub size_in : length new.input ≡ length old.input
-  pub size_out : length new.output ≡ length old.output
+  pub keeps : Keeps old new
 
 -- what contracts see of images that run: the images, and the text of the last event
 pub record RunView : Type 0 where

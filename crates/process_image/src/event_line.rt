@@ -1,10 +1,8 @@
 //! Lines of events.
 ghost use Rattle.std.specs.Prelude.{◌≡◌};
 ghost use Rattle.schedule_file.specs.FieldsRead.{fields_after, Becomes};
-ghost use Rattle.process_image.specs.EventLine.{word_of, end_at, bare_line, write_line, put_line, hold_line, nonce_line, reset_line, image_line};
+ghost use Rattle.process_image.specs.EventLine.{word_of, end_at, write_line, put_line, hold_line, nonce_line, reset_line, image_line};
 ghost use Rattle.process_image.specs.Places.{numbered};
-ghost use Rattle.process_image.specs.declared.event.ImageEvent.TheVariants as event;
-ghost use Rattle.process_image.specs.declared.event.ImageLine.TheVariants as said;
 
 use crate::event::ImageEvent;
 use crate::said::Said;
@@ -80,33 +78,6 @@ fn end_at(slot: u16, ends: &[SlotEnd]) -> Result<SlotEnd, LineCause>
     ensures { result ≡ end_at slot ends.now }
 {
     find_end(slot, ends).ok_or(LineCause::NoLink)
-}
-
-/// No field: a sample.
-fn read_sample(fields: Option<&[u8]>, says: &mut Said) -> Result<(), LineCause>
-    ensures { Becomes result says.new (bare_line (said.Step event.Sample) (fields_after fields.entry)) }
-{
-    no_field(fields)?;
-    says.set_sample();
-    Ok(())
-}
-
-/// No field: a tick.
-fn read_tick(fields: Option<&[u8]>, says: &mut Said) -> Result<(), LineCause>
-    ensures { Becomes result says.new (bare_line (said.Step event.Tick) (fields_after fields.entry)) }
-{
-    no_field(fields)?;
-    says.set_tick();
-    Ok(())
-}
-
-/// No field: the end.
-fn read_end(fields: Option<&[u8]>, says: &mut Said) -> Result<(), LineCause>
-    ensures { Becomes result says.new (bare_line said.End (fields_after fields.entry)) }
-{
-    no_field(fields)?;
-    says.set_end();
-    Ok(())
 }
 
 /// `<at> <hex>`: from 1 to 256 bytes inside the input image.
@@ -197,13 +168,25 @@ pub(crate) fn read_image_line(
     let (first, fields) = cut(line);
     match read_word(first) {
         Some(Word::Write) => read_write(size, fields, says),
-        Some(Word::Sample) => read_sample(fields, says),
-        Some(Word::Tick) => read_tick(fields, says),
+        Some(Word::Sample) => {
+            no_field(fields)?;
+            says.set_sample();
+            Ok(())
+        }
+        Some(Word::Tick) => {
+            no_field(fields)?;
+            says.set_tick();
+            Ok(())
+        }
         Some(Word::Put) => read_put(ends, fields, says),
         Some(Word::Hold) => read_hold(ends, fields, says),
         Some(Word::Nonce) => read_nonce(ends, fields, says),
         Some(Word::Reset) => read_reset(ends, fields, says),
-        Some(Word::End) => read_end(fields, says),
+        Some(Word::End) => {
+            no_field(fields)?;
+            says.set_end();
+            Ok(())
+        }
         None => Err(LineCause::Word),
     }
 }

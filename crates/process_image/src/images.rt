@@ -1,5 +1,5 @@
 //! The images.
-ghost use Rattle.std.specs.Prelude.{◌≡◌, ◌≤◌, ◌+◌, ◌++◌, [], map, length, vec_len, IsTrue, IfOk, IfErr, IfSome, None, Some, All};
+ghost use Rattle.std.specs.Prelude.{◌≡◌, ◌≤◌, ◌+◌, ◌<◌, [], map, length, vec_len, IsTrue, IfOk, IfErr, IfSome, None, Some, All};
 ghost use Rattle.std.specs.Result.{result_err};
 ghost use Rattle.param_load.specs.Profile.{allows_id};
 ghost use Rattle.end_model.specs.Outputs.{out};
@@ -16,7 +16,7 @@ use crate::making::{seats_of, zeros};
 use crate::seat::{Seat, overwrite, sample_all, tick_all};
 use crate::slot::Slot;
 use crate::spans::first_fault;
-use crate::told_lines::{Telling, sample_telling, tick_telling, write_line};
+use crate::told_lines::write_line;
 use fsoe_base::{Did, FrameBuf, MOST_DATA, MOST_FRAME, State};
 use fsoe_io::LineText;
 use std::marker::Model;
@@ -45,10 +45,10 @@ impl Model for Images {
 impl Images {
     ghost use Rattle.process_image.specs.Calls.{last_frame, output};
     ghost use Rattle.process_image.specs.Fault.{first_fault, plan_of};
-    ghost use Rattle.process_image.specs.Standing.{setups_of, slots_in, StandsFor, HasSlot, Follows, AnswersSample, AnswersTick, AnswersReset, ShowsAt, ShowsImage, ShowsFrames};
-    ghost use Rattle.process_image.specs.Places.{numbered};
+    ghost use Rattle.process_image.specs.Standing.{setups_of, slots_in, StandsFor, HasSlot, Follows, Keeps, AnswersSample, AnswersTick, AnswersReset, ShowsAt, ShowsImage, ShowsFrames};
+    ghost use Rattle.process_image.specs.Places.{most_slots, numbered};
     ghost use Rattle.process_image.specs.SlotLines.{told_line};
-    ghost use Rattle.process_image.specs.Telling.{DoesEvent};
+    ghost use Rattle.process_image.specs.Sound.{IsSoundSeat};
 
     /// Creates images of these sizes with these slots, in this order. Both images and the last sample are zeros. There
     /// may be no slot. The first refusal is returned: more than 64 slots, a slot that isn't inside both images, two
@@ -81,9 +81,7 @@ impl Images {
     pub fn write(&mut self, at: u16, bytes: &[u8])
         requires { at + length bytes.now ≤ length self.old.input }
         ensures follows { Follows self.old (event.Write at bytes.now) self.new }
-        ensures setups { setups_of self.new ≡ setups_of self.old }
-        ensures size_in { length self.new.input ≡ length self.old.input }
-        ensures size_out { length self.new.output ≡ length self.old.output }
+        ensures keeps { Keeps self.old self.new }
     {
         overwrite(self.input.as_mut_slice(), usize::from(at), bytes);
     }
@@ -99,9 +97,7 @@ impl Images {
         requires { length dids.old ≡ slots_in self.old }
         ensures follows { Follows self.old event.Sample self.new }
         ensures answers { AnswersSample self.old dids.new }
-        ensures setups { setups_of self.new ≡ setups_of self.old }
-        ensures size_in { length self.new.input ≡ length self.old.input }
-        ensures size_out { length self.new.output ≡ length self.old.output }
+        ensures keeps { Keeps self.old self.new }
     {
         sample_all(
             self.seats.as_mut_slice(),
@@ -118,9 +114,7 @@ impl Images {
         requires { length dids.old ≡ slots_in self.old }
         ensures follows { Follows self.old event.Tick self.new }
         ensures answers { AnswersTick self.old dids.new }
-        ensures setups { setups_of self.new ≡ setups_of self.old }
-        ensures size_in { length self.new.input ≡ length self.old.input }
-        ensures size_out { length self.new.output ≡ length self.old.output }
+        ensures keeps { Keeps self.old self.new }
     {
         tick_all(
             self.seats.as_mut_slice(),
@@ -135,9 +129,7 @@ impl Images {
         requires slot { HasSlot self.old slot }
         requires len { IfSome (numbered slot (setups_of self.old)) (λ s. length load.now ≡ sends s) }
         ensures follows { Follows self.old (event.Put slot load.now) self.new }
-        ensures setups { setups_of self.new ≡ setups_of self.old }
-        ensures size_in { length self.new.input ≡ length self.old.input }
-        ensures size_out { length self.new.output ≡ length self.old.output }
+        ensures keeps { Keeps self.old self.new }
     {
         self.seats[usize::from(slot) - 1].core.put(load);
     }
@@ -146,9 +138,7 @@ impl Images {
     pub fn hold(&mut self, slot: u16, failsafe: bool)
         requires { HasSlot self.old slot }
         ensures follows { Follows self.old (event.Hold slot failsafe) self.new }
-        ensures setups { setups_of self.new ≡ setups_of self.old }
-        ensures size_in { length self.new.input ≡ length self.old.input }
-        ensures size_out { length self.new.output ≡ length self.old.output }
+        ensures keeps { Keeps self.old self.new }
     {
         self.seats[usize::from(slot) - 1].core.hold(failsafe);
     }
@@ -159,9 +149,7 @@ impl Images {
         requires slot { HasSlot self.old slot }
         requires allowed { IfSome (numbered slot (setups_of self.old)) (λ s. IsTrue (allows_id (profile_of s) id)) }
         ensures follows { Follows self.old (event.Nonce slot id) self.new }
-        ensures setups { setups_of self.new ≡ setups_of self.old }
-        ensures size_in { length self.new.input ≡ length self.old.input }
-        ensures size_out { length self.new.output ≡ length self.old.output }
+        ensures keeps { Keeps self.old self.new }
     {
         self.seats[usize::from(slot) - 1].core.nonce(id);
     }
@@ -171,9 +159,7 @@ impl Images {
         requires { HasSlot self.old slot }
         ensures follows { Follows self.old (event.Reset slot) self.new }
         ensures answers { AnswersReset self.old slot result }
-        ensures setups { setups_of self.new ≡ setups_of self.old }
-        ensures size_in { length self.new.input ≡ length self.old.input }
-        ensures size_out { length self.new.output ≡ length self.old.output }
+        ensures keeps { Keeps self.old self.new }
     {
         let seat = &mut self.seats[usize::from(slot) - 1];
         let did = seat.core.reset(&mut self.sent);
@@ -181,22 +167,41 @@ impl Images {
         did
     }
 
+    /// The number of slots.
+    pub(crate) fn count(&self) -> usize
+        ensures value { result ≡ slots_in self.now }
+        ensures most { result ≤ most_slots }
+    {
+        self.seats.len()
+    }
+
+    /// The seat of this slot.
+    fn seat(&self, slot: u16) -> &Seat
+        requires { HasSlot self.now slot }
+        ensures there { numbered slot self.now.seats ≡ Some result.now }
+        ensures sound { IsSoundSeat (length self.now.input) (length self.now.output) result.now }
+    {
+        &self.seats[usize::from(slot) - 1]
+    }
+
     /// The state of the end of this slot.
+    #[tactic(auto, using(crate::proofs::Reading::shown_at))]
     pub fn state(&self, slot: u16) -> State
         requires { HasSlot self.now slot }
         ensures { ShowsAt self.now slot result state_of }
     {
-        self.seats[usize::from(slot) - 1].core.state()
+        self.seat(slot).core.state()
     }
 
     /// Returns the outputs of this slot's end, as many as its peer's frames have, zeros in every state except Data.
+    #[tactic(auto, using(crate::proofs::Reading::shown_at))]
     pub fn outputs(&self, slot: u16) -> &[u8]
         requires { HasSlot self.now slot }
         ensures shown { ShowsAt self.now slot result.now out }
         ensures len { IfSome (numbered slot (setups_of self.now)) (λ s. length result.now ≡ receives s) }
         ensures most { length result.now ≤ MOST_DATA }
     {
-        self.seats[usize::from(slot) - 1].core.outputs()
+        self.seat(slot).core.outputs()
     }
 
     /// Returns the last frame that the end of this slot sent, zeros if none: what is in its place in the output image.
@@ -205,7 +210,7 @@ impl Images {
         ensures shown { ShowsAt self.now slot result.now last_frame }
         ensures most { length result.now ≤ MOST_FRAME }
     {
-        let seat = &self.seats[usize::from(slot) - 1];
+        let seat = self.seat(slot);
         &self.output[seat.at_out..seat.at_out + seat.len_out]
     }
 
@@ -219,44 +224,14 @@ impl Images {
         self.output.as_slice()
     }
 
-    /// Samples as `sample` does at the event of this number, and reports each slot to which something is delivered.
-    pub(crate) fn sample_telling(&mut self, number: u64, telling: &mut Telling, text: &mut LineText)
-        requires empty { text.old ≡ [] }
-        requires fresh { telling.old.waiting.text ≡ [] }
-        ensures { DoesEvent self.old event.Sample number self.new (text.new ++ telling.new.waiting.text) }
-    {
-        sample_telling(
-            self.seats.as_mut_slice(),
-            number,
-            self.input.as_slice(),
-            self.output.as_mut_slice(),
-            telling,
-            text,
-        );
-    }
-
-    /// Counts a tick as `tick` does at the event of this number, and reports each slot.
-    pub(crate) fn tick_telling(&mut self, number: u64, telling: &mut Telling, text: &mut LineText)
-        requires empty { text.old ≡ [] }
-        requires fresh { telling.old.waiting.text ≡ [] }
-        ensures { DoesEvent self.old event.Tick number self.new (text.new ++ telling.new.waiting.text) }
-    {
-        tick_telling(
-            self.seats.as_mut_slice(),
-            number,
-            self.output.as_mut_slice(),
-            telling,
-            text,
-        );
-    }
-
     /// Writes over `text` what the end of this slot did at the event of this number.
     pub(crate) fn write_line(&self, slot: u16, number: u64, did: &Did, text: &mut LineText)
         requires { HasSlot self.now slot }
-        ensures { ShowsAt self.now slot text.new (told_line number slot did.now) }
+        ensures line { ShowsAt self.now slot text.new (told_line number slot did.now) }
+        ensures some { 0 < length text.new }
+        ensures most { length text.new ≤ 1024 }
     {
         let sent: &[u8] = if did.sent { self.frame(slot) } else { b"" };
-        let core = &self.seats[usize::from(slot) - 1].core;
-        write_line(core, slot, number, did, sent, text);
+        write_line(&self.seat(slot).core, slot, number, did, sent, text);
     }
 }

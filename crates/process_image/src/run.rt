@@ -15,7 +15,7 @@ use crate::header::ImageHeader;
 use crate::images::Images;
 use crate::said::Said;
 use crate::spans::MOST_SLOTS;
-use crate::told_lines::Telling;
+use crate::told_lines::{self, Telling};
 use arrayvec::ArrayVec;
 use file_run::{Format, Machine, Stopped, Untaken, Waiting, run_over, write_events};
 use fsoe_base::Memory;
@@ -150,20 +150,9 @@ impl ImageRun {
             ImageEvent::Write { at, bytes } => {
                 event_run::write(images, *at, bytes.bytes(), number, text)
             }
-            ImageEvent::Sample => images.sample_telling(number, telling, text),
-            ImageEvent::Tick => images.tick_telling(number, telling, text),
-            ImageEvent::Put { slot, load } => {
-                event_run::put(images, *slot, load.bytes(), number, &mut telling.did, text)
-            }
-            ImageEvent::Hold { slot, failsafe } => {
-                event_run::hold(images, *slot, *failsafe, number, &mut telling.did, text)
-            }
-            ImageEvent::Nonce { slot, id } => {
-                event_run::nonce(images, *slot, *id, number, &mut telling.did, text)
-            }
-            ImageEvent::Reset { slot } => {
-                event_run::reset(images, *slot, number, &mut telling.did, text)
-            }
+            ImageEvent::Sample => told_lines::sample(images, number, telling, text),
+            ImageEvent::Tick => told_lines::tick(images, number, telling, text),
+            _ => event_run::named(images, event, number, &mut telling.did, text),
         }
     }
 }

@@ -2,7 +2,8 @@
 ghost use Rattle.std.specs.Prelude.{◌≡◌, ◌≤◌, ◌+◌, length, All};
 ghost use Rattle.process_image.specs.Image.{with_bytes};
 ghost use Rattle.process_image.specs.Sound.{IsNewSeat, IsSoundSeat, MaySend};
-ghost use Rattle.process_image.specs.Steps.{DoesEach, IsSampleStep, IsTickStep, told_by, did_in};
+ghost use Rattle.param_load.specs.declared.entry.Move.TheVariants as move;
+ghost use Rattle.process_image.specs.Steps.{DoesEach, IsSampleStep, IsStepOf, told_by, did_in};
 
 use crate::slot::Slot;
 use end_core::Core;
@@ -28,9 +29,7 @@ pub(crate) struct Seat {
 }
 
 impl Seat {
-    ghost use Rattle.std.specs.Prelude.{nat_eq, false};
-    ghost use Rattle.std.specs.Cmp.Lexicographic.{pointwise};
-    ghost use Rattle.process_image.specs.Steps.{with_sent, Does, seat_contents, answer_in};
+    ghost use Rattle.process_image.specs.Steps.{with_sent, Does};
 
     /// A slot of which nothing is sampled yet.
     #[tactic(auto, using(crate::proofs::Beginning::frame_most))]
@@ -57,33 +56,6 @@ impl Seat {
         }
     }
 
-    /// Whether the slot's contents are those that it saw last.
-    pub(crate) fn is_unchanged(&self, input: &[u8]) -> bool
-        requires { self.now.at_in + length self.now.seen ≤ length input.now }
-        ensures { result ≡ pointwise nat_eq self.now.seen (seat_contents self.now input.now) }
-    {
-        self.seen.bytes() == &input[self.at_in..self.at_in + self.seen.len()]
-    }
-
-    /// Delivers the slot's contents, which differ from those that it saw last. Writes the result of its end to `did`,
-    /// and the frame that it sent to `sent`.
-    pub(crate) fn deliver(
-        &mut self,
-        input: &[u8],
-        output: &mut [u8],
-        sent: &mut FrameBuf,
-        did: &mut Did,
-    )
-        requires sound { IsSoundSeat (length input.now) (length output.old) self.old }
-        requires changed { pointwise nat_eq self.old.seen (seat_contents self.old input.now) ≡ false }
-        ensures { Does (IsSampleStep input.now) answer_in self.old output.old self.new output.new (did.new, sent.new) }
-    {
-        let now = &input[self.at_in..self.at_in + self.seen.len()];
-        self.seen.set(now);
-        self.core.deliver_into(now, did, sent);
-        self.give(sent, output);
-    }
-
     /// Delivers the slot's contents if they differ from those that it saw last, and writes what its end did to `told`.
     fn sample(
         &mut self,
@@ -95,18 +67,21 @@ impl Seat {
         requires { IsSoundSeat (length input.now) (length output.old) self.old }
         ensures { Does (IsSampleStep input.now) told_by self.old output.old self.new output.new told.new }
     {
-        if self.is_unchanged(input) {
+        let now = &input[self.at_in..self.at_in + self.seen.len()];
+        if self.seen.bytes() == now {
             *told = None;
             return;
         }
         let did = told.insert(Did::nothing());
-        self.deliver(input, output, sent, did);
+        self.seen.set(now);
+        self.core.deliver_into(now, did, sent);
+        self.give(sent, output);
     }
 
-    /// Counts a tick at the slot. Writes the result of its end to `did`, and the frame that it sent to `sent`.
-    pub(crate) fn tick(&mut self, output: &mut [u8], sent: &mut FrameBuf, did: &mut Did)
+    /// Counts a tick at the slot, and writes what its end did to `did`.
+    fn tick(&mut self, output: &mut [u8], sent: &mut FrameBuf, did: &mut Did)
         requires { MaySend (length output.old) self.old }
-        ensures { Does IsTickStep answer_in self.old output.old self.new output.new (did.new, sent.new) }
+        ensures { Does (IsStepOf move.Tick) did_in self.old output.old self.new output.new did.new }
     {
         self.core.tick_into(did, sent);
         self.give(sent, output);
@@ -135,7 +110,7 @@ pub(crate) fn sample_all(
 pub(crate) fn tick_all(seats: &mut [Seat], output: &mut [u8], sent: &mut FrameBuf, dids: &mut [Did])
     requires send { All (MaySend (length output.old)) seats.old }
     requires dids { length dids.old ≡ length seats.old }
-    ensures does { DoesEach IsTickStep did_in seats.old output.old seats.new output.new dids.new }
+    ensures does { DoesEach (IsStepOf move.Tick) did_in seats.old output.old seats.new output.new dids.new }
     ensures size { length output.new ≡ length output.old }
 {
     for i in 0..seats.len() {

@@ -18,5 +18,5 @@ returns-clause-follows c =
     set_follows _ _ _ c.args.slot (c.from.result - 1) (move.Nonce c.args.id) (event.Nonce c.args.slot c.args.id) c.index_mut.result.now c.nonce.new.self c.self.view_is c.self.invariant (omega arith) c.requires.slot c.index_mut.ensures.value tt
     (λ size p calls. refl) (λ size calls. refl) (λ size calls. refl) c.nonce.ensures.follows c.nonce.ensures.setup c.nonce.ensures.rest refl refl refl
 
-pub returns-clause-setups : goal.returns-clause-setups
-returns-clause-setups c = search (rules, seat_there, set_setups)
+pub returns-clause-keeps : goal.returns-clause-keeps
+returns-clause-keeps c = record { setups = search (rules, seat_there, set_setups); size_in = search rules; size_out = search rules }

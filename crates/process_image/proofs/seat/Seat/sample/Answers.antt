@@ -1,11 +1,14 @@
-use Rattle.std.proofs.Common.{length}
-use Rattle.process_image.proofs.Seats.{samples_none, samples_some}
+use Rattle.std.proofs.Common.{◌+◌, length, slice_range, ap}
+use Rattle.process_image.proofs.Seats.{delivers, samples_none}
 use Rattle.process_image.proofs.seat.Seat.sample.Goals as goal
 
-pub returns-then-is_unchanged : goal.returns-then-is_unchanged
-returns-then-is_unchanged c =
-    samples_none (length c.args.input.now) (length c.args.output.now) c.args.input.now c.args.self.now c.args.output.now c.requires (cc)
+pub returns-then-eq : goal.returns-then-eq
+returns-then-eq c =
+    samples_none (length c.args.input.now) (length c.args.output.now) c.args.input.now c.args.self.now _ c.args.output.now c.requires
+    (ap (λ n. slice_range c.args.input.now c.args.self.now.at_in (c.args.self.now.at_in + n)) c.len.ensures.value) (cc)
 
 pub returns : goal.returns
 returns c =
-    samples_some c.args.input.now c.args.self.now c.deliver.new.self c.args.output.now c.deliver.new.output c.deliver.new.did c.deliver.new.sent c.deliver.ensures (cc)
+    delivers (length c.args.output.now) c.args.input.now c.args.self.now c.args.output.now c.give.new.output c.deliver_into.new.self c.deliver_into.new.did c.deliver_into.new.out c.set.new.self _
+    c.requires (ap (λ n. slice_range c.args.input.now c.args.self.now.at_in (c.args.self.now.at_in + n)) c.len.ensures.value) (cc) c.set.ensures
+    (record { follows = c.deliver_into.ensures.follows; answers = c.deliver_into.ensures.answers; setup = c.deliver_into.ensures.setup; rest = c.deliver_into.ensures.rest }) c.give.ensures
