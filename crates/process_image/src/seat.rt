@@ -29,7 +29,9 @@ pub(crate) struct Seat {
 }
 
 impl Seat {
-    ghost use Rattle.process_image.specs.Steps.{with_sent, Does};
+    ghost use Rattle.std.specs.Prelude.{nat_eq, false};
+    ghost use Rattle.std.specs.Cmp.Lexicographic.{pointwise};
+    ghost use Rattle.process_image.specs.Steps.{with_sent, Does, seat_contents};
 
     /// A slot of which nothing is sampled yet.
     #[tactic(auto, using(crate::proofs::Beginning::frame_most))]
@@ -56,6 +58,26 @@ impl Seat {
         }
     }
 
+    /// Delivers the slot's contents, which differ from those that it saw last, and writes what its end did to `told`.
+    #[inline(never)]
+    fn deliver(
+        &mut self,
+        input: &[u8],
+        output: &mut [u8],
+        sent: &mut FrameBuf,
+        told: &mut Option<Did>,
+    )
+        requires sound { IsSoundSeat (length input.now) (length output.old) self.old }
+        requires changed { pointwise nat_eq self.old.seen (seat_contents self.old input.now) ≡ false }
+        ensures { Does (IsSampleStep input.now) told_by self.old output.old self.new output.new told.new }
+    {
+        let now = &input[self.at_in..self.at_in + self.seen.len()];
+        let did = told.insert(Did::nothing());
+        self.seen.set(now);
+        self.core.deliver_into(now, did, sent);
+        self.give(sent, output);
+    }
+
     /// Delivers the slot's contents if they differ from those that it saw last, and writes what its end did to `told`.
     fn sample(
         &mut self,
@@ -69,13 +91,13 @@ impl Seat {
     {
         let now = &input[self.at_in..self.at_in + self.seen.len()];
         if self.seen.bytes() == now {
-            *told = None;
+            // A place that is empty isn't written again.
+            if told.is_some() {
+                *told = None;
+            }
             return;
         }
-        let did = told.insert(Did::nothing());
-        self.seen.set(now);
-        self.core.deliver_into(now, did, sent);
-        self.give(sent, output);
+        self.deliver(input, output, sent, told);
     }
 
     /// Counts a tick at the slot, and writes what its end did to `did`.
@@ -89,6 +111,7 @@ impl Seat {
 }
 
 /// Samples each slot, one after another, and writes what each end did whose contents were delivered.
+#[inline(never)]
 pub(crate) fn sample_all(
     seats: &mut [Seat],
     input: &[u8],

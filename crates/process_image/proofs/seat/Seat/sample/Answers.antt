@@ -1,14 +1,19 @@
-use Rattle.std.proofs.Common.{◌+◌, length, slice_range, ap}
-use Rattle.process_image.proofs.Seats.{delivers, samples_none}
+use Rattle.std.proofs.Common.{◌≡◌, refl, ◌+◌, length, false, Option, None, Some, is_some, slice_range, ap}
+use Rattle.fsoe_base.specs.declared.did.Did.{Did}
+use Rattle.process_image.proofs.Seats.{samples_none}
 use Rattle.process_image.proofs.seat.Seat.sample.Goals as goal
 
-pub returns-then-eq : goal.returns-then-eq
-returns-then-eq c =
+pub returns-then-is_some : goal.returns-then-is_some
+returns-then-is_some c =
     samples_none (length c.args.input.now) (length c.args.output.now) c.args.input.now c.args.self.now _ c.args.output.now c.requires
     (ap (λ n. slice_range c.args.input.now c.args.self.now.at_in (c.args.self.now.at_in + n)) c.len.ensures.value) (cc)
 
-pub returns : goal.returns
-returns c =
-    delivers (length c.args.output.now) c.args.input.now c.args.self.now c.args.output.now c.give.new.output c.deliver_into.new.self c.deliver_into.new.did c.deliver_into.new.out c.set.new.self _
-    c.requires (ap (λ n. slice_range c.args.input.now c.args.self.now.at_in (c.args.self.now.at_in + n)) c.len.ensures.value) (cc) c.set.ensures
-    (record { follows = c.deliver_into.ensures.follows; answers = c.deliver_into.ensures.answers; setup = c.deliver_into.ensures.setup; rest = c.deliver_into.ensures.rest }) c.give.ensures
+empty : (told : Option Did) → false ≡ is_some told → told ≡ None
+empty None h = refl
+empty (Some _) h = absurd (cc)
+
+pub returns-else-is_some : goal.returns-else-is_some
+returns-else-is_some c =
+    rw (empty c.args.told.now (cc))
+    (samples_none (length c.args.input.now) (length c.args.output.now) c.args.input.now c.args.self.now _ c.args.output.now c.requires
+    (ap (λ n. slice_range c.args.input.now c.args.self.now.at_in (c.args.self.now.at_in + n)) c.len.ensures.value) (cc))
