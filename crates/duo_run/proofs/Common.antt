@@ -64,7 +64,7 @@ pub use Rattle.schedule_file.specs.Header.{Heading, IsMasterOf, IsSlaveOf, field
 pub use Rattle.schedule_file.specs.Input.{AtEnd, Input, InputCause, InputOf, Line, Long, NoFrame, NoLine, Refused, Stop, TooMany, WholeHeader, WholeHeaderOf, event_of, header_in, header_of, header_step, heading_profile, input_after, input_by, input_of, input_read, is_full, lines_in, lines_of, open_line, own_length, said_after, schedule_format, steps, stop_at, stop_by, stop_full, texts, with_room}
 pub use Rattle.schedule_file.specs.Made.{event_at, event_by, event_in_turn, is_switch_on, load_of, made, made_lengths, made_master, made_slave, mask_of, place_of, word_after}
 pub use Rattle.schedule_file.specs.NodeHeader.{may_end}
-pub use Rattle.schedule_file.specs.PairEvent.{pair_line, pair_said, pair_said_by, pair_word_of}
+pub use Rattle.schedule_file.specs.PairEvent.{pair_event, pair_line, pair_said, pair_word_of}
 pub use Rattle.schedule_file.specs.PairsEvent.{numbered, pairs_line}
 pub use Rattle.schedule_file.specs.PairsFit.{FitsPair, PairsLineFits, line_of_event}
 pub use Rattle.schedule_file.specs.PairsHeader.{PairsHeading, is_done, last_taken, next_pair, pair_begun, pair_taken, pairs_begun, pairs_heading_after, pairs_heading_is_whole, pairs_line_taken, pairs_of, stage_after}

@@ -16,7 +16,7 @@ pub use Rattle.param_load.specs.declared.master_settings.MasterSettings.{MasterS
 pub use Rattle.param_load.specs.declared.profile.Profile.{Profile}
 pub use Rattle.param_load.specs.declared.slave_settings.SlaveSettings.{SlaveSettings}
 pub use Rattle.schedule_file.specs.Event.{Fits, FitsEnd, InRange, OnStep, RuleInRange, profile_of}
-pub use Rattle.schedule_file.specs.EventLine.{altered_line, delivered_len, nonce_line, reference_of, switch_of}
+pub use Rattle.schedule_file.specs.EventLine.{altered_line, delivered_len, event_said, line_said, reference_of, switch_of}
 pub use Rattle.schedule_file.specs.EventText.{IsOfTypes, event_text, reference_text, switch_text}
 pub use Rattle.schedule_file.specs.Field.{bytes_said, fields_of, is_space, number_said, some_bytes}
 pub use Rattle.schedule_file.specs.Fields.{by_word, map_ok, next_field, no_field, number_16, number_32, one_field, one_hex_field, value_or}
@@ -25,18 +25,18 @@ pub use Rattle.schedule_file.specs.Header.{Heading, IsMasterOf, IsSlaveOf, field
 pub use Rattle.schedule_file.specs.HeaderLine.{header_line, lengths_line, master_line, profile_line, range_line, rule_line, slave_line}
 pub use Rattle.schedule_file.specs.HeaderPart.{highs_of, list_with, lows_of, master_with_app, profile_for, ranges_with, rule_begun, rule_with_bytes, rule_with_pairs, slave_with_bytes, slave_with_pairs}
 pub use Rattle.schedule_file.specs.Input.{AtEnd, InputCause, InputFormat, NoLine, Refused, Stop, WholeHeaderOf, event_of, header_in, header_of, header_read, header_step, heading_profile, input_by, input_of, input_read, is_full, lines_in, lines_of, open_line, own_length, said_after, schedule_format, steps, texts, whole_line, with_room}
-pub use Rattle.schedule_file.specs.PairEvent.{end_letter, event_said, pair_line, pair_said, pair_said_by, pair_word_of}
-pub use Rattle.schedule_file.specs.PairsEvent.{common_line, is_digits, numbered, numbered_line, of_pair, pairs_line, pairs_said, refused_for, said_to, said_to_number, unlinked}
+pub use Rattle.schedule_file.specs.PairEvent.{end_letter, pair_event, pair_line, pair_said, pair_word_of}
+pub use Rattle.schedule_file.specs.PairsEvent.{common_line, is_digits, numbered, numbered_line, pairs_line, pairs_said, said_to, said_to_number}
 pub use Rattle.schedule_file.specs.PairsFit.{FitsEnds, FitsPair, IsPair, PairsLineFits, line_of_event, with_pair}
 pub use Rattle.schedule_file.specs.PairsHeader.{PairsHeading, pairs_begun, pairs_of}
 pub use Rattle.schedule_file.specs.Place.{admitted, header_word_of, is_start, may_stand}
 pub use Rattle.schedule_file.specs.declared.event.Event.{Event}
 pub use Rattle.schedule_file.specs.declared.event.ScheduleLine.{ScheduleLine}
+pub use Rattle.schedule_file.specs.declared.event_line.EventWord.{EventWord}
 pub use Rattle.schedule_file.specs.declared.header_kind.HeaderKind.{HeaderKind}
 pub use Rattle.schedule_file.specs.declared.header_line.HeaderLine.{HeaderLine}
 pub use Rattle.schedule_file.specs.declared.header_line.RuleLine.{RuleLine}
 pub use Rattle.schedule_file.specs.declared.line_cause.LineCause.{LineCause}
-pub use Rattle.schedule_file.specs.declared.pair_event.PairWord.{PairWord}
 pub use Rattle.schedule_file.specs.declared.pairs_line.PairsLine.{PairsLine}
 pub use Rattle.schedule_file.specs.declared.place.Place.{Place}
 pub use Rattle.schedule_file.specs.declared.place.Word.{Word}

@@ -1,16 +1,13 @@
 -- What lines of several pairs say.
-use Rattle.schedule_file.proofs.Common.{All-append, All-cons, All-nil, End, IsPair, Fits, Heading, IfOk, Lengths, LineCause, None, Ok, OnStep, Option, PairWord, PairsLineFits, Profile, Result, ScheduleLine, Some, all_ascii_digits, common_steps, event_said, get_or_from_slice_get, is_ascii_digit, length_of, list_all, map-append, next_field, number_said, numbered, numbered_line, of_pair, option_map, pair_word_of, pairs_begun, profile_of, said_to, said_to_number, slice_get, slice_get-map, slice_get_within, take_more, unlinked, value_or}
+use Rattle.schedule_file.proofs.Common.{All-append, All-cons, All-nil, End, EventWord, IsPair, Heading, IfOk, None, Option, PairsLineFits, Profile, Some, all_ascii_digits, common_steps, get_or_from_slice_get, is_ascii_digit, list_all, map-append, next_field, number_said, numbered, numbered_line, option_map, pair_event, pair_word_of, pairs_begun, said_to, said_to_number, slice_get, slice_get-map, slice_get_within, take_more, value_or}
 use Rattle.std.proofs.Common.{◌≡◌, ℕ, zero, suc, ◌+◌, ◌<◌, List, [], ◌∷◌, ◌++◌, map, take, length, All, subst, refl, sym, ap, ◌∙◌, add-one, arith}
 use Rattle.std.specs.Prelude.{◌⊎◌}
 use Rattle.fsoe_base.specs.declared.command.End.TheVariants as side
-use Rattle.param_load.specs.declared.profile.Profile.TheVariants as profile
-use Rattle.param_load.specs.declared.profile.Profiles.{Profiles}
 use Rattle.schedule_file.specs.declared.pairs_header.PairsStage.{PairsStage}
 use Rattle.schedule_file.specs.declared.pairs_header.PairsStage.TheVariants as stage
-use Rattle.schedule_file.specs.declared.event.ScheduleLine.TheVariants as line
 use Rattle.schedule_file.specs.declared.line_cause.LineCause.TheVariants as cause
-use Rattle.schedule_file.proofs.Fitting.{said_fits}
-use Rattle.schedule_file.proofs.Sound.{each}
+use Rattle.schedule_file.proofs.Fitting.{event_fits}
+use Rattle.schedule_file.proofs.Sound.{each, IfOk-map}
 
 -- what is said of each pair is found by its number
 pub numbered_map : {A B : Type 0} (f : A → B) (pairs : List A) (pair : ℕ) → numbered pair (map f pairs) ≡ option_map f (numbered pair pairs)
@@ -23,27 +20,13 @@ all_digits text = grind arith
 pub same_ends : {X : Type 0} (f g : End → X) → f side.Master ≡ g side.Master → f side.Slave ≡ g side.Slave → f ≡ g
 same_ends f g h k = grind arith
 
-pub unlinked-is : (lengths : Lengths) (profiles : Profiles) (word : PairWord) (fields : List (List ℕ)) → lengths.master ≡ 1 → lengths.slave ≡ 1 → profiles.master ≡ profile.One → profiles.slave ≡ profile.One
-    → event_said (length_of lengths) (profile_of profiles) word fields ≡ unlinked word fields
-unlinked-is lengths profiles word fields lm ls pm ps =
-    ap (λ (s : End → ℕ). event_said s (profile_of profiles) word fields) (same_ends (length_of lengths) (λ end. 1) lm ls)
-    ∙ ap (λ (p : End → Profile). event_said (λ end. 1) p word fields) (same_ends (profile_of profiles) (λ end. profile.One) pm ps)
-
 -- the event of a line, where it is that of one pair, fits this
-event_fits : (sends : End → ℕ) (profiles : End → Profile) (word : PairWord) (fields : List (List ℕ)) → IfOk (event_said sends profiles word fields) (OnStep (Fits sends profiles))
-event_fits sends profiles word fields = grind (arith, said_fits sends profiles (Some word) fields)
-
-one_fits : (sends : List (End → ℕ)) (profiles : List (End → Profile)) (pair : ℕ) (s : End → ℕ) (p : End → Profile) (r : Result ScheduleLine LineCause)
-    → numbered pair sends ≡ Some s → numbered pair profiles ≡ Some p → IfOk r (OnStep (Fits s p)) → IfOk (of_pair pair r) (PairsLineFits sends profiles)
-one_fits sends profiles pair s p (Ok (line.Step event)) e d fits = rw (e, d) fits
-one_fits sends profiles pair s p _ e d fits = tt
-
-to_fits : (sends : List (End → ℕ)) (profiles : List (End → Profile)) (pair : ℕ) (s : Option (End → ℕ)) (p : Option (End → Profile)) (word : PairWord) (fields : List (List ℕ))
+to_fits : (sends : List (End → ℕ)) (profiles : List (End → Profile)) (pair : ℕ) (s : Option (End → ℕ)) (p : Option (End → Profile)) (word : EventWord × End) (fields : List (List ℕ))
     → numbered pair sends ≡ s → numbered pair profiles ≡ p → IfOk (said_to pair s p word fields) (PairsLineFits sends profiles)
-to_fits sends profiles pair (Some s) (Some p) word fields e d = one_fits sends profiles pair s p (event_said s p word fields) e d (event_fits s p word fields)
+to_fits sends profiles pair (Some s) (Some p) word fields e d = IfOk-map (pair_event s p word fields) _ _ (rw (e, d) (event_fits s p word.0 word.1 fields))
 to_fits sends profiles pair _ _ word fields e d = tt
 
-number_fits : (sends : List (End → ℕ)) (profiles : List (End → Profile)) (number : Option ℕ) (word : PairWord) (fields : List (List ℕ)) → IfOk (said_to_number sends profiles number word fields) (PairsLineFits sends profiles)
+number_fits : (sends : List (End → ℕ)) (profiles : List (End → Profile)) (number : Option ℕ) (word : EventWord × End) (fields : List (List ℕ)) → IfOk (said_to_number sends profiles number word fields) (PairsLineFits sends profiles)
 number_fits sends profiles None word fields = tt
 number_fits sends profiles (Some pair) word fields = to_fits sends profiles pair (numbered pair sends) (numbered pair profiles) word fields refl refl
 

@@ -1,16 +1,24 @@
 -- A line with the number of a pair before it says the same of this pair.
-use Rattle.schedule_file.proofs.Common.{End, Event, FitsEnds, FitsPair, IsOfTypes, Ok, Option, Profile, Some, by_word, common_line, decimal, decimal_nonempty, event_text, fields_of, is_digits, is_space, nat_tests, number_said, numbered, numbered_line, pair_line, pair_said_by, pairs_line, pairs_said, slice_split_at, with_pair}
-use Rattle.std.proofs.Common.{◌≡◌, ℕ, ◌<◌, ◌^◌, Bool, true, List, refl, ap, ◌∙◌, arith}
+use Rattle.schedule_file.proofs.Common.{End, Event, EventWord, FitsEnds, FitsPair, IsOfTypes, Ok, Option, Profile, Some, by_word, common_line, decimal, decimal_nonempty, event_text, fields_of, is_digits, is_space, line_said, nat_tests, number_said, numbered, numbered_line, pair_event, pair_line, pair_said, pair_word_of, pairs_line, pairs_said, said_to_number, slice_split_at, value_or, with_pair}
+use Rattle.std.proofs.Common.{◌≡◌, ℕ, ◌<◌, ◌^◌, Bool, true, List, [], ◌∷◌, refl, ap, ◌∙◌, arith}
 use Rattle.std.specs.Prelude.{if◌then◌else◌}
+use Rattle.schedule_file.specs.Fields.{◌>>=◌}
 use Rattle.schedule_file.specs.declared.line_cause.LineCause.TheVariants as cause
 use Rattle.schedule_file.specs.declared.event.ScheduleLine.TheVariants as line
 use Rattle.schedule_file.specs.declared.pairs_line.PairsLine.TheVariants as said
 use Rattle.schedule_file.proofs.ReadBack.{digits-decimal, no_space-decimal, number_said-decimal, read_back}
 
+-- an event that a line says to these ends it says to a pair with such ends
+to_pair : (sends : List (End → ℕ)) (profiles : List (End → Profile)) (pair : ℕ) (own : End → ℕ) (profile : End → Profile) (number : Option ℕ) (first : List ℕ) (word : Option (EventWord × End)) (fields : List (List ℕ)) (event : Event)
+    → number ≡ Some pair → numbered pair sends ≡ Some own → numbered pair profiles ≡ Some profile → line_said first fields (value_or cause.Word word >>= λ w. pair_event own profile w fields) ≡ Ok (line.Step event)
+    → (value_or cause.Word word >>= λ w. said_to_number sends profiles number w fields) ≡ Ok (said.One pair event)
+to_pair sends profiles pair own profile number first word fields event h k l m = grind arith
+
 by_fields : (sends : List (End → ℕ)) (profiles : List (End → Profile)) (pair : ℕ) (own : End → ℕ) (profile : End → Profile) (digits : List ℕ) (fields : List (List ℕ)) (event : Event)
-    → number_said 65535 digits ≡ Some pair → numbered pair sends ≡ Some own → numbered pair profiles ≡ Some profile → pair_said_by own profile fields ≡ Ok (line.Step event)
+    → number_said 65535 digits ≡ Some pair → numbered pair sends ≡ Some own → numbered pair profiles ≡ Some profile → by_word cause.Word (pair_said own profile) fields ≡ Ok (line.Step event)
     → numbered_line sends profiles digits fields ≡ Ok (said.One pair event)
-by_fields sends profiles pair own profile digits fields event h k l m = grind arith
+by_fields sends profiles pair own profile digits [] event h k l m = cc
+by_fields sends profiles pair own profile digits (first ∷ fields) event h k l m = to_pair sends profiles pair own profile (number_said 65535 digits) first (pair_word_of first) fields event h k l m
 
 pub numbered_said : (sends : List (End → ℕ)) (profiles : List (End → Profile)) (pair : ℕ) (own : End → ℕ) (profile : End → Profile) (text : List ℕ) (event : Event) → pair < 65536
     → numbered pair sends ≡ Some own → numbered pair profiles ≡ Some profile → pair_line own profile text ≡ Ok (line.Step event) → pairs_line sends profiles (with_pair pair text) ≡ Ok (said.One pair event)

@@ -1,10 +1,10 @@
 -- The line of an event is read as that event.
-use Rattle.schedule_file.proofs.Common.{All-cons, All-nil, End, Event, Fits, IsBytes, IsOfTypes, MOST_DATA, MOST_FRAME, Ok, PairWord, Profile, Some, all_ascii_digits, altered_line, and_parts, bytes_said, cases_lt, decimal, decimal_digit, decimal_nonempty, decode_of-encode_lower, decode_of-ok, delivered_len, digits_decimal, digits_value, digits_value-decimal, encode_lower, end_letter, event_text, fields_of, first_decimal, is_ascii_digit, is_hex_digit, is_space, join_with_byte, nat_tests, number_said, numerals_by_value, pair_line, pair_said, pair_word_of, reference_of, reference_text, slice_split_at, slice_split_none, some_bytes, switch_of, switch_text, tells_all_ascii_digits}
+use Rattle.schedule_file.proofs.Common.{All-cons, All-nil, End, Event, EventWord, Fits, IsBytes, IsOfTypes, MOST_DATA, MOST_FRAME, Ok, Profile, Some, all_ascii_digits, altered_line, and_parts, bytes_said, cases_lt, decimal, decimal_digit, decimal_nonempty, decode_of-encode_lower, decode_of-ok, delivered_len, digits_decimal, digits_value, digits_value-decimal, encode_lower, end_letter, event_text, fields_of, first_decimal, is_ascii_digit, is_hex_digit, is_space, join_with_byte, map_ok, nat_tests, number_said, numerals_by_value, pair_event, pair_line, pair_said, reference_of, reference_text, slice_split_at, slice_split_none, some_bytes, switch_of, switch_text, tells_all_ascii_digits}
 use Rattle.std.proofs.Common.{◌≡◌, ℕ, ◌<◌, ◌≤◌, ◌^◌, Bool, true, false, List, [], ◌∷◌, length, get_or, All, inl, inr, refl, ap, ◌∙◌, arith, rules}
 use Rattle.std.specs.Prelude.{◌⊎◌}
 use Rattle.fsoe_base.specs.declared.command.End.TheVariants as side
 use Rattle.schedule_file.proofs.HexDigits.{some_bytes-within}
-use Rattle.schedule_file.specs.declared.pair_event.PairWord.TheVariants as word
+use Rattle.schedule_file.specs.declared.event_line.EventWord.TheVariants as word
 use Rattle.schedule_file.specs.declared.event.Event.TheVariants as event
 use Rattle.schedule_file.specs.declared.event.ScheduleLine.TheVariants as line
 
@@ -82,40 +82,41 @@ no_space-switch : (on : Bool) → HasNoSpace (switch_text on)
 no_space-switch on = grind arith
 
 -- what the fields after the word say
-altered_read : (sends : End → ℕ) (to : End) (back pos mask : ℕ) (reference place digits : List ℕ)
-    → number_said 65535 place ≡ Some pos → reference_of reference ≡ Some back → bytes_said 1 digits ≡ Some (mask ∷ []) → pos < delivered_len sends to
-    → altered_line to sends (reference ∷ place ∷ digits ∷ []) ≡ Ok (line.Step (event.Altered to back pos mask))
-altered_read sends to back pos mask reference place digits e f g lt = rw (e, f, g) (grind (arith, nat_tests))
+altered_read : (delivered : ℕ) (to : End) (back pos mask : ℕ) (reference place digits : List ℕ)
+    → number_said 65535 place ≡ Some pos → reference_of reference ≡ Some back → bytes_said 1 digits ≡ Some (mask ∷ []) → pos < delivered
+    → altered_line to delivered (reference ∷ place ∷ digits ∷ []) ≡ Ok (event.Altered to back pos mask)
+altered_read delivered to back pos mask reference place digits e f g lt = rw (e, f, g) (grind (arith, nat_tests))
 
 -- a line says what its word says with the fields after it
-line_said : (sends : End → ℕ) (profiles : End → Profile) (first : ℕ) (named : End → PairWord) (at : End) (fields : List (List ℕ)) → is_space first ≡ false
-    → pair_word_of (first ∷ end_letter side.Master) ≡ Some (named side.Master) → pair_word_of (first ∷ end_letter side.Slave) ≡ Some (named side.Slave) → HaveNoSpaces fields
-    → pair_line sends profiles (join_with_byte 32 ((first ∷ end_letter at) ∷ fields)) ≡ pair_said sends profiles (Some (named at)) fields
-line_said sends profiles first named at fields h k l m = search (rules, fields_joined)
+word_read : (sends : End → ℕ) (profiles : End → Profile) (first : ℕ) (word : EventWord) (at : End) (fields : List (List ℕ)) → is_space first ≡ false
+    → pair_said sends profiles (first ∷ end_letter side.Master) fields ≡ map_ok line.Step (pair_event sends profiles (word, side.Master) fields)
+    → pair_said sends profiles (first ∷ end_letter side.Slave) fields ≡ map_ok line.Step (pair_event sends profiles (word, side.Slave) fields) → HaveNoSpaces fields
+    → pair_line sends profiles (join_with_byte 32 ((first ∷ end_letter at) ∷ fields)) ≡ map_ok line.Step (pair_event sends profiles (word, at) fields)
+word_read sends profiles first word at fields h k l m = search (rules, fields_joined)
 
 pub read_back : (sends : End → ℕ) (profiles : End → Profile) (event : Event) → IsOfTypes event → Fits sends profiles event → pair_line sends profiles (event_text event) ≡ Ok (line.Step event)
 read_back sends profiles (event.Deliver to back) typed fits =
-    line_said sends profiles 100 word.Deliver to (reference_text back ∷ []) refl refl refl (no_space-reference back fits.0.1, tt)
+    word_read sends profiles 100 word.Deliver to (reference_text back ∷ []) refl refl refl (no_space-reference back fits.0.1, tt)
     ∙ rw (reference_of-text back fits.0.0 fits.0.1) refl
 read_back sends profiles (event.Altered to back pos mask) typed fits =
     let place : List ℕ = decimal pos in
     let digits : List ℕ = encode_lower (mask ∷ []) in
     let is_byte = one_byte mask typed.2 in
-    line_said sends profiles 97 word.Altered to (reference_text back ∷ place ∷ digits ∷ []) refl refl refl
+    word_read sends profiles 97 word.Altered to (reference_text back ∷ place ∷ digits ∷ []) refl refl refl
     (no_space-reference back fits.0.1, (no_space-decimal pos (omega (arith, typed.1)), (no_space-hex (mask ∷ []) is_byte, tt)))
-    ∙ altered_read sends to back pos mask (reference_text back) place digits (number_said-decimal 65535 pos (omega (arith, typed.1)) (omega (arith, typed.1)))
-    (reference_of-text back fits.0.0 fits.0.1) (bytes_said-hex 1 (mask ∷ []) is_byte (omega arith) (omega arith)) fits.1
+    ∙ ap (map_ok line.Step) (altered_read (delivered_len sends to) to back pos mask (reference_text back) place digits (number_said-decimal 65535 pos (omega (arith, typed.1)) (omega (arith, typed.1)))
+    (reference_of-text back fits.0.0 fits.0.1) (bytes_said-hex 1 (mask ∷ []) is_byte (omega arith) (omega arith)) fits.1)
 read_back sends profiles (event.Raw to frame) typed fits =
-    line_said sends profiles 114 word.Raw to (encode_lower frame ∷ []) refl refl refl (no_space-hex frame typed, tt)
+    word_read sends profiles 114 word.Raw to (encode_lower frame ∷ []) refl refl refl (no_space-hex frame typed, tt)
     ∙ rw (bytes_said-hex MOST_FRAME frame typed fits.0.0 fits.0.1) refl
-read_back sends profiles (event.Tick at) typed fits = line_said sends profiles 116 word.Tick at [] refl refl refl tt
+read_back sends profiles (event.Tick at) typed fits = word_read sends profiles 116 word.Tick at [] refl refl refl tt
 read_back sends profiles (event.Put at load) typed fits =
-    line_said sends profiles 112 word.Put at (encode_lower load ∷ []) refl refl refl (no_space-hex load typed, tt)
+    word_read sends profiles 112 word.Put at (encode_lower load ∷ []) refl refl refl (no_space-hex load typed, tt)
     ∙ rw (bytes_said-hex MOST_DATA load typed fits.0.0 fits.0.1) (grind (arith, nat_tests, fits.1))
 read_back sends profiles (event.Hold at failsafe) typed fits =
-    line_said sends profiles 104 word.Hold at (switch_text failsafe ∷ []) refl refl refl (no_space-switch failsafe, tt)
+    word_read sends profiles 104 word.Hold at (switch_text failsafe ∷ []) refl refl refl (no_space-switch failsafe, tt)
     ∙ rw (switch_of-text failsafe) refl
 read_back sends profiles (event.Nonce at id) typed fits =
-    line_said sends profiles 110 word.Nonce at (decimal id ∷ []) refl refl refl (no_space-decimal id (omega (arith, typed)), tt)
+    word_read sends profiles 110 word.Nonce at (decimal id ∷ []) refl refl refl (no_space-decimal id (omega (arith, typed)), tt)
     ∙ rw (number_said-decimal 4294967295 id (omega (arith, typed)) (omega (arith, typed)), fits.1) refl
-read_back sends profiles (event.Local at) typed fits = line_said sends profiles 122 word.Local at [] refl refl refl tt
+read_back sends profiles (event.Local at) typed fits = word_read sends profiles 122 word.Local at [] refl refl refl tt

@@ -1,5 +1,5 @@
--- The steps by which a line is read: each gives a value, or the cause for which the line is refused. The first two serve
--- for other causes too.
+-- The steps by which a line is read: each gives a value, or the cause for which the line is refused. The first two
+-- serve for other causes too.
 use Rattle.std.specs.Prelude.{List, [], ◌∷◌, ℕ, Option, Some, None, Result, Ok, Err}
 use Rattle.schedule_file.specs.Field.{number_said, bytes_said}
 use Rattle.schedule_file.specs.declared.line_cause.LineCause.{LineCause}

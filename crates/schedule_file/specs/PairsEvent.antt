@@ -6,15 +6,15 @@ use Rattle.std.specs.Str.{bytes_eq, all_ascii_digits}
 use Rattle.fsoe_base.specs.declared.command.End.{End}
 use Rattle.param_load.specs.declared.profile.Profile.{Profile}
 use Rattle.param_load.specs.declared.profile.Profile.TheVariants as profile
+use Rattle.schedule_file.specs.EventLine.{bare_line, event_said}
 use Rattle.schedule_file.specs.Field.{fields_of, number_said}
-use Rattle.schedule_file.specs.Fields.{◌>>=◌, map_ok, value_or, by_word, next_field, no_field}
+use Rattle.schedule_file.specs.Fields.{◌>>=◌, map_ok, value_or, by_word, next_field}
 use Rattle.schedule_file.specs.LineCause.{cause_order}
-use Rattle.schedule_file.specs.PairEvent.{pair_word_of, event_said}
-use Rattle.schedule_file.specs.declared.event.ScheduleLine.{ScheduleLine}
-use Rattle.schedule_file.specs.declared.event.ScheduleLine.TheVariants as line
+use Rattle.schedule_file.specs.PairEvent.{pair_word_of, pair_event}
+use Rattle.schedule_file.specs.declared.event.Event.{Event}
+use Rattle.schedule_file.specs.declared.event_line.EventWord.{EventWord}
 use Rattle.schedule_file.specs.declared.line_cause.LineCause.{LineCause}
 use Rattle.schedule_file.specs.declared.line_cause.LineCause.TheVariants as cause
-use Rattle.schedule_file.specs.declared.pair_event.PairWord.{PairWord}
 use Rattle.schedule_file.specs.declared.pairs_line.PairsLine.{PairsLine}
 use Rattle.schedule_file.specs.declared.pairs_line.PairsLine.TheVariants as said
 
@@ -32,29 +32,23 @@ abbrev pub first_cause : LineCause → LineCause → LineCause
 first_cause a b = if nat_le (cause_order a) (cause_order b) then a else b
 
 -- why a line is refused that has this cause, and maybe another by its event
-abbrev pub refused_for : LineCause → Result ScheduleLine LineCause → LineCause
+abbrev pub refused_for : LineCause → Result Event LineCause → LineCause
 refused_for found (Ok said) = found
 refused_for found (Err other) = first_cause found other
 
--- what a word says with its fields to a pair that isn't there: what ends in profile One may have, which send one byte
--- each
-abbrev pub unlinked : PairWord → List (List ℕ) → Result ScheduleLine LineCause
-unlinked word fields = event_said (λ end. 1) (λ end. profile.One) word fields
-
--- the event of a pair
-abbrev pub of_pair : ℕ → Result ScheduleLine LineCause → Result PairsLine LineCause
-of_pair pair (Ok (line.Step event)) = Ok (said.One pair event)
-of_pair pair (Ok line.End) = Err cause.Word
-of_pair pair (Err cause) = Err cause
+-- what a word says with its fields to a pair that isn't there. Its ends have profile One. Lengths don't matter, since
+-- the causes that come of them count after that of the pair
+abbrev pub unlinked : EventWord × End → List (List ℕ) → Result Event LineCause
+unlinked word fields = event_said 0 0 profile.One word.0 word.1 fields
 
 -- what a word says with its fields to a pair, where both are found what its ends send and their profiles
-abbrev pub said_to : ℕ → Option (End → ℕ) → Option (End → Profile) → PairWord → List (List ℕ) → Result PairsLine LineCause
-said_to pair (Some sends) (Some profiles) word fields = of_pair pair (event_said sends profiles word fields)
+abbrev pub said_to : ℕ → Option (End → ℕ) → Option (End → Profile) → EventWord × End → List (List ℕ) → Result PairsLine LineCause
+said_to pair (Some sends) (Some profiles) word fields = map_ok (said.One pair) (pair_event sends profiles word fields)
 said_to pair None profiles word fields = Err (refused_for cause.NoLink (unlinked word fields))
 said_to pair (Some sends) None word fields = Err (refused_for cause.NoLink (unlinked word fields))
 
 -- the same to the pair of a number, where it is one
-abbrev pub said_to_number : List (End → ℕ) → List (End → Profile) → Option ℕ → PairWord → List (List ℕ) → Result PairsLine LineCause
+abbrev pub said_to_number : List (End → ℕ) → List (End → Profile) → Option ℕ → EventWord × End → List (List ℕ) → Result PairsLine LineCause
 said_to_number sends profiles None word fields = Err (refused_for cause.Number (unlinked word fields))
 said_to_number sends profiles (Some pair) word fields = said_to pair (numbered pair sends) (numbered pair profiles) word fields
 
@@ -68,8 +62,8 @@ numbered_line sends profiles digits fields = do
 -- what the fields of a line say that begins with no digits alone
 abbrev pub common_line : List ℕ → List (List ℕ) → Result PairsLine LineCause
 common_line first fields =
-    if bytes_eq first (codes "t") then map_ok (λ none. said.Tick) (no_field fields)
-    else if bytes_eq first (codes "end") then map_ok (λ none. said.End) (no_field fields)
+    if bytes_eq first (codes "t") then bare_line said.Tick fields
+    else if bytes_eq first (codes "end") then bare_line said.End fields
     else Err cause.Word
 
 -- what the fields of a line say that begins so

@@ -1,9 +1,11 @@
-//! What the fields of an event's line say that stand after its word: one reader for each kind of event. Each writes the
-//! event over `event`, which is as it was after an error. So what a line says is made in its place.
-ghost use Rattle.std.specs.Prelude.{◌≡◌, ◌≤◌, [], ◌∷◌, OnErr, option_map};
+//! What an event's line says by its word and the fields after it: one reader for each kind of event. Each writes the
+//! event over `event`, which is as it was after an error. So what a line says is made in its place. A tick is the
+//! commonest line. So the readers that need more room than it stand by themselves.
+ghost use Rattle.std.specs.Prelude.{◌≡◌, [], ◌∷◌, OnErr, option_map};
 ghost use Rattle.fsoe_base.specs.LengthsOf.{length_of};
-ghost use Rattle.schedule_file.specs.EventLine.{switch_of, reference_of, delivered_len, bare_line, deliver_line, altered_line, raw_line, put_line, hold_line, nonce_line};
+ghost use Rattle.schedule_file.specs.EventLine.{switch_of, reference_of, delivered_len, bare_line, deliver_line, altered_line, raw_line, put_line, hold_line, nonce_line, event_said};
 ghost use Rattle.schedule_file.specs.Field.{bytes_said};
+ghost use Rattle.schedule_file.specs.Fields.{map_ok};
 ghost use Rattle.schedule_file.specs.FieldsRead.{fields_after, Becomes};
 
 use crate::event::{Event, MAX_BACK, ScheduleLine};
@@ -12,8 +14,21 @@ use crate::field::{
 };
 use crate::hex_digits::read_hex;
 use crate::line_cause::LineCause;
-use fsoe_base::{End, FrameBuf, Image, Lengths, MOST_FRAME};
+use fsoe_base::{End, FrameBuf, Image, Lengths};
 use param_load::Profile;
+
+/// What happens at an end, as the word of a line says it.
+#[derive(Clone, Copy)]
+pub enum EventWord {
+    Deliver,
+    Altered,
+    Raw,
+    Tick,
+    Put,
+    Hold,
+    Nonce,
+    Local,
+}
 
 /// The texts of a switch.
 const SWITCHES: [(&[u8], bool); 2] = [(b"0", false), (b"1", true)];
@@ -50,19 +65,20 @@ fn read_mask(text: &[u8]) -> Option<u8>
 }
 
 /// The number of bytes of a frame that is delivered to this end, which its peer sent.
-fn delivered_len(to: End, lengths: &Lengths) -> usize
-    ensures value { result ≡ delivered_len (length_of lengths.now) to }
-    ensures most { result ≤ MOST_FRAME }
+pub fn delivered_len(to: End, lengths: &Lengths) -> u8
+    ensures { result ≡ delivered_len (length_of lengths.now) to }
 {
-    match to {
+    let len = match to {
         End::Master => lengths.frame_len(End::Slave),
         End::Slave => lengths.frame_len(End::Master),
-    }
+    };
+    len as u8
 }
 
 /// `-<back>`: a frame that the peer sent.
-pub fn read_deliver(to: End, fields: Option<&[u8]>, event: &mut Event) -> Result<(), LineCause>
-    ensures value { Becomes result (ScheduleLine.Step event.new) (deliver_line to (fields_after fields.entry)) }
+#[inline(never)]
+fn read_deliver(to: End, fields: Option<&[u8]>, event: &mut Event) -> Result<(), LineCause>
+    ensures value { Becomes result event.new (deliver_line to (fields_after fields.entry)) }
     ensures unwritten { OnErr result (event.new ≡ event.old) }
 {
     let field = one_field(fields)?;
@@ -72,13 +88,14 @@ pub fn read_deliver(to: End, fields: Option<&[u8]>, event: &mut Event) -> Result
 }
 
 /// `-<back> <place> <mask>`: the same with one byte altered.
-pub fn read_altered(
+#[inline(never)]
+fn read_altered(
     to: End,
-    lengths: &Lengths,
+    delivered: u8,
     fields: Option<&[u8]>,
     event: &mut Event,
 ) -> Result<(), LineCause>
-    ensures value { Becomes result (ScheduleLine.Step event.new) (altered_line to (length_of lengths.now) (fields_after fields.entry)) }
+    ensures value { Becomes result event.new (altered_line to delivered (fields_after fields.entry)) }
     ensures unwritten { OnErr result (event.new ≡ event.old) }
 {
     let (reference, rest) = next_field(fields)?;
@@ -87,7 +104,7 @@ pub fn read_altered(
     let pos = number_16(place)?;
     let back = read_reference(reference).ok_or(LineCause::Reference)?;
     let mask = read_mask(digits).ok_or(LineCause::Hex)?;
-    if usize::from(pos) >= delivered_len(to, lengths) {
+    if pos >= u16::from(delivered) {
         return Err(LineCause::Position);
     }
     *event = Event::Altered {
@@ -99,23 +116,10 @@ pub fn read_altered(
     Ok(())
 }
 
-/// No field: a tick. It's written over a tick alone where `event` is one: to write an event of another kind blanks a
-/// frame's room.
-pub fn read_tick(at: End, fields: Option<&[u8]>, event: &mut Event) -> Result<(), LineCause>
-    ensures value { Becomes result (ScheduleLine.Step event.new) (bare_line (ScheduleLine.Step (Event.Tick at)) (fields_after fields.entry)) }
-    ensures unwritten { OnErr result (event.new ≡ event.old) }
-{
-    no_field(fields)?;
-    match event {
-        Event::Tick { at: end } => *end = at,
-        _ => *event = Event::Tick { at },
-    }
-    Ok(())
-}
-
 /// `<hex>`: a frame of from 1 to 255 bytes. It stays in its place where `event` has one.
-pub fn read_raw(to: End, fields: Option<&[u8]>, event: &mut Event) -> Result<(), LineCause>
-    ensures value { Becomes result (ScheduleLine.Step event.new) (raw_line to (fields_after fields.entry)) }
+#[inline(never)]
+fn read_raw(to: End, fields: Option<&[u8]>, event: &mut Event) -> Result<(), LineCause>
+    ensures value { Becomes result event.new (raw_line to (fields_after fields.entry)) }
     ensures unwritten { OnErr result (event.new ≡ event.old) }
 {
     match event {
@@ -131,7 +135,7 @@ pub fn read_raw(to: End, fields: Option<&[u8]>, event: &mut Event) -> Result<(),
 /// The same where the line before had no frame.
 #[inline(never)]
 fn read_first_raw(to: End, fields: Option<&[u8]>, event: &mut Event) -> Result<(), LineCause>
-    ensures value { Becomes result (ScheduleLine.Step event.new) (raw_line to (fields_after fields.entry)) }
+    ensures value { Becomes result event.new (raw_line to (fields_after fields.entry)) }
     ensures unwritten { OnErr result (event.new ≡ event.old) }
 {
     let mut frame = FrameBuf::new();
@@ -141,13 +145,14 @@ fn read_first_raw(to: End, fields: Option<&[u8]>, event: &mut Event) -> Result<(
 }
 
 /// `<hex>`: so many safe data bytes.
-pub fn read_put(
+#[inline(never)]
+fn read_put(
     at: End,
     count: usize,
     fields: Option<&[u8]>,
     event: &mut Event,
 ) -> Result<(), LineCause>
-    ensures value { Becomes result (ScheduleLine.Step event.new) (put_line at count (fields_after fields.entry)) }
+    ensures value { Becomes result event.new (put_line at count (fields_after fields.entry)) }
     ensures unwritten { OnErr result (event.new ≡ event.old) }
 {
     let mut load = Image::new();
@@ -160,8 +165,9 @@ pub fn read_put(
 }
 
 /// `0` or `1`: fail-safe data off or on.
-pub fn read_hold(at: End, fields: Option<&[u8]>, event: &mut Event) -> Result<(), LineCause>
-    ensures value { Becomes result (ScheduleLine.Step event.new) (hold_line at (fields_after fields.entry)) }
+#[inline(never)]
+fn read_hold(at: End, fields: Option<&[u8]>, event: &mut Event) -> Result<(), LineCause>
+    ensures value { Becomes result event.new (hold_line at (fields_after fields.entry)) }
     ensures unwritten { OnErr result (event.new ≡ event.old) }
 {
     let field = one_field(fields)?;
@@ -171,13 +177,14 @@ pub fn read_hold(at: End, fields: Option<&[u8]>, event: &mut Event) -> Result<()
 }
 
 /// `<id>`: a session id that the profile allows.
-pub fn read_nonce(
+#[inline(never)]
+fn read_nonce(
     at: End,
     profile: Profile,
     fields: Option<&[u8]>,
     event: &mut Event,
 ) -> Result<(), LineCause>
-    ensures value { Becomes result (ScheduleLine.Step event.new) (nonce_line at profile (fields_after fields.entry)) }
+    ensures value { Becomes result event.new (nonce_line at profile (fields_after fields.entry)) }
     ensures unwritten { OnErr result (event.new ≡ event.old) }
 {
     let field = one_field(fields)?;
@@ -189,16 +196,6 @@ pub fn read_nonce(
     Ok(())
 }
 
-/// No field: a local reset.
-pub fn read_local(at: End, fields: Option<&[u8]>, event: &mut Event) -> Result<(), LineCause>
-    ensures value { Becomes result (ScheduleLine.Step event.new) (bare_line (ScheduleLine.Step (Event.Local at)) (fields_after fields.entry)) }
-    ensures unwritten { OnErr result (event.new ≡ event.old) }
-{
-    no_field(fields)?;
-    *event = Event::Local { at };
-    Ok(())
-}
-
 /// No field: the end of the schedule.
 pub fn read_end(fields: Option<&[u8]>, says: &mut ScheduleLine) -> Result<(), LineCause>
     ensures value { Becomes result says.new (bare_line ScheduleLine.End (fields_after fields.entry)) }
@@ -207,4 +204,83 @@ pub fn read_end(fields: Option<&[u8]>, says: &mut ScheduleLine) -> Result<(), Li
     no_field(fields)?;
     *says = ScheduleLine::End;
     Ok(())
+}
+
+/// What a word says of an event at an end with its fields, written over what a line said, which is as it was after an
+/// error. The end sends `count` safe data bytes, gets frames of `delivered` bytes from its peer, and has this profile.
+pub fn read_said(
+    word: EventWord,
+    at: End,
+    fields: Option<&[u8]>,
+    count: usize,
+    delivered: u8,
+    profile: Profile,
+    says: &mut ScheduleLine,
+) -> Result<(), LineCause>
+    ensures value { Becomes result says.new (map_ok ScheduleLine.Step (event_said count delivered profile word at (fields_after fields.entry))) }
+    ensures unwritten { OnErr result (says.new ≡ says.old) }
+{
+    match says {
+        ScheduleLine::Step(event) => read_step(word, at, fields, count, delivered, profile, event),
+        ScheduleLine::End => read_first(word, at, fields, count, delivered, profile, says),
+    }
+}
+
+/// The same where none was said before. A function clears the room of all its locals, so that this one, which makes an
+/// event, stands by itself.
+#[inline(never)]
+fn read_first(
+    word: EventWord,
+    at: End,
+    fields: Option<&[u8]>,
+    count: usize,
+    delivered: u8,
+    profile: Profile,
+    says: &mut ScheduleLine,
+) -> Result<(), LineCause>
+    ensures value { Becomes result says.new (map_ok ScheduleLine.Step (event_said count delivered profile word at (fields_after fields.entry))) }
+    ensures unwritten { OnErr result (says.new ≡ says.old) }
+{
+    let mut event = Event::Tick { at };
+    read_step(word, at, fields, count, delivered, profile, &mut event)?;
+    *says = ScheduleLine::Step(event);
+    Ok(())
+}
+
+/// The same, written over an event. A tick is written over a tick alone where there is one: to write an event of another
+/// kind blanks a frame's room.
+#[inline(always)]
+pub fn read_step(
+    word: EventWord,
+    at: End,
+    fields: Option<&[u8]>,
+    count: usize,
+    delivered: u8,
+    profile: Profile,
+    event: &mut Event,
+) -> Result<(), LineCause>
+    ensures value { Becomes result event.new (event_said count delivered profile word at (fields_after fields.entry)) }
+    ensures unwritten { OnErr result (event.new ≡ event.old) }
+{
+    match word {
+        EventWord::Deliver => read_deliver(at, fields, event),
+        EventWord::Altered => read_altered(at, delivered, fields, event),
+        EventWord::Raw => read_raw(at, fields, event),
+        EventWord::Tick => {
+            no_field(fields)?;
+            match event {
+                Event::Tick { at: end } => *end = at,
+                _ => *event = Event::Tick { at },
+            }
+            Ok(())
+        }
+        EventWord::Put => read_put(at, count, fields, event),
+        EventWord::Hold => read_hold(at, fields, event),
+        EventWord::Nonce => read_nonce(at, profile, fields, event),
+        EventWord::Local => {
+            no_field(fields)?;
+            *event = Event::Local { at };
+            Ok(())
+        }
+    }
 }

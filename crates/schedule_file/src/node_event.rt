@@ -3,30 +3,24 @@ ghost use Rattle.std.specs.Prelude.{◌≡◌, IfOk, OnOk, OnErr};
 ghost use Rattle.fsoe_base.specs.LengthsOf.{length_of};
 ghost use Rattle.schedule_file.specs.Event.{LineFits};
 ghost use Rattle.schedule_file.specs.FieldsRead.{Becomes};
-ghost use Rattle.schedule_file.specs.NodeEvent.{node_word_of, node_line};
+ghost use Rattle.schedule_file.specs.NodeEvent.{node_line};
 
 use crate::event::ScheduleLine;
+use crate::event_line::{EventWord, read_end, read_said};
 use crate::field::{cut, find_word};
 use crate::line_cause::LineCause;
-use crate::pair_event::{PairWord, read_said};
 use fsoe_base::{End, Lengths};
-use param_load::{Profile, Profiles};
+use param_load::Profile;
 
-/// The word that begins a line: that of an event at this end, or `end`.
-fn read_node_word(end: End, text: &[u8]) -> Option<PairWord>
-    ensures { result ≡ node_word_of end text.now }
-{
-    let words: [(&[u8], PairWord); 7] = [
-        (b"t", PairWord::Tick(end)),
-        (b"d", PairWord::Raw(end)),
-        (b"p", PairWord::Put(end)),
-        (b"h", PairWord::Hold(end)),
-        (b"n", PairWord::Nonce(end)),
-        (b"z", PairWord::Local(end)),
-        (b"end", PairWord::End),
-    ];
-    find_word(&words, text)
-}
+/// The words of events.
+const WORDS: [(&[u8], EventWord); 6] = [
+    (b"t", EventWord::Tick),
+    (b"d", EventWord::Raw),
+    (b"p", EventWord::Put),
+    (b"h", EventWord::Hold),
+    (b"n", EventWord::Nonce),
+    (b"z", EventWord::Local),
+];
 
 /// Parses a line after the header, without its newline: an event at the node at `end`, or the end of the schedule. An
 /// error is the first of these causes that applies: `Word`, `Fields`, `Number`, `Hex`, `Length`. The lines are:
@@ -60,9 +54,9 @@ pub fn read_node_event_into(
     ensures unwritten { OnErr result (says.new ≡ says.old) }
 {
     let (first, fields) = cut(line);
-    let profiles = Profiles {
-        master: profile,
-        slave: profile,
-    };
-    read_said(read_node_word(end, first), fields, lengths, &profiles, says)
+    if first == b"end".as_slice() {
+        return read_end(fields, says);
+    }
+    let word = find_word(&WORDS, first).ok_or(LineCause::Word)?;
+    read_said(word, end, fields, lengths.of(end), 0, profile, says)
 }

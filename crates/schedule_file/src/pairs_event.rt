@@ -9,9 +9,10 @@ ghost use Rattle.schedule_file.specs.PairsEvent.{first_cause, is_digits, numbere
 ghost use Rattle.schedule_file.specs.PairsFit.{PairsLineFits};
 
 use crate::event::Event;
+use crate::event_line::{EventWord, read_step};
 use crate::field::{cut, next_field, read_number};
 use crate::line_cause::LineCause;
-use crate::pair_event::{PairWord, read_pair_word, read_step};
+use crate::pair_event::read_pair_word;
 use crate::pairs_line::{PairsLine, PairsSaid};
 use fsoe_base::{End, Lengths};
 use param_load::{Profile, Profiles};
@@ -41,16 +42,12 @@ fn first_cause(a: LineCause, b: LineCause) -> LineCause
 /// Why a line is refused that has this cause, and maybe another by its event, which is one of a pair that isn't there.
 #[cold]
 #[inline(never)]
-fn refused_for(found: LineCause, word: PairWord, fields: Option<&[u8]>) -> LineCause
+fn refused_for(found: LineCause, word: (EventWord, End), fields: Option<&[u8]>) -> LineCause
     ensures { result ≡ refused_for found (unlinked word (fields_after fields.entry)) }
 {
-    let lengths = Lengths::new(1, 1).unwrap();
-    let profiles = Profiles {
-        master: Profile::One,
-        slave: Profile::One,
-    };
-    let mut event = Event::Tick { at: End::Slave };
-    match read_step(word, fields, &lengths, &profiles, &mut event) {
+    let (word, at) = word;
+    let mut event = Event::Tick { at };
+    match read_step(word, at, fields, 0, 0, Profile::One, &mut event) {
         Ok(()) => found,
         Err(other) => first_cause(found, other),
     }
@@ -94,9 +91,7 @@ fn read_numbered(
     ensures unwritten { OnErr result (said.new ≡ said.old) }
 {
     let (second, rest) = next_field(fields)?;
-    let Some(word) = read_pair_word(second) else {
-        return Err(LineCause::Word);
-    };
+    let word = read_pair_word(second).ok_or(LineCause::Word)?;
     let Some(pair) = read_number(digits, u64::from(u16::MAX)) else {
         return Err(refused_for(LineCause::Number, word, rest));
     };

@@ -2,15 +2,17 @@
 ghost use Rattle.std.specs.Prelude.{◌≡◌, MatchOption, None, OnErr, Some};
 ghost use Rattle.fsoe_base.specs.LengthsOf.{length_of};
 ghost use Rattle.schedule_file.specs.Event.{profile_of};
+ghost use Rattle.schedule_file.specs.Fields.{map_ok};
 ghost use Rattle.schedule_file.specs.FieldsRead.{fields_after, Becomes};
-ghost use Rattle.schedule_file.specs.PairEvent.{event_said};
-ghost use Rattle.schedule_file.specs.PairsEvent.{common_line, of_pair};
+ghost use Rattle.schedule_file.specs.PairEvent.{pair_event};
+ghost use Rattle.schedule_file.specs.PairsEvent.{common_line};
 ghost use Rattle.schedule_file.specs.PairsLine.{pairs_event_of};
 
 use crate::event::Event;
+use crate::event_line::{EventWord, delivered_len, read_step};
 use crate::field::no_field;
 use crate::line_cause::LineCause;
-use crate::pair_event::{PairWord, read_step};
+use crate::pair_event::profile_of;
 use fsoe_base::{End, Lengths};
 use param_load::Profiles;
 use std::marker::Model;
@@ -86,8 +88,8 @@ impl PairsSaid {
         }
     }
 
-    /// Says a tick of all pairs or the end, by the word of a line and the fields after it. After an error it says what it
-    /// said.
+    /// Says a tick of all pairs or the end, by the word of a line and the fields after it. After an error it says what
+    /// it said.
     pub(crate) fn read_common(
         &mut self,
         first: &[u8],
@@ -114,25 +116,29 @@ impl PairsSaid {
     pub(crate) fn read_one(
         &mut self,
         pair: u16,
-        word: PairWord,
+        word: (EventWord, End),
         fields: Option<&[u8]>,
         lengths: &Lengths,
         profiles: &Profiles,
     ) -> Result<(), LineCause>
-        ensures value { Becomes result self.new (of_pair pair (event_said (length_of lengths.now) (profile_of profiles.now) word (fields_after fields.entry))) }
+        ensures value { Becomes result self.new (map_ok (PairsLine.One pair) (pair_event (length_of lengths.now) (profile_of profiles.now) word (fields_after fields.entry))) }
         ensures unwritten { OnErr result (self.new ≡ self.old) }
     {
+        let (word, at) = word;
+        let count = lengths.of(at);
+        let delivered = delivered_len(at, lengths);
+        let profile = profile_of(profiles, at);
         match &mut self.event {
             PairsEvent::One {
                 pair: last_pair,
                 event,
             } => {
-                read_step(word, fields, lengths, profiles, event)?;
+                read_step(word, at, fields, count, delivered, profile, event)?;
                 *last_pair = pair;
             }
             PairsEvent::Tick => {
-                let mut event = Event::Tick { at: End::Slave };
-                read_step(word, fields, lengths, profiles, &mut event)?;
+                let mut event = Event::Tick { at };
+                read_step(word, at, fields, count, delivered, profile, &mut event)?;
                 self.event = PairsEvent::One { pair, event };
             }
         }

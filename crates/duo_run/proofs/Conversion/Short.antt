@@ -1,5 +1,5 @@
 -- The line of an event is short, so that with the number of a pair before it is a line still.
-use Rattle.duo_run.proofs.Common.{End, IfOk, IfOk-at_ok, LineCause, None, Ok, Profile, Result, ScheduleLine, Some, all_ascii_digits, and_parts, bytes_said, codes, decimal, fields_of, is_number, join_with_byte, leb-true, length-append, ltb-true, nat_lt, number_said, one_field, pair_line, pair_said, pair_said_by, pair_word_of, slice_index, value_or}
+use Rattle.duo_run.proofs.Common.{End, Event, IfOk, LineCause, None, Ok, Profile, Result, ScheduleLine, Some, all_ascii_digits, and_parts, by_word, bytes_said, codes, decimal, fields_of, is_number, join_with_byte, leb-true, length-append, ltb-true, nat_lt, number_said, one_field, pair_event, pair_line, pair_said, pair_word_of, slice_index, value_or}
 use Rattle.schedule_file.specs.Fields.{◌>>=◌}
 use Rattle.std.proofs.Common.{◌≡◌, ℕ, ◌+◌, ◌/◌, ◌≤◌, Bool, true, List, [], ◌∷◌, length, get_or, refl, subst, arith, rules}
 use Rattle.std.specs.Prelude.{◌&&◌, ◌||◌, ◌==◌, Option}
@@ -8,8 +8,10 @@ use Rattle.std.proofs.lemmas.Fmt.{decimal-digits_value, length-decimal-le}
 use Rattle.std.proofs.lemmas.List.Splits.{join_with_byte-slice_split}
 use Rattle.std.proofs.lemmas.Slice.Eq.{bytes_eq-Decides}
 use Rattle.std.proofs.lemmas.Str.Parse.{numerals_by_value, tells_all_ascii_digits}
-use Rattle.schedule_file.specs.EventLine.{not_zero, reference_of}
-use Rattle.schedule_file.specs.declared.pair_event.PairWord.{PairWord}
+use Rattle.schedule_file.specs.EventLine.{delivered_len, event_said, line_said, not_zero, reference_of}
+use Rattle.schedule_file.specs.declared.event_line.EventWord.{EventWord}
+use Rattle.schedule_file.specs.declared.line_cause.LineCause.TheVariants as cause
+use Rattle.std.proofs.lemmas.Result.{IfOk-weaker}
 use Rattle.schedule_file.proofs.HexDigits.{other_count}
 
 -- a number of at most 32 bits has at most ten digits
@@ -60,23 +62,32 @@ one_short : {B : Type 0} (fields : List (List ℕ)) (f : List ℕ → Result B L
 one_short fields f h = grind arith
 
 -- what a word says with its fields
-said_short : (sends : End → ℕ) (profiles : End → Profile) (word : PairWord) (fields : List (List ℕ)) → IfOk (pair_said sends profiles (Some word) fields) (λ _. total fields ≤ 512)
-said_short sends profiles word fields = search (rules, one_short, reference_short, number_short, hex_short, codes, bytes_eq-Decides)
+said_short : (count delivered : ℕ) (profile : Profile) (word : EventWord) (at : End) (fields : List (List ℕ)) → IfOk (event_said count delivered profile word at fields) (λ _. total fields ≤ 512)
+said_short count delivered profile word at fields = search (rules, one_short, reference_short, number_short, hex_short, codes, bytes_eq-Decides)
 
-word_short : (text : List ℕ) (said : PairWord) → pair_word_of text ≡ Some said → length text ≤ 3
+word_short : (text : List ℕ) (said : EventWord × End) → pair_word_of text ≡ Some said → length text ≤ 3
 word_short text said h = search rules
 
--- the line of an event has at most 520 bytes
-by_word : (sends : End → ℕ) (profiles : End → Profile) (first : List ℕ) (fields : List (List ℕ)) (w : Option PairWord) (says : ScheduleLine) → pair_word_of first ≡ w → pair_said sends profiles w fields ≡ Ok says → length (join_with_byte 32 (first ∷ fields)) ≤ 520
-by_word sends profiles first fields None says e said = cc
-by_word sends profiles first fields (Some word) says e said =
-    let few = word_short first word e in
-    let most = IfOk-at_ok (λ (_ : ScheduleLine). total fields ≤ 512) said (said_short sends profiles word fields) in
-    let all = length-joined first fields in
-    omega (arith, few, most, all)
+event_short : (sends : End → ℕ) (profiles : End → Profile) (first : List ℕ) (fields : List (List ℕ)) (w : Option (EventWord × End)) → pair_word_of first ≡ w
+    → IfOk (value_or cause.Word w >>= λ word. pair_event sends profiles word fields) (λ _. (length first ≤ 3) × (total fields ≤ 512))
+event_short sends profiles first fields None e = tt
+event_short sends profiles first fields (Some word) e =
+    IfOk-weaker (pair_event sends profiles word fields) _ _ (λ _ few. (word_short first word e, few)) (said_short (sends word.1) (delivered_len sends word.1) (profiles word.1) word.0 word.1 fields)
 
-by_fields : (sends : End → ℕ) (profiles : End → Profile) (fields : List (List ℕ)) (says : ScheduleLine) → pair_said_by sends profiles fields ≡ Ok says → length (join_with_byte 32 fields) ≤ 520
-by_fields sends profiles fields says h = search (rules, by_word)
+-- `end` is short, too
+end_short : (first : List ℕ) (fields : List (List ℕ)) (event : Result Event LineCause) (says : ScheduleLine) → IfOk event (λ _. (length first ≤ 3) × (total fields ≤ 512)) → line_said first fields event ≡ Ok says
+    → (length first ≤ 3) × (total fields ≤ 512)
+end_short first fields event says h said = search rules
+
+-- the line of an event has at most 520 bytes
+word_line : (sends : End → ℕ) (profiles : End → Profile) (first : List ℕ) (fields : List (List ℕ)) (says : ScheduleLine) → pair_said sends profiles first fields ≡ Ok says → length (join_with_byte 32 (first ∷ fields)) ≤ 520
+word_line sends profiles first fields says said =
+    let few = end_short first fields _ says (event_short sends profiles first fields (pair_word_of first) refl) said in
+    let all = length-joined first fields in
+    omega (arith, few.0, few.1, all)
+
+by_fields : (sends : End → ℕ) (profiles : End → Profile) (fields : List (List ℕ)) (says : ScheduleLine) → by_word cause.Word (pair_said sends profiles) fields ≡ Ok says → length (join_with_byte 32 fields) ≤ 520
+by_fields sends profiles fields says h = search (rules, word_line)
 
 pub line_short : (sends : End → ℕ) (profiles : End → Profile) (text : List ℕ) (says : ScheduleLine) → pair_line sends profiles text ≡ Ok says → length text ≤ 520
 line_short sends profiles text says said = subst (λ (t : List ℕ). length t ≤ 520) (join_with_byte-slice_split 32 text) (by_fields sends profiles (fields_of text) says said)
