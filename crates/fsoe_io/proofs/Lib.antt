@@ -4,6 +4,5 @@ pub mod Taken
 pub mod Passing
 pub mod Reading
 pub mod Newline
-pub mod Raised
 pub mod Shelves
 pub mod Numbers

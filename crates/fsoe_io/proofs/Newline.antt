@@ -18,12 +18,9 @@ none_found bytes n fits none =
 pub near : (at : ℕ) (bytes : List ℕ) → IsFirstByte (is_byte 10) bytes (Some at) → at ≤ 640 → BeginsAs (front_as.Line at) bytes
 near at bytes first small = (small, first.0.high, none_found bytes at (omega (arith, first.0.high)) first.0.before, eqb-true _ _ first.1)
 
-pub far : (at : ℕ) (bytes : List ℕ) → IsFirstByte (is_byte 10) bytes (Some at) → 640 < at → IsTooLong bytes
-far at bytes first past =
-    (omega (arith, first.0.high), none_found bytes 641 (omega (arith, first.0.high)) (λ k low lt. first.0.before k low (omega arith)))
-
-pub nowhere : (bytes : List ℕ) → IsFirstByte (is_byte 10) bytes None → 640 < length bytes → IsTooLong bytes
-nowhere bytes none long = (omega arith, none_found bytes 641 (omega arith) (λ k low lt. none k low (omega arith)))
+-- more bytes than a line may have come before a newline
+pub none_near : (n : ℕ) (bytes : List ℕ) → 640 < n → n ≤ length bytes → Nowhere (Passes (is_byte 10) bytes) 0 n → IsTooLong bytes
+none_near n bytes past fits none = (omega arith, none_found bytes 641 (omega arith) (λ k low lt. none k low (omega arith)))
 
 pub nowhere_yet : (bytes : List ℕ) → IsFirstByte (is_byte 10) bytes None → length bytes ≤ 640 → IsLine bytes
 nowhere_yet bytes none short =

@@ -1,8 +1,8 @@
 -- Pieces that go through a buffer.
-use Rattle.std.proofs.Common.{◌≡◌, ℕ, ◌+◌, ◌≤◌, ◌<◌, List, [], ◌++◌, length, take, drop, arith, ap, sym, ◌∙◌, append_assoc}
+use Rattle.std.proofs.Common.{◌≡◌, ℕ, ◌+◌, ◌<◌, List, [], ◌++◌, length, take, drop, arith, ap, sym, ◌∙◌, append_assoc}
 use Rattle.std.specs.Prelude.{Result, Ok, Err}
 use Rattle.std.specs.declared.option.Option.{Option}
-use Rattle.std.proofs.lemmas.List.{append-nil, take-append-drop, length-take-le, length-append, length-drop}
+use Rattle.std.proofs.lemmas.List.{append-nil, length-append, length-drop}
 use Rattle.fsoe_io.specs.Sink.{Grew}
 use Rattle.fsoe_io.proofs.Grown.{grew_then}
 use Rattle.fsoe_io.specs.Output.{OutputView, Loses, Passes, Puts}
@@ -14,31 +14,25 @@ grew_none known = grind (arith, common_steps)
 -- a flush that failed sent a part
 pub loses_part : (old new : OutputView) (before now : Option (List ℕ)) (done : ℕ) → done < length old.bytes → new.sent ≡ old.sent + done → Grew before now (take done old.bytes)
     → (rest : List ℕ) × Loses old new before now [] rest
-loses_part old new before now done lt count grew =
-    let le : done ≤ length old.bytes = omega arith in (
-      drop done old.bytes,
-      record {
-        passes = record {
-          part = take done old.bytes;
-          grew = grew;
-          whole = append-nil old.bytes ∙ sym (take-append-drop done old.bytes);
-          sent = count ∙ ap (λ (n : ℕ). old.sent + n) (sym (length-take-le done old.bytes le));
-        };
-        more = omega (arith, lt, length-drop done old.bytes);
-      },
-    )
+loses_part old new before now done lt count grew = (
+  drop done old.bytes,
+  record {
+    passes = record { part = take done old.bytes; grew = grew; whole = grind (arith, common_steps); sent = grind (arith, common_steps) };
+    more = omega (arith, length-drop done old.bytes);
+  },
+)
 
--- a piece that comes after what was sent waits
-pub passes_piece : (old new : OutputView) (before now : Option (List ℕ)) (piece rest : List ℕ) → Passes old new before now [] rest → Passes old new before now piece (rest ++ piece)
-passes_piece old new before now piece rest p = record {
-  part = p.part;
-  grew = p.grew;
-  whole = ap (λ (z : List ℕ). z ++ piece) (sym (append-nil old.bytes) ∙ p.whole) ∙ append_assoc p.part rest piece;
-  sent = p.sent;
-}
-
+-- a piece that comes after what was lost is lost, too
 pub loses_piece : (old new : OutputView) (before now : Option (List ℕ)) (piece rest : List ℕ) → Loses old new before now [] rest → Loses old new before now piece (rest ++ piece)
-loses_piece old new before now piece rest l = record { passes = passes_piece old new before now piece rest l.passes; more = omega (arith, l.more, length-append rest piece) }
+loses_piece old new before now piece rest l = record {
+  passes = record {
+    part = l.passes.part;
+    grew = l.passes.grew;
+    whole = rw (← append-nil old.bytes, l.passes.whole) (append_assoc l.passes.part rest piece);
+    sent = l.passes.sent;
+  };
+  more = omega (arith, l.more, length-append rest piece);
+}
 
 -- nothing is sent
 pub passes_none : (old : OutputView) (known : Option (List ℕ)) → Passes old old known known [] old.bytes
@@ -50,8 +44,7 @@ pub passes_then : (old mid new : OutputView) (before between now : Option (List 
 passes_then old mid new before between now piece rest p q = record {
   part = p.part ++ q.part;
   grew = grew_then before between now p.part q.part p.grew q.grew;
-  whole =
-      p.whole ∙ ap (λ (z : List ℕ). p.part ++ z) (sym (append-nil mid.bytes) ∙ q.whole) ∙ sym (append_assoc p.part q.part rest);
+  whole = p.whole ∙ ap (λ (z : List ℕ). p.part ++ z) (sym (append-nil mid.bytes) ∙ q.whole) ∙ sym (append_assoc p.part q.part rest);
   sent = omega (arith, p.sent, q.sent, length-append p.part q.part);
 }
 

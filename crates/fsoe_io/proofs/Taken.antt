@@ -1,11 +1,11 @@
 -- What a reader of lines holds and what its source has left are the rest of the input.
-use Rattle.std.proofs.Common.{◌≡◌, ℕ, false, ◌+◌, List, [], ◌∷◌, ◌++◌, length, take, drop, arith, rules, ap, ◌∙◌, sym, subst}
+use Rattle.std.proofs.Common.{◌≡◌, ℕ, false, ◌+◌, List, [], ◌∷◌, ◌++◌, length, take, drop, arith, rules, ◌∙◌, sym, subst}
 use Rattle.std.specs.Prelude.{◌==◌, Some, None, Ok, IfSome}
 use Rattle.std.specs.declared.option.Option.{Option}
 use Rattle.std.specs.Io.KnownBytes.{Consumes, prepend_known}
 use Rattle.std.proofs.lemmas.Grind.{common_steps}
 use Rattle.std.proofs.lemmas.List.{take-append-le, append-nil, length-append}
-use Rattle.fsoe_io.specs.Line.{HasNoNewline, IsLine}
+use Rattle.fsoe_io.specs.Line.{IsLine}
 use Rattle.fsoe_io.specs.LineReader.{BeginsAs, Fills, IsTooLong, IsUnended}
 use Rattle.fsoe_io.specs.declared.line_reader.Front.TheVariants as front_as
 
@@ -30,6 +30,4 @@ line_given input left held new line len h k l m = grind (arith, common_steps)
 pub too_long : (input left : Option (List ℕ)) (held : List ℕ) → Consumes input (prepend_known held left) [] → IsTooLong held → IfSome input IsTooLong
 too_long None left held p e = tt
 too_long (Some xs) None held p e = absurd p
-too_long (Some xs) (Some ys) held p e =
-    let front : take 641 xs ≡ take 641 held = ap (λ (z : List ℕ). take 641 z) p ∙ take-append-le 641 held ys e.0 in
-    (omega (arith, length-append held ys, ap length p), subst HasNoNewline (sym front) e.1)
+too_long (Some xs) (Some ys) held p e = rw (p, take-append-le 641 held ys e.0) (omega (arith, length-append held ys), e.1)

@@ -1,25 +1,22 @@
 //! A line of the input, and why there is none.
 ghost use Rattle.std.specs.Prelude.{◌≡◌, ◌≤◌, length};
 
+use fsoe_base::ByteList;
 use std::marker::Model;
 
 /// A line without its newline: at most 640 bytes, none of them a newline.
 #[derive(Drop)]
 pub struct Line {
     number: u64,
-    len: usize,
-    bytes: [u8; 640],
+    bytes: ByteList<640>,
 }
 
 impl Model for Line {
-    ghost use Rattle.std.specs.Prelude.{◌≤◌, take};
     ghost use Rattle.fsoe_io.specs.LineReader.{Numbered};
 
     ghost Value = { Numbered };
 
-    ghost view = { λ l. record { number = l.number; bytes = take l.len l.bytes } };
-
-    ghost invariant = { λ l. l.len ≤ 640 };
+    ghost view = { λ l. record { number = l.number; bytes = l.bytes } };
 }
 
 impl Line {
@@ -29,13 +26,9 @@ impl Line {
         ensures number { result.number ≡ number }
         ensures bytes { result.bytes ≡ from.now }
     {
-        let mut bytes = [0; 640];
-        bytes[..from.len()].copy_from_slice(from);
-        Line {
-            number,
-            len: from.len(),
-            bytes,
-        }
+        let mut bytes = ByteList::new();
+        bytes.push_all(from);
+        Line { number, bytes }
     }
 
     /// Its number in the input, from 1.
@@ -50,7 +43,7 @@ impl Line {
         ensures value { result.now ≡ self.now.bytes }
         ensures most { length result.now ≤ 640 }
     {
-        &self.bytes[..self.len]
+        self.bytes.bytes()
     }
 }
 

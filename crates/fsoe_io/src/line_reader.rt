@@ -113,10 +113,7 @@ impl LineReader {
         ensures whole { IsTrue result → ¬ IsLine self.now.bytes }
         ensures open_line { result ≡ false → IsLine self.now.bytes }
     {
-        match self.front() {
-            Front::Line(_) | Front::Long => true,
-            Front::Open => false,
-        }
+        !matches!(self.front(), Front::Open)
     }
 
     /// Takes a line of this length, and its newline, from the buffer.

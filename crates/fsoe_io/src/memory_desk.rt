@@ -1,6 +1,6 @@
 //! Desks in memory.
 ghost use Rattle.std.specs.Io.KnownBytes.{Keeps};
-ghost use Rattle.std.specs.Prelude.{◌≡◌, ◌≢◌, ◌≤◌, ◌<◌, ◌+◌, ◌⊎◌, false, Some, List, ℕ, [], ◌∷◌, ◌++◌, if◌then◌else◌, length, map, IsSome, IsNone, IfOk, IfSome, option_map, find, bytes_eq, string_bytes};
+ghost use Rattle.std.specs.Prelude.{◌≡◌, ◌≢◌, ◌≤◌, ◌<◌, ◌+◌, ◌⊎◌, false, Some, List, ℕ, [], ◌∷◌, ◌++◌, if◌then◌else◌, length, map, IsSome, IsNone, IfOk, IfSome, option_map};
 ghost use Rattle.fsoe_io.specs.Desk.{named, text_under, failed_loads, has_failed};
 ghost use Rattle.fsoe_io.specs.Faults.{Rose};
 ghost use Rattle.fsoe_io.specs.Planned.{is_next_listed, with_one_more};
@@ -20,10 +20,7 @@ fn copy_of(text: &Vec<u8>, limit: usize) -> Result<Vec<u8>, LoadFault>
     if text.len() > limit {
         return Err(LoadFault::TooLong);
     }
-    match text.clone() {
-        Ok(copied) => Ok(copied),
-        Err(_) => Err(LoadFault::Memory),
-    }
+    text.clone().or(Err(LoadFault::Memory))
 }
 
 /// A desk in memory that never fails. It has the same text under every name; in contracts the value is that text.
@@ -59,21 +56,16 @@ impl Desk for SureDesk {
     }
 }
 
-/// The first file of a name.
-fn find_file<'a>(files: &'a [(String, Vec<u8>)], name: &str) -> Option<&'a (String, Vec<u8>)>
-    ensures { option_map (λ file. file.now) result ≡ find (λ file. bytes_eq (string_bytes file.0) name.now) files.now }
-{
-    files.iter().find(|file| file.0.as_str() == name)
-}
-
 /// The first text under a name.
 fn find_text<'a>(files: &'a [(String, Vec<u8>)], name: &str) -> Option<&'a Vec<u8>>
     ensures { option_map (λ text. text.now.items) result ≡ text_under (map named files.now) name.now }
 {
-    match find_file(files, name) {
-        Some(file) => Some(&file.1),
-        None => None,
+    for file in files {
+        if file.0.as_str() == name {
+            return Some(&file.1);
+        }
     }
+    None
 }
 
 /// A desk in memory for tests. A load fails if its call is listed or the name is absent, unless memory runs out. It

@@ -24,6 +24,7 @@ impl Model for Numeral {
 
 impl Numeral {
     /// The number 0.
+    #[tactic(auto, using(std::proofs::lemmas::Fmt::decimal_digit))]
     pub(crate) fn zero() -> Numeral
         ensures { result ≡ 0 }
     {
@@ -35,7 +36,7 @@ impl Numeral {
     }
 
     /// Takes this number in place of its own.
-    #[tactic(auto, using(crate::proofs::Raised::raised))]
+    #[tactic(auto, using(crate::proofs::Numbers::raised))]
     pub(crate) fn set(&mut self, n: u64)
         ensures { self.new ≡ n }
     {

@@ -6,7 +6,7 @@ ghost use Rattle.fsoe_io.specs.Sink.{Grew};
 use crate::sink::Sink;
 
 /// How many bytes were written before the sink failed.
-#[derive(Clone, Copy, Debug, PartialEq, Eq)]
+#[derive(Clone, Copy, PartialEq, Eq)]
 pub struct Partial {
     /// The number of bytes that were written.
     pub done: usize,

@@ -30,17 +30,7 @@ impl Status {
     pub fn number(self) -> u8
         ensures { result ≡ status_number self }
     {
-        match self {
-            Status::Ok => 0,
-            Status::Other => 1,
-            Status::Usage => 2,
-            Status::Config => 3,
-            Status::Line => 4,
-            Status::Desk => 5,
-            Status::Read => 6,
-            Status::Write => 7,
-            Status::Memory => 8,
-        }
+        self as u8
     }
 }
 

@@ -6,8 +6,9 @@ use std::{env, io};
 pub fn words_of<R: Env + AllocGlobal>(rt: &R) -> io::Result<Vec<String>> {
     let mut words = Vec::new(rt.alloc());
     match env::args(rt) {
-        Ok(args) => {
-            for word in args.skip(1) {
+        Ok(mut args) => {
+            let _program = args.next();
+            for word in args {
                 words.push(word)?;
             }
         }

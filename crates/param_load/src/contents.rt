@@ -105,12 +105,11 @@ impl Expected {
         ensures most { length result.now ≤ 512 }
     {
         match self {
-            Expected::Session(_) => &[],
-            Expected::Connection { .. } => &[],
             Expected::Parameter { count, profile, .. } => {
                 let from = profile.id_len() + 4;
                 &joined.bytes()[from..from + *count]
             }
+            _ => &[],
         }
     }
 

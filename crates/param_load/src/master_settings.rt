@@ -1,5 +1,5 @@
 //! What a master is set to.
-ghost use Rattle.std.specs.Prelude.{◌≡◌, ◌<◌, IsTrue, IsOk, IfOk};
+ghost use Rattle.std.specs.Prelude.{◌≡◌, ◌<◌, ◌==◌, IsTrue, IsOk, IfOk, if◌then◌else◌};
 ghost use Rattle.param_load.specs.Profile.{allows_id};
 
 use crate::app_rule::AppBytes;
@@ -196,10 +196,7 @@ impl MasterSettings {
 
 /// The first of the numbers that may not be 0 and is.
 fn fault(conn: u16, watchdog: u16) -> Result<(), BadSetting>
-    ensures bad_conn { conn ≡ 0 → result ≡ Err BadSetting.Conn }
-    ensures bad_watchdog { 0 < conn → watchdog ≡ 0 → result ≡ Err BadSetting.Watchdog }
-    ensures good { IfOk result (λ _. (0 < conn) × (0 < watchdog)) }
-    ensures ok { 0 < conn → 0 < watchdog → IsOk result }
+    ensures { result ≡ (if conn == 0 then Err BadSetting.Conn else if watchdog == 0 then Err BadSetting.Watchdog else Ok tt) }
 {
     if conn == 0 {
         return Err(BadSetting::Conn);

@@ -25,6 +25,16 @@ impl Model for Payload {
     ghost view = { λ p. p.inner };
 }
 
+/// Appends a number in 2 bytes, low byte first, for which there is room.
+fn add_number(list: &mut ByteList<520>, n: u16)
+    requires { length list.old + 2 ≤ 520 }
+    ensures { list.new ≡ list.old ++ low_high n }
+{
+    let mut bytes = [0; 2];
+    LittleEndian::write_u16(&mut bytes, n);
+    list.push_all(&bytes);
+}
+
 impl Payload {
     fn new() -> Payload
         ensures { result ≡ [] }
@@ -32,24 +42,6 @@ impl Payload {
         Payload {
             inner: ByteList::new(),
         }
-    }
-
-    /// Appends bytes for which there is room.
-    fn add(&mut self, bytes: &[u8])
-        requires { length self.old + length bytes.now ≤ 520 }
-        ensures { self.new ≡ self.old ++ bytes.now }
-    {
-        self.inner.push_all(bytes);
-    }
-
-    /// Appends a number in 2 bytes, low byte first, for which there is room.
-    fn add_number(&mut self, n: u16)
-        requires { length self.old + 2 ≤ 520 }
-        ensures { self.new ≡ self.old ++ low_high n }
-    {
-        let mut bytes = [0; 2];
-        LittleEndian::write_u16(&mut bytes, n);
-        self.add(&bytes);
     }
 
     /// A session id, in 2 bytes in profile One and in 4 in profile Two, low byte first. In profile One it is at
@@ -60,11 +52,11 @@ impl Payload {
     {
         let mut payload = Payload::new();
         match profile {
-            Profile::One => payload.add_number(id as u16),
+            Profile::One => add_number(&mut payload.inner, id as u16),
             Profile::Two(_) => {
                 let mut bytes = [0; 4];
                 LittleEndian::write_u32(&mut bytes, id);
-                payload.add(&bytes);
+                payload.inner.push_all(&bytes);
             }
         }
         payload
@@ -75,8 +67,8 @@ impl Payload {
         ensures { result ≡ connection_payload conn address }
     {
         let mut payload = Payload::new();
-        payload.add_number(conn);
-        payload.add_number(address);
+        add_number(&mut payload.inner, conn);
+        add_number(&mut payload.inner, address);
         payload
     }
 
@@ -86,19 +78,13 @@ impl Payload {
         ensures { result ≡ parameter_payload watchdog profile app.now }
     {
         let mut payload = Payload::new();
-        match profile {
-            Profile::One => {
-                payload.add_number(2);
-                payload.add_number(watchdog);
-            }
-            Profile::Two(word) => {
-                payload.add_number(4);
-                payload.add_number(watchdog);
-                payload.add_number(word);
-            }
+        add_number(&mut payload.inner, profile.id_len() as u16);
+        add_number(&mut payload.inner, watchdog);
+        if let Profile::Two(word) = profile {
+            add_number(&mut payload.inner, word);
         }
-        payload.add_number(app.len() as u16);
-        payload.add(app.bytes());
+        add_number(&mut payload.inner, app.len() as u16);
+        payload.inner.push_all(app.bytes());
         payload
     }
 

@@ -102,7 +102,6 @@ impl Pieces {
     ///   isn't 0.
     ///
     /// Of a session id, a connection id and an address `rule` says nothing.
-    #[tactic(auto, using(crate::proofs::Watchdog::joined_watchdog))]
     pub fn take(&mut self, bytes: &[u8], rule: &AppRule) -> Result<Progress, Code>
         requires more { is_whole self.old ≡ false }
         requires piece { self.old.piece ≤ length bytes.now }

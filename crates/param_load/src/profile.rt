@@ -35,7 +35,7 @@ impl Profile {
 }
 
 /// The profiles of both ends of a connection.
-#[derive(Clone, Copy, Debug, PartialEq, Eq)]
+#[derive(Clone, Copy, PartialEq, Eq)]
 pub struct Profiles {
     /// The master's.
     pub master: Profile,

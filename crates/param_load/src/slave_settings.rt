@@ -1,5 +1,5 @@
 //! What a slave is set to.
-ghost use Rattle.std.specs.Prelude.{◌≡◌, ◌<◌, false, IsTrue, IsOk, IfOk};
+ghost use Rattle.std.specs.Prelude.{◌≡◌, ◌<◌, ◌==◌, false, IsTrue, IsOk, IfOk, if◌then◌else◌};
 ghost use Rattle.param_load.specs.AppRule.{is_acceptable};
 ghost use Rattle.param_load.specs.Profile.{allows_id};
 
@@ -187,11 +187,8 @@ impl SlaveSettings {
 
 /// The first of these settings that is bad.
 fn fault(hand: u16, most: u16, rule: &AppRule) -> Result<(), BadSetting>
-    ensures bad_hand { hand ≡ 0 → result ≡ Err BadSetting.Hand }
-    ensures bad_most { 0 < hand → most ≡ 0 → result ≡ Err BadSetting.Most }
-    ensures bad_rule { 0 < hand → 0 < most → is_acceptable rule.now ≡ false → result ≡ Err BadSetting.Rule }
-    ensures good { IfOk result (λ _. (0 < hand) × (0 < most) × IsTrue (is_acceptable rule.now)) }
-    ensures ok { 0 < hand → 0 < most → IsTrue (is_acceptable rule.now) → IsOk result }
+    ensures { result ≡ (if hand == 0 then Err BadSetting.Hand else if most == 0 then Err BadSetting.Most
+        else if is_acceptable rule.now then Ok tt else Err BadSetting.Rule) }
 {
     if hand == 0 {
         return Err(BadSetting::Hand);

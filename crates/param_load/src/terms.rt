@@ -25,11 +25,8 @@ impl Terms {
         ensures { result ≡ self.now }
     {
         Terms {
-            conn: self.conn,
-            address: self.address,
-            watchdog: self.watchdog,
             app: self.app.copy(),
-            profile: self.profile,
+            ..*self
         }
     }
 }

@@ -81,12 +81,9 @@ impl Upload {
         self.pieces.is_whole()
     }
 
-    /// Takes the data of a frame, at least `piece` bytes. The upload must be incomplete. The fields whose last byte is
-    /// in this frame are tested in order, then the padding. Refused with the code of the first test that fails: 03h for
-    /// a wrong connection id, 06h for a wrong slave address, 08h for a wrong length of the communication parameters.
-    /// 09h for a watchdog of 0 or above `most`, or a wrong profile word. 0Ah for a wrong number of application
-    /// parameters, 0Bh if the rule of the upload doesn't accept them, 07h for padding that isn't 0. A refusal changes
-    /// nothing.
+    /// Takes the data of a frame, at least `piece` bytes. The upload must be incomplete; a refusal leaves it unchanged.
+    /// The fields whose last byte is in this frame are tested in order, then the padding, with the codes of
+    /// `Pieces::take`. The application parameters are tested by the rule of the upload.
     pub fn take(&mut self, bytes: &[u8]) -> Result<Progress, Code>
         requires more { is_whole self.old.pieces ≡ false }
         requires piece { self.old.pieces.piece ≤ length bytes.now }

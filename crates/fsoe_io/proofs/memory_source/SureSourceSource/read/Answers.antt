@@ -1,4 +1,4 @@
-use Rattle.std.proofs.Common.{◌-◌, arith}
+use Rattle.std.proofs.Common.{arith}
 use Rattle.fsoe_io.proofs.Reading.{read_part}
 use Rattle.fsoe_io.proofs.memory_source.SureSourceSource.read.Goals as goal
 use Rattle.std.proofs.lemmas.Grind.{common_steps}
