@@ -3,7 +3,8 @@ use base.Fraction.{full_share}
 use base.Fml.{Fml}
 use denote.RattleType.{RattleType}
 use denote.RawPtr.{Ptr, lies_at, room_at}
-use Rattle.std.specs.Prelude.{◌≡◌, Option, Some, None}
+use Rattle.std.specs.Prelude.{◌≡◌, ℕ, Bool, Option, Some, None, if◌then◌else◌}
+use Rattle.fsoe_c.specs.declared.numbers.TheConstants.{NO_END, OK}
 
 -- the value at p, or room for one
 abbrev pub place_owns : (R : RattleType) → Ptr → Option R.Denot → Fml
@@ -17,3 +18,8 @@ IfThere {V = V} place P = (v : V) → place ≡ Some v → P v
 -- this holds of the values that are there before a call and after it
 abbrev pub Between : {V : Type 0} → Option V → Option V → (V → V → Type 0) → Type 0
 Between old new P = IfThere old (λ v. IfThere new (P v))
+
+-- the answer of a call: whether an end is there, and whether the one that is passes this test, else why it refuses
+unfoldable pub answered : {V : Type 0} → Option V → (V → Bool) → ℕ → ℕ
+answered None test why = NO_END
+answered (Some end) test why = if test end then OK else why

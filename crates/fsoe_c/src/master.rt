@@ -1,14 +1,14 @@
 //! The calls that C code makes of a master.
-ghost use Rattle.std.specs.Prelude.{◌≡◌, ◌≢◌, ◌<◌, ◌≤◌, ◌==◌, ◌||◌, IsTrue, true, false, drop, length};
+ghost use Rattle.std.specs.Prelude.{◌≡◌, ◌≢◌, ◌≤◌, ◌==◌, true, false, not, drop, length, nat_le, if◌then◌else◌};
 ghost use Rattle.param_load.specs.Profile.{allows_id};
 ghost use Rattle.param_load.specs.declared.entry.Move.TheVariants as event;
 ghost use Rattle.end_model.specs.Setup.{OfMaster, sends};
 ghost use Rattle.master_core.specs.Now.{is_due};
 ghost use Rattle.master_core.specs.Standing.{Follows};
 ghost use Rattle.master_core.specs.Waiting.{Keeps, Replies};
-ghost use Rattle.fsoe_c.specs.Handle.{HasDue, IsAtRest, IsSoundMaster};
+ghost use Rattle.fsoe_c.specs.Handle.{IsAtRest, IsSoundMaster, served};
 ghost use Rattle.fsoe_c.specs.Numbers.{flag};
-ghost use Rattle.fsoe_c.specs.Place.{Between, IfThere};
+ghost use Rattle.fsoe_c.specs.Place.{Between, IfThere, answered};
 ghost use Rattle.fsoe_c.specs.Settings.{IsNewMaster, master_refusal};
 ghost use Rattle.fsoe_c.specs.Sizes.{end_align, master_size};
 ghost use Rattle.fsoe_c.specs.Told.{AcceptsTelling, MasterTells, frame_of, leads_on};
@@ -48,9 +48,7 @@ pub extern "C" fn gp_master_align() -> usize
 pub extern "C" fn gp_master_init(master: &mut GpMaster, set: &GpMasterSettings, app: &[u8]) -> u8
     requires { IsSoundMaster master.old }
     ensures sound { IsSoundMaster master.new }
-    ensures busy { master.old.live ≡ true → result ≡ BUSY }
-    ensures long { master.old.live ≡ false → 512 < length app.now → result ≡ BAD_APP }
-    ensures refusal { master.old.live ≡ false → length app.now ≤ 512 → result ≡ master_refusal set.now }
+    ensures answer { result ≡ (if master.old.live then BUSY else if nat_le (length app.now) 512 then master_refusal set.now else BAD_APP) }
     ensures live { result ≡ OK → master.new.live ≡ true }
     ensures made { result ≡ OK → IfThere master.new.place.master (IsNewMaster set.now app.now) }
     ensures rest { result ≡ OK → IsAtRest master.new.place.master }
@@ -78,8 +76,7 @@ pub extern "C" fn gp_master_end(master: &mut GpMaster) -> u8
     requires { IsSoundMaster master.old }
     ensures sound { IsSoundMaster master.new }
     ensures over { master.new.live ≡ false }
-    ensures done { master.old.live ≡ true → result ≡ OK }
-    ensures none { master.old.live ≡ false → result ≡ NO_END }
+    ensures answer { result ≡ served master.old.live }
     ensures refused { result ≢ OK → master.new ≡ master.old }
 {
     if !master.live {
@@ -93,7 +90,7 @@ pub extern "C" fn gp_master_end(master: &mut GpMaster) -> u8
 /// Delivers a frame of the slave, of any number of bytes. Writes the result to `did`, and the frame to send to `out`,
 /// empty if none is sent.
 #[unsafe(no_mangle)]
-#[tactic(auto, using(crate::proofs::Places::vacuous))]
+#[tactic(auto, using(crate::proofs::Places::vacuous, crate::proofs::Places::unserved, crate::proofs::Places::passes, crate::proofs::Places::fails, crate::proofs::Places::master_tells))]
 pub extern "C" fn gp_master_deliver(
     master: &mut GpMaster,
     frame: &[u8],
@@ -103,10 +100,7 @@ pub extern "C" fn gp_master_deliver(
     requires { IsSoundMaster master.old }
     ensures sound { IsSoundMaster master.new }
     ensures same { master.new.live ≡ master.old.live }
-    ensures none { master.old.live ≡ false → result ≡ NO_END }
-    ensures either { master.old.live ≡ true → IsTrue (result == OK || result == FRAME_DUE) }
-    ensures due { result ≡ FRAME_DUE → HasDue master.old.place.master }
-    ensures rested { result ≡ OK → IsAtRest master.old.place.master }
+    ensures answer { result ≡ answered master.old.place.master (λ old. not (is_due old.state)) FRAME_DUE }
     ensures rest { result ≡ OK → IsAtRest master.new.place.master }
     ensures follows { result ≡ OK → Between master.old.place.master master.new.place.master (λ old new. Follows old (event.Deliver frame.now) new) }
     ensures tells { result ≡ OK → IfThere master.old.place.master (λ old. MasterTells old (event.Deliver frame.now) did.old did.new out.old out.new) }
@@ -115,25 +109,26 @@ pub extern "C" fn gp_master_deliver(
     if !master.live {
         return NO_END;
     }
-    if master.place.lend().master().due() {
+    let room = master.place.lend();
+    if room.master.due() {
         return FRAME_DUE;
     }
-    master.place.lend().deliver(frame, out, did);
+    room.master
+        .deliver_into(frame, &mut room.heard, &mut room.sent);
+    out.set(&room.sent);
+    did.set(&room.heard);
     OK
 }
 
 /// Accepts a frame of the slave, of any number of bytes, in the first half of a delivery. Writes the result to `did`.
 /// If a frame is due then, `reply` writes it.
 #[unsafe(no_mangle)]
-#[tactic(auto, using(crate::proofs::Places::vacuous))]
+#[tactic(auto, using(crate::proofs::Places::vacuous, crate::proofs::Places::unserved, crate::proofs::Places::passes, crate::proofs::Places::fails, crate::proofs::Places::master_accepts))]
 pub extern "C" fn gp_master_accept(master: &mut GpMaster, frame: &[u8], did: &mut GpDid) -> u8
     requires { IsSoundMaster master.old }
     ensures sound { IsSoundMaster master.new }
     ensures same { master.new.live ≡ master.old.live }
-    ensures none { master.old.live ≡ false → result ≡ NO_END }
-    ensures either { master.old.live ≡ true → IsTrue (result == OK || result == FRAME_DUE) }
-    ensures due { result ≡ FRAME_DUE → HasDue master.old.place.master }
-    ensures rested { result ≡ OK → IsAtRest master.old.place.master }
+    ensures answer { result ≡ answered master.old.place.master (λ old. not (is_due old.state)) FRAME_DUE }
     ensures accepts { result ≡ OK → Between master.old.place.master master.new.place.master (λ old new. AcceptsTelling old frame.now did.new new) }
     ensures due_told { result ≡ OK → IfThere master.new.place.master (λ new. is_due new.state ≡ leads_on did.new) }
     ensures unsent { result ≡ OK → did.new.sent ≡ 0 }
@@ -143,10 +138,12 @@ pub extern "C" fn gp_master_accept(master: &mut GpMaster, frame: &[u8], did: &mu
     if !master.live {
         return NO_END;
     }
-    if master.place.lend().master().due() {
+    let room = master.place.lend();
+    if room.master.due() {
         return FRAME_DUE;
     }
-    master.place.lend().accept(frame, did);
+    room.master.accept_into(frame, &mut room.heard);
+    did.set(&room.heard);
     OK
 }
 
@@ -156,29 +153,26 @@ pub extern "C" fn gp_master_accept(master: &mut GpMaster, frame: &[u8], did: &mu
 pub extern "C" fn gp_master_due(master: &mut GpMaster, due: &mut u8) -> u8
     requires { IsSoundMaster master.old }
     ensures unchanged { master.new ≡ master.old }
-    ensures done { master.old.live ≡ true → result ≡ OK }
-    ensures none { master.old.live ≡ false → result ≡ NO_END }
+    ensures answer { result ≡ served master.old.live }
     ensures due { result ≡ OK → IfThere master.old.place.master (λ old. due.new ≡ flag (is_due old.state)) }
     ensures refused { result ≢ OK → due.new ≡ due.old }
 {
     if !master.live {
         return NO_END;
     }
-    *due = flag(master.place.lend().master().due());
+    let room = master.place.lend();
+    *due = flag(room.master.due());
     OK
 }
 
 /// Writes the due frame to `out`, in the second half of a delivery. It carries what was put last.
 #[unsafe(no_mangle)]
-#[tactic(auto, using(crate::proofs::Places::vacuous))]
+#[tactic(auto, using(crate::proofs::Places::vacuous, crate::proofs::Places::unserved, crate::proofs::Places::passes, crate::proofs::Places::fails))]
 pub extern "C" fn gp_master_reply(master: &mut GpMaster, out: &mut GpFrame) -> u8
     requires { IsSoundMaster master.old }
     ensures sound { IsSoundMaster master.new }
     ensures same { master.new.live ≡ master.old.live }
-    ensures none { master.old.live ≡ false → result ≡ NO_END }
-    ensures either { master.old.live ≡ true → IsTrue (result == OK || result == NONE_DUE) }
-    ensures other { result ≡ NONE_DUE → IsAtRest master.old.place.master }
-    ensures due { result ≡ OK → HasDue master.old.place.master }
+    ensures answer { result ≡ answered master.old.place.master (λ old. is_due old.state) NONE_DUE }
     ensures rest { result ≡ OK → IsAtRest master.new.place.master }
     ensures replies { result ≡ OK → Between master.old.place.master master.new.place.master (λ old new. Replies old new (frame_of out.new)) }
     ensures len { result ≡ OK → out.new.len ≤ 255 }
@@ -188,24 +182,23 @@ pub extern "C" fn gp_master_reply(master: &mut GpMaster, out: &mut GpFrame) -> u
     if !master.live {
         return NO_END;
     }
-    if !master.place.lend().master().due() {
+    let room = master.place.lend();
+    if !room.master.due() {
         return NONE_DUE;
     }
-    master.place.lend().reply(out);
+    room.master.reply(&mut room.sent);
+    out.set(&room.sent);
     OK
 }
 
 /// Counts a tick. Writes the result to `did`, and the frame to send to `out`, empty if none is sent.
 #[unsafe(no_mangle)]
-#[tactic(auto, using(crate::proofs::Places::vacuous))]
+#[tactic(auto, using(crate::proofs::Places::vacuous, crate::proofs::Places::unserved, crate::proofs::Places::passes, crate::proofs::Places::fails, crate::proofs::Places::master_tells))]
 pub extern "C" fn gp_master_tick(master: &mut GpMaster, out: &mut GpFrame, did: &mut GpDid) -> u8
     requires { IsSoundMaster master.old }
     ensures sound { IsSoundMaster master.new }
     ensures same { master.new.live ≡ master.old.live }
-    ensures none { master.old.live ≡ false → result ≡ NO_END }
-    ensures either { master.old.live ≡ true → IsTrue (result == OK || result == FRAME_DUE) }
-    ensures due { result ≡ FRAME_DUE → HasDue master.old.place.master }
-    ensures rested { result ≡ OK → IsAtRest master.old.place.master }
+    ensures answer { result ≡ answered master.old.place.master (λ old. not (is_due old.state)) FRAME_DUE }
     ensures rest { result ≡ OK → IsAtRest master.new.place.master }
     ensures follows { result ≡ OK → Between master.old.place.master master.new.place.master (λ old new. Follows old event.Tick new) }
     ensures tells { result ≡ OK → IfThere master.old.place.master (λ old. MasterTells old event.Tick did.old did.new out.old out.new) }
@@ -214,24 +207,24 @@ pub extern "C" fn gp_master_tick(master: &mut GpMaster, out: &mut GpFrame, did: 
     if !master.live {
         return NO_END;
     }
-    if master.place.lend().master().due() {
+    let room = master.place.lend();
+    if room.master.due() {
         return FRAME_DUE;
     }
-    master.place.lend().tick(out, did);
+    room.master.tick_into(&mut room.ticked, &mut room.sent);
+    out.set(&room.sent);
+    did.set(&room.ticked);
     OK
 }
 
 /// Ends the session, if there is one. Writes the result to `did`, and the Reset frame to send to `out`.
 #[unsafe(no_mangle)]
-#[tactic(auto, using(crate::proofs::Places::vacuous))]
+#[tactic(auto, using(crate::proofs::Places::vacuous, crate::proofs::Places::unserved, crate::proofs::Places::passes, crate::proofs::Places::fails, crate::proofs::Places::master_tells))]
 pub extern "C" fn gp_master_reset(master: &mut GpMaster, out: &mut GpFrame, did: &mut GpDid) -> u8
     requires { IsSoundMaster master.old }
     ensures sound { IsSoundMaster master.new }
     ensures same { master.new.live ≡ master.old.live }
-    ensures none { master.old.live ≡ false → result ≡ NO_END }
-    ensures either { master.old.live ≡ true → IsTrue (result == OK || result == FRAME_DUE) }
-    ensures due { result ≡ FRAME_DUE → HasDue master.old.place.master }
-    ensures rested { result ≡ OK → IsAtRest master.old.place.master }
+    ensures answer { result ≡ answered master.old.place.master (λ old. not (is_due old.state)) FRAME_DUE }
     ensures rest { result ≡ OK → IsAtRest master.new.place.master }
     ensures follows { result ≡ OK → Between master.old.place.master master.new.place.master (λ old new. Follows old event.Local new) }
     ensures tells { result ≡ OK → IfThere master.old.place.master (λ old. MasterTells old event.Local did.old did.new out.old out.new) }
@@ -240,24 +233,24 @@ pub extern "C" fn gp_master_reset(master: &mut GpMaster, out: &mut GpFrame, did:
     if !master.live {
         return NO_END;
     }
-    if master.place.lend().master().due() {
+    let room = master.place.lend();
+    if room.master.due() {
         return FRAME_DUE;
     }
-    master.place.lend().reset(out, did);
+    let done = room.master.reset(&mut room.sent);
+    out.set(&room.sent);
+    did.set(&done);
     OK
 }
 
 /// Sets the safe data to send from now on, as many bytes as the master's frames carry. The offer outlasts resets.
 #[unsafe(no_mangle)]
-#[tactic(auto, using(crate::proofs::Places::vacuous))]
+#[tactic(auto, using(crate::proofs::Places::vacuous, crate::proofs::Places::unserved, crate::proofs::Places::passes, crate::proofs::Places::fails))]
 pub extern "C" fn gp_master_put(master: &mut GpMaster, load: &[u8]) -> u8
     requires { IsSoundMaster master.old }
     ensures sound { IsSoundMaster master.new }
     ensures same { master.new.live ≡ master.old.live }
-    ensures none { master.old.live ≡ false → result ≡ NO_END }
-    ensures either { master.old.live ≡ true → IsTrue (result == OK || result == BAD_LENGTH) }
-    ensures fits { result ≡ OK → IfThere master.old.place.master (λ old. length load.now ≡ sends (OfMaster old.kit.settings)) }
-    ensures other { result ≡ BAD_LENGTH → IfThere master.old.place.master (λ old. length load.now ≢ sends (OfMaster old.kit.settings)) }
+    ensures answer { result ≡ answered master.old.place.master (λ old. length load.now == sends (OfMaster old.kit.settings)) BAD_LENGTH }
     ensures follows { result ≡ OK → Between master.old.place.master master.new.place.master (λ old new. Follows old (event.Put load.now) new) }
     ensures keeps { result ≡ OK → Between master.old.place.master master.new.place.master (λ old new. Keeps old (event.Put load.now) new) }
     ensures due { Between master.old.place.master master.new.place.master (λ old new. is_due new.state ≡ is_due old.state) }
@@ -266,10 +259,11 @@ pub extern "C" fn gp_master_put(master: &mut GpMaster, load: &[u8]) -> u8
     if !master.live {
         return NO_END;
     }
-    if load.len() != master.place.lend().master().settings().own_len() {
+    let room = master.place.lend();
+    if load.len() != room.master.settings().own_len() {
         return BAD_LENGTH;
     }
-    master.place.lend().put(load);
+    room.master.put(load);
     OK
 }
 
@@ -280,8 +274,7 @@ pub extern "C" fn gp_master_hold(master: &mut GpMaster, failsafe: bool) -> u8
     requires { IsSoundMaster master.old }
     ensures sound { IsSoundMaster master.new }
     ensures same { master.new.live ≡ master.old.live }
-    ensures done { master.old.live ≡ true → result ≡ OK }
-    ensures none { master.old.live ≡ false → result ≡ NO_END }
+    ensures answer { result ≡ served master.old.live }
     ensures follows { result ≡ OK → Between master.old.place.master master.new.place.master (λ old new. Follows old (event.Hold failsafe) new) }
     ensures keeps { result ≡ OK → Between master.old.place.master master.new.place.master (λ old new. Keeps old (event.Hold failsafe) new) }
     ensures due { Between master.old.place.master master.new.place.master (λ old new. is_due new.state ≡ is_due old.state) }
@@ -290,22 +283,20 @@ pub extern "C" fn gp_master_hold(master: &mut GpMaster, failsafe: bool) -> u8
     if !master.live {
         return NO_END;
     }
-    master.place.lend().hold(failsafe);
+    let room = master.place.lend();
+    room.master.hold(failsafe);
     OK
 }
 
 /// Sets the id of all sessions whose first Session frame is sent after this call, at most 65,535 in profile One. It
 /// outlasts resets: give a fresh one before each session.
 #[unsafe(no_mangle)]
-#[tactic(auto, using(crate::proofs::Places::vacuous))]
+#[tactic(auto, using(crate::proofs::Places::vacuous, crate::proofs::Places::unserved, crate::proofs::Places::passes, crate::proofs::Places::fails))]
 pub extern "C" fn gp_master_nonce(master: &mut GpMaster, id: u32) -> u8
     requires { IsSoundMaster master.old }
     ensures sound { IsSoundMaster master.new }
     ensures same { master.new.live ≡ master.old.live }
-    ensures none { master.old.live ≡ false → result ≡ NO_END }
-    ensures either { master.old.live ≡ true → IsTrue (result == OK || result == BAD_NONCE) }
-    ensures allowed { result ≡ OK → IfThere master.old.place.master (λ old. IsTrue (allows_id old.kit.settings.profile id)) }
-    ensures other { result ≡ BAD_NONCE → IfThere master.old.place.master (λ old. allows_id old.kit.settings.profile id ≡ false) }
+    ensures answer { result ≡ answered master.old.place.master (λ old. allows_id old.kit.settings.profile id) BAD_NONCE }
     ensures follows { result ≡ OK → Between master.old.place.master master.new.place.master (λ old new. Follows old (event.Nonce id) new) }
     ensures keeps { result ≡ OK → Between master.old.place.master master.new.place.master (λ old new. Keeps old (event.Nonce id) new) }
     ensures due { Between master.old.place.master master.new.place.master (λ old new. is_due new.state ≡ is_due old.state) }
@@ -314,16 +305,10 @@ pub extern "C" fn gp_master_nonce(master: &mut GpMaster, id: u32) -> u8
     if !master.live {
         return NO_END;
     }
-    if !master
-        .place
-        .lend()
-        .master()
-        .settings()
-        .profile()
-        .allows_id(id)
-    {
+    let room = master.place.lend();
+    if !room.master.settings().profile().allows_id(id) {
         return BAD_NONCE;
     }
-    master.place.lend().nonce(id);
+    room.master.nonce(id);
     OK
 }

@@ -5,9 +5,9 @@ ghost use Rattle.end_model.specs.Readiness as model;
 ghost use Rattle.end_model.specs.Outputs as looking_back;
 ghost use Rattle.master_core.specs.Standing.{Shows};
 ghost use Rattle.master_core.specs.Waiting.{ShowsDue};
-ghost use Rattle.fsoe_c.specs.Handle.{IsSoundMaster};
+ghost use Rattle.fsoe_c.specs.Handle.{IsSoundMaster, served};
 ghost use Rattle.fsoe_c.specs.Numbers.{flag, state_number};
-ghost use Rattle.fsoe_c.specs.Place.{IfThere};
+ghost use Rattle.fsoe_c.specs.Place.{IfThere, answered};
 ghost use Rattle.fsoe_c.specs.Told.{MasterShowsTerms, MasterShowsTermsDue};
 
 use crate::master::GpMaster;
@@ -20,8 +20,7 @@ use crate::told::{GpTerms, copied, tells};
 pub extern "C" fn gp_master_state(master: &mut GpMaster, state: &mut u8) -> u8
     requires { IsSoundMaster master.old }
     ensures unchanged { master.new ≡ master.old }
-    ensures done { master.old.live ≡ true → result ≡ OK }
-    ensures none { master.old.live ≡ false → result ≡ NO_END }
+    ensures answer { result ≡ served master.old.live }
     ensures shown { result ≡ OK → IfThere master.old.place.master (λ old. Shows old state.new (λ setup deeds. state_number (model.state_of setup deeds))) }
     ensures shown_due { result ≡ OK → IfThere master.old.place.master (λ old. ShowsDue old state.new (λ setup deeds. state_number (model.state_of setup deeds))) }
     ensures refused { result ≢ OK → state.new ≡ state.old }
@@ -29,19 +28,18 @@ pub extern "C" fn gp_master_state(master: &mut GpMaster, state: &mut u8) -> u8
     if !master.live {
         return NO_END;
     }
-    *state = state_number(master.place.lend().master().state());
+    let room = master.place.lend();
+    *state = state_number(room.master.state());
     OK
 }
 
 /// Copies the outputs, which came from the slave: as many bytes as its frames carry.
 #[unsafe(no_mangle)]
-#[tactic(auto, using(crate::proofs::Places::vacuous))]
+#[tactic(auto, using(crate::proofs::Places::vacuous, crate::proofs::Places::unserved, crate::proofs::Places::passes, crate::proofs::Places::fails))]
 pub extern "C" fn gp_master_outputs(master: &mut GpMaster, outputs: &mut [u8]) -> u8
     requires { IsSoundMaster master.old }
     ensures unchanged { master.new ≡ master.old }
-    ensures none { master.old.live ≡ false → result ≡ NO_END }
-    ensures either { master.old.live ≡ true → IsTrue (result == OK || result == BAD_LENGTH) }
-    ensures other { result ≡ BAD_LENGTH → IfThere master.old.place.master (λ old. length outputs.old ≢ receives (OfMaster old.kit.settings)) }
+    ensures answer { result ≡ answered master.old.place.master (λ old. length outputs.old == receives (OfMaster old.kit.settings)) BAD_LENGTH }
     ensures shown { result ≡ OK → IfThere master.old.place.master (λ old. Shows old outputs.new looking_back.out) }
     ensures shown_due { result ≡ OK → IfThere master.old.place.master (λ old. ShowsDue old outputs.new looking_back.out) }
     ensures refused { result ≢ OK → outputs.new ≡ outputs.old }
@@ -49,7 +47,8 @@ pub extern "C" fn gp_master_outputs(master: &mut GpMaster, outputs: &mut [u8]) -
     if !master.live {
         return NO_END;
     }
-    if !copied(master.place.lend().master().outputs(), outputs) {
+    let room = master.place.lend();
+    if !copied(room.master.outputs(), outputs) {
         return BAD_LENGTH;
     }
     OK
@@ -57,13 +56,11 @@ pub extern "C" fn gp_master_outputs(master: &mut GpMaster, outputs: &mut [u8]) -
 
 /// Copies the safe data that were put last, zeros at first, as many bytes as the master's frames carry.
 #[unsafe(no_mangle)]
-#[tactic(auto, using(crate::proofs::Places::vacuous))]
+#[tactic(auto, using(crate::proofs::Places::vacuous, crate::proofs::Places::unserved, crate::proofs::Places::passes, crate::proofs::Places::fails))]
 pub extern "C" fn gp_master_offer(master: &mut GpMaster, offer: &mut [u8]) -> u8
     requires { IsSoundMaster master.old }
     ensures unchanged { master.new ≡ master.old }
-    ensures none { master.old.live ≡ false → result ≡ NO_END }
-    ensures either { master.old.live ≡ true → IsTrue (result == OK || result == BAD_LENGTH) }
-    ensures other { result ≡ BAD_LENGTH → IfThere master.old.place.master (λ old. length offer.old ≢ sends (OfMaster old.kit.settings)) }
+    ensures answer { result ≡ answered master.old.place.master (λ old. length offer.old == sends (OfMaster old.kit.settings)) BAD_LENGTH }
     ensures shown { result ≡ OK → IfThere master.old.place.master (λ old. Shows old offer.new model.offer) }
     ensures shown_due { result ≡ OK → IfThere master.old.place.master (λ old. ShowsDue old offer.new model.offer) }
     ensures refused { result ≢ OK → offer.new ≡ offer.old }
@@ -71,7 +68,8 @@ pub extern "C" fn gp_master_offer(master: &mut GpMaster, offer: &mut [u8]) -> u8
     if !master.live {
         return NO_END;
     }
-    if !copied(master.place.lend().master().offer(), offer) {
+    let room = master.place.lend();
+    if !copied(room.master.offer(), offer) {
         return BAD_LENGTH;
     }
     OK
@@ -95,7 +93,8 @@ pub extern "C" fn gp_master_terms(master: &mut GpMaster, terms: &mut GpTerms) ->
     if !master.live {
         return NO_END;
     }
-    if !tells(master.place.lend().master().terms(), terms) {
+    let room = master.place.lend();
+    if !tells(room.master.terms(), terms) {
         return NOT_IN_DATA;
     }
     OK
@@ -107,8 +106,7 @@ pub extern "C" fn gp_master_terms(master: &mut GpMaster, terms: &mut GpTerms) ->
 pub extern "C" fn gp_master_age(master: &mut GpMaster, age: &mut u16) -> u8
     requires { IsSoundMaster master.old }
     ensures unchanged { master.new ≡ master.old }
-    ensures done { master.old.live ≡ true → result ≡ OK }
-    ensures none { master.old.live ≡ false → result ≡ NO_END }
+    ensures answer { result ≡ served master.old.live }
     ensures shown { result ≡ OK → IfThere master.old.place.master (λ old. Shows old age.new model.age) }
     ensures shown_due { result ≡ OK → IfThere master.old.place.master (λ old. ShowsDue old age.new model.age) }
     ensures refused { result ≢ OK → age.new ≡ age.old }
@@ -116,7 +114,8 @@ pub extern "C" fn gp_master_age(master: &mut GpMaster, age: &mut u16) -> u8
     if !master.live {
         return NO_END;
     }
-    *age = master.place.lend().master().age();
+    let room = master.place.lend();
+    *age = room.master.age();
     OK
 }
 
@@ -126,8 +125,7 @@ pub extern "C" fn gp_master_age(master: &mut GpMaster, age: &mut u16) -> u8
 pub extern "C" fn gp_master_held(master: &mut GpMaster, held: &mut u8) -> u8
     requires { IsSoundMaster master.old }
     ensures unchanged { master.new ≡ master.old }
-    ensures done { master.old.live ≡ true → result ≡ OK }
-    ensures none { master.old.live ≡ false → result ≡ NO_END }
+    ensures answer { result ≡ served master.old.live }
     ensures shown { result ≡ OK → IfThere master.old.place.master (λ old. Shows old held.new (λ setup deeds. flag (model.held deeds))) }
     ensures shown_due { result ≡ OK → IfThere master.old.place.master (λ old. ShowsDue old held.new (λ setup deeds. flag (model.held deeds))) }
     ensures refused { result ≢ OK → held.new ≡ held.old }
@@ -135,6 +133,7 @@ pub extern "C" fn gp_master_held(master: &mut GpMaster, held: &mut u8) -> u8
     if !master.live {
         return NO_END;
     }
-    *held = flag(master.place.lend().master().held());
+    let room = master.place.lend();
+    *held = flag(room.master.held());
     OK
 }

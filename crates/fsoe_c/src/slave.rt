@@ -1,12 +1,12 @@
 //! The calls that C code makes of a slave.
-ghost use Rattle.std.specs.Prelude.{◌≡◌, ◌≢◌, ◌<◌, ◌≤◌, ◌==◌, ◌||◌, IsTrue, true, false, length};
+ghost use Rattle.std.specs.Prelude.{◌≡◌, ◌≢◌, ◌==◌, ◌&&◌, true, false, length, nat_le, if◌then◌else◌};
 ghost use Rattle.param_load.specs.Profile.{allows_id};
 ghost use Rattle.param_load.specs.declared.app_rule.AppRule.TheVariants as rule;
 ghost use Rattle.param_load.specs.declared.entry.Move.TheVariants as event;
 ghost use Rattle.end_model.specs.Setup.{OfSlave, sends};
 ghost use Rattle.slave_core.specs.Standing.{Follows};
-ghost use Rattle.fsoe_c.specs.Handle.{IsSoundSlave};
-ghost use Rattle.fsoe_c.specs.Place.{Between, IfThere};
+ghost use Rattle.fsoe_c.specs.Handle.{IsSoundSlave, served};
+ghost use Rattle.fsoe_c.specs.Place.{Between, IfThere, answered};
 ghost use Rattle.fsoe_c.specs.Settings.{IsNewSlave, slave_refusal};
 ghost use Rattle.fsoe_c.specs.Sizes.{end_align, slave_size};
 ghost use Rattle.fsoe_c.specs.Told.{SlaveTells};
@@ -67,8 +67,7 @@ fn start(slave: &mut GpSlave, set: &GpSlaveSettings, rule: AppRule) -> u8
 pub extern "C" fn gp_slave_init(slave: &mut GpSlave, set: &GpSlaveSettings, app_len: u16) -> u8
     requires { IsSoundSlave slave.old }
     ensures sound { IsSoundSlave slave.new }
-    ensures busy { slave.old.live ≡ true → result ≡ BUSY }
-    ensures refusal { slave.old.live ≡ false → result ≡ slave_refusal set.now (rule.Any app_len) }
+    ensures answer { result ≡ (if slave.old.live then BUSY else slave_refusal set.now (rule.Any app_len)) }
     ensures live { result ≡ OK → slave.new.live ≡ true }
     ensures made { result ≡ OK → IfThere slave.new.place.slave (IsNewSlave set.now (rule.Any app_len)) }
     ensures refused { result ≢ OK → slave.new ≡ slave.old }
@@ -84,9 +83,7 @@ pub extern "C" fn gp_slave_init(slave: &mut GpSlave, set: &GpSlaveSettings, app_
 pub extern "C" fn gp_slave_init_exact(slave: &mut GpSlave, set: &GpSlaveSettings, app: &[u8]) -> u8
     requires { IsSoundSlave slave.old }
     ensures sound { IsSoundSlave slave.new }
-    ensures busy { slave.old.live ≡ true → result ≡ BUSY }
-    ensures long { slave.old.live ≡ false → 512 < length app.now → result ≡ BAD_APP }
-    ensures refusal { slave.old.live ≡ false → length app.now ≤ 512 → result ≡ slave_refusal set.now (rule.Exact app.now) }
+    ensures answer { result ≡ (if slave.old.live then BUSY else if nat_le (length app.now) 512 then slave_refusal set.now (rule.Exact app.now) else BAD_APP) }
     ensures live { result ≡ OK → slave.new.live ≡ true }
     ensures made { result ≡ OK → IfThere slave.new.place.slave (IsNewSlave set.now (rule.Exact app.now)) }
     ensures refused { result ≢ OK → slave.new ≡ slave.old }
@@ -110,10 +107,7 @@ pub extern "C" fn gp_slave_init_ranges(
 ) -> u8
     requires { IsSoundSlave slave.old }
     ensures sound { IsSoundSlave slave.new }
-    ensures busy { slave.old.live ≡ true → result ≡ BUSY }
-    ensures long_low { slave.old.live ≡ false → 512 < length low.now → result ≡ BAD_APP }
-    ensures long_high { slave.old.live ≡ false → 512 < length high.now → result ≡ BAD_APP }
-    ensures refusal { slave.old.live ≡ false → length low.now ≤ 512 → length high.now ≤ 512 → result ≡ slave_refusal set.now (rule.Ranges low.now high.now) }
+    ensures answer { result ≡ (if slave.old.live then BUSY else if nat_le (length low.now) 512 && nat_le (length high.now) 512 then slave_refusal set.now (rule.Ranges low.now high.now) else BAD_APP) }
     ensures live { result ≡ OK → slave.new.live ≡ true }
     ensures made { result ≡ OK → IfThere slave.new.place.slave (IsNewSlave set.now (rule.Ranges low.now high.now)) }
     ensures refused { result ≢ OK → slave.new ≡ slave.old }
@@ -136,8 +130,7 @@ pub extern "C" fn gp_slave_end(slave: &mut GpSlave) -> u8
     requires { IsSoundSlave slave.old }
     ensures sound { IsSoundSlave slave.new }
     ensures over { slave.new.live ≡ false }
-    ensures done { slave.old.live ≡ true → result ≡ OK }
-    ensures none { slave.old.live ≡ false → result ≡ NO_END }
+    ensures answer { result ≡ served slave.old.live }
     ensures refused { result ≢ OK → slave.new ≡ slave.old }
 {
     if !slave.live {
@@ -151,7 +144,7 @@ pub extern "C" fn gp_slave_end(slave: &mut GpSlave) -> u8
 /// Delivers a frame of the master, of any number of bytes. Writes the result to `did`, and the frame to send to `out`,
 /// empty if none is sent.
 #[unsafe(no_mangle)]
-#[tactic(auto, using(crate::proofs::Places::vacuous))]
+#[tactic(auto, using(crate::proofs::Places::vacuous, crate::proofs::Places::slave_tells))]
 pub extern "C" fn gp_slave_deliver(
     slave: &mut GpSlave,
     frame: &[u8],
@@ -161,8 +154,7 @@ pub extern "C" fn gp_slave_deliver(
     requires { IsSoundSlave slave.old }
     ensures sound { IsSoundSlave slave.new }
     ensures same { slave.new.live ≡ slave.old.live }
-    ensures done { slave.old.live ≡ true → result ≡ OK }
-    ensures none { slave.old.live ≡ false → result ≡ NO_END }
+    ensures answer { result ≡ served slave.old.live }
     ensures follows { result ≡ OK → Between slave.old.place.slave slave.new.place.slave (λ old new. Follows old (event.Deliver frame.now) new) }
     ensures tells { result ≡ OK → IfThere slave.old.place.slave (λ old. SlaveTells old (event.Deliver frame.now) did.old did.new out.old out.new) }
     ensures refused { result ≢ OK → (slave.new ≡ slave.old) × (out.new ≡ out.old) × (did.new ≡ did.old) }
@@ -170,19 +162,22 @@ pub extern "C" fn gp_slave_deliver(
     if !slave.live {
         return NO_END;
     }
-    slave.place.lend().deliver(frame, out, did);
+    let room = slave.place.lend();
+    room.slave
+        .deliver_into(frame, &mut room.heard, &mut room.sent);
+    out.set(&room.sent);
+    did.set(&room.heard);
     OK
 }
 
 /// Counts a tick. Writes the result to `did`, and the frame to send to `out`, empty if none is sent.
 #[unsafe(no_mangle)]
-#[tactic(auto, using(crate::proofs::Places::vacuous))]
+#[tactic(auto, using(crate::proofs::Places::vacuous, crate::proofs::Places::slave_tells))]
 pub extern "C" fn gp_slave_tick(slave: &mut GpSlave, out: &mut GpFrame, did: &mut GpDid) -> u8
     requires { IsSoundSlave slave.old }
     ensures sound { IsSoundSlave slave.new }
     ensures same { slave.new.live ≡ slave.old.live }
-    ensures done { slave.old.live ≡ true → result ≡ OK }
-    ensures none { slave.old.live ≡ false → result ≡ NO_END }
+    ensures answer { result ≡ served slave.old.live }
     ensures follows { result ≡ OK → Between slave.old.place.slave slave.new.place.slave (λ old new. Follows old event.Tick new) }
     ensures tells { result ≡ OK → IfThere slave.old.place.slave (λ old. SlaveTells old event.Tick did.old did.new out.old out.new) }
     ensures refused { result ≢ OK → (slave.new ≡ slave.old) × (out.new ≡ out.old) × (did.new ≡ did.old) }
@@ -190,19 +185,21 @@ pub extern "C" fn gp_slave_tick(slave: &mut GpSlave, out: &mut GpFrame, did: &mu
     if !slave.live {
         return NO_END;
     }
-    slave.place.lend().tick(out, did);
+    let room = slave.place.lend();
+    room.slave.tick_into(&mut room.ticked, &mut room.sent);
+    out.set(&room.sent);
+    did.set(&room.ticked);
     OK
 }
 
 /// Ends the session, if there is one. Writes the result to `did`, and the Reset frame to send to `out`.
 #[unsafe(no_mangle)]
-#[tactic(auto, using(crate::proofs::Places::vacuous))]
+#[tactic(auto, using(crate::proofs::Places::vacuous, crate::proofs::Places::slave_tells))]
 pub extern "C" fn gp_slave_reset(slave: &mut GpSlave, out: &mut GpFrame, did: &mut GpDid) -> u8
     requires { IsSoundSlave slave.old }
     ensures sound { IsSoundSlave slave.new }
     ensures same { slave.new.live ≡ slave.old.live }
-    ensures done { slave.old.live ≡ true → result ≡ OK }
-    ensures none { slave.old.live ≡ false → result ≡ NO_END }
+    ensures answer { result ≡ served slave.old.live }
     ensures follows { result ≡ OK → Between slave.old.place.slave slave.new.place.slave (λ old new. Follows old event.Local new) }
     ensures tells { result ≡ OK → IfThere slave.old.place.slave (λ old. SlaveTells old event.Local did.old did.new out.old out.new) }
     ensures refused { result ≢ OK → (slave.new ≡ slave.old) × (out.new ≡ out.old) × (did.new ≡ did.old) }
@@ -210,31 +207,32 @@ pub extern "C" fn gp_slave_reset(slave: &mut GpSlave, out: &mut GpFrame, did: &m
     if !slave.live {
         return NO_END;
     }
-    slave.place.lend().reset(out, did);
+    let room = slave.place.lend();
+    let done = room.slave.reset(&mut room.sent);
+    out.set(&room.sent);
+    did.set(&done);
     OK
 }
 
 /// Sets the safe data to send from now on, as many bytes as the slave's frames carry. The offer outlasts resets.
 #[unsafe(no_mangle)]
-#[tactic(auto, using(crate::proofs::Places::vacuous))]
+#[tactic(auto, using(crate::proofs::Places::vacuous, crate::proofs::Places::unserved, crate::proofs::Places::passes, crate::proofs::Places::fails))]
 pub extern "C" fn gp_slave_put(slave: &mut GpSlave, load: &[u8]) -> u8
     requires { IsSoundSlave slave.old }
     ensures sound { IsSoundSlave slave.new }
     ensures same { slave.new.live ≡ slave.old.live }
-    ensures none { slave.old.live ≡ false → result ≡ NO_END }
-    ensures either { slave.old.live ≡ true → IsTrue (result == OK || result == BAD_LENGTH) }
-    ensures fits { result ≡ OK → IfThere slave.old.place.slave (λ old. length load.now ≡ sends (OfSlave old.kit.settings)) }
-    ensures other { result ≡ BAD_LENGTH → IfThere slave.old.place.slave (λ old. length load.now ≢ sends (OfSlave old.kit.settings)) }
+    ensures answer { result ≡ answered slave.old.place.slave (λ old. length load.now == sends (OfSlave old.kit.settings)) BAD_LENGTH }
     ensures follows { result ≡ OK → Between slave.old.place.slave slave.new.place.slave (λ old new. Follows old (event.Put load.now) new) }
     ensures refused { result ≢ OK → slave.new ≡ slave.old }
 {
     if !slave.live {
         return NO_END;
     }
-    if load.len() != slave.place.lend().slave().settings().own_len() {
+    let room = slave.place.lend();
+    if load.len() != room.slave.settings().own_len() {
         return BAD_LENGTH;
     }
-    slave.place.lend().put(load);
+    room.slave.put(load);
     OK
 }
 
@@ -245,46 +243,37 @@ pub extern "C" fn gp_slave_hold(slave: &mut GpSlave, failsafe: bool) -> u8
     requires { IsSoundSlave slave.old }
     ensures sound { IsSoundSlave slave.new }
     ensures same { slave.new.live ≡ slave.old.live }
-    ensures done { slave.old.live ≡ true → result ≡ OK }
-    ensures none { slave.old.live ≡ false → result ≡ NO_END }
+    ensures answer { result ≡ served slave.old.live }
     ensures follows { result ≡ OK → Between slave.old.place.slave slave.new.place.slave (λ old new. Follows old (event.Hold failsafe) new) }
     ensures refused { result ≢ OK → slave.new ≡ slave.old }
 {
     if !slave.live {
         return NO_END;
     }
-    slave.place.lend().hold(failsafe);
+    let room = slave.place.lend();
+    room.slave.hold(failsafe);
     OK
 }
 
 /// Sets the id of all sessions whose first Session frame is sent after this call, at most 65,535 in profile One. It
 /// outlasts resets: give a fresh one before each session.
 #[unsafe(no_mangle)]
-#[tactic(auto, using(crate::proofs::Places::vacuous))]
+#[tactic(auto, using(crate::proofs::Places::vacuous, crate::proofs::Places::unserved, crate::proofs::Places::passes, crate::proofs::Places::fails))]
 pub extern "C" fn gp_slave_nonce(slave: &mut GpSlave, id: u32) -> u8
     requires { IsSoundSlave slave.old }
     ensures sound { IsSoundSlave slave.new }
     ensures same { slave.new.live ≡ slave.old.live }
-    ensures none { slave.old.live ≡ false → result ≡ NO_END }
-    ensures either { slave.old.live ≡ true → IsTrue (result == OK || result == BAD_NONCE) }
-    ensures allowed { result ≡ OK → IfThere slave.old.place.slave (λ old. IsTrue (allows_id old.kit.settings.profile id)) }
-    ensures other { result ≡ BAD_NONCE → IfThere slave.old.place.slave (λ old. allows_id old.kit.settings.profile id ≡ false) }
+    ensures answer { result ≡ answered slave.old.place.slave (λ old. allows_id old.kit.settings.profile id) BAD_NONCE }
     ensures follows { result ≡ OK → Between slave.old.place.slave slave.new.place.slave (λ old new. Follows old (event.Nonce id) new) }
     ensures refused { result ≢ OK → slave.new ≡ slave.old }
 {
     if !slave.live {
         return NO_END;
     }
-    if !slave
-        .place
-        .lend()
-        .slave()
-        .settings()
-        .profile()
-        .allows_id(id)
-    {
+    let room = slave.place.lend();
+    if !room.slave.settings().profile().allows_id(id) {
         return BAD_NONCE;
     }
-    slave.place.lend().nonce(id);
+    room.slave.nonce(id);
     OK
 }

@@ -4,9 +4,9 @@ ghost use Rattle.end_model.specs.Setup.{OfSlave, sends, receives};
 ghost use Rattle.end_model.specs.Readiness as model;
 ghost use Rattle.end_model.specs.Outputs as looking_back;
 ghost use Rattle.slave_core.specs.Standing.{Shows};
-ghost use Rattle.fsoe_c.specs.Handle.{IsSoundSlave};
+ghost use Rattle.fsoe_c.specs.Handle.{IsSoundSlave, served};
 ghost use Rattle.fsoe_c.specs.Numbers.{flag, state_number};
-ghost use Rattle.fsoe_c.specs.Place.{IfThere};
+ghost use Rattle.fsoe_c.specs.Place.{IfThere, answered};
 ghost use Rattle.fsoe_c.specs.Told.{SlaveShowsTerms};
 
 use crate::numbers::{BAD_LENGTH, NO_END, NOT_IN_DATA, OK, flag, state_number};
@@ -19,34 +19,33 @@ use crate::told::{GpTerms, copied, tells};
 pub extern "C" fn gp_slave_state(slave: &mut GpSlave, state: &mut u8) -> u8
     requires { IsSoundSlave slave.old }
     ensures unchanged { slave.new ≡ slave.old }
-    ensures done { slave.old.live ≡ true → result ≡ OK }
-    ensures none { slave.old.live ≡ false → result ≡ NO_END }
+    ensures answer { result ≡ served slave.old.live }
     ensures shown { result ≡ OK → IfThere slave.old.place.slave (λ old. Shows old state.new (λ setup deeds. state_number (model.state_of setup deeds))) }
     ensures refused { result ≢ OK → state.new ≡ state.old }
 {
     if !slave.live {
         return NO_END;
     }
-    *state = state_number(slave.place.lend().slave().state());
+    let room = slave.place.lend();
+    *state = state_number(room.slave.state());
     OK
 }
 
 /// Copies the outputs, as many bytes as the master's frames carry.
 #[unsafe(no_mangle)]
-#[tactic(auto, using(crate::proofs::Places::vacuous))]
+#[tactic(auto, using(crate::proofs::Places::vacuous, crate::proofs::Places::unserved, crate::proofs::Places::passes, crate::proofs::Places::fails))]
 pub extern "C" fn gp_slave_outputs(slave: &mut GpSlave, outputs: &mut [u8]) -> u8
     requires { IsSoundSlave slave.old }
     ensures unchanged { slave.new ≡ slave.old }
-    ensures none { slave.old.live ≡ false → result ≡ NO_END }
-    ensures either { slave.old.live ≡ true → IsTrue (result == OK || result == BAD_LENGTH) }
-    ensures other { result ≡ BAD_LENGTH → IfThere slave.old.place.slave (λ old. length outputs.old ≢ receives (OfSlave old.kit.settings)) }
+    ensures answer { result ≡ answered slave.old.place.slave (λ old. length outputs.old == receives (OfSlave old.kit.settings)) BAD_LENGTH }
     ensures shown { result ≡ OK → IfThere slave.old.place.slave (λ old. Shows old outputs.new looking_back.out) }
     ensures refused { result ≢ OK → outputs.new ≡ outputs.old }
 {
     if !slave.live {
         return NO_END;
     }
-    if !copied(slave.place.lend().slave().outputs(), outputs) {
+    let room = slave.place.lend();
+    if !copied(room.slave.outputs(), outputs) {
         return BAD_LENGTH;
     }
     OK
@@ -54,20 +53,19 @@ pub extern "C" fn gp_slave_outputs(slave: &mut GpSlave, outputs: &mut [u8]) -> u
 
 /// Copies the safe data that were put last, zeros at first, as many bytes as the slave's frames carry.
 #[unsafe(no_mangle)]
-#[tactic(auto, using(crate::proofs::Places::vacuous))]
+#[tactic(auto, using(crate::proofs::Places::vacuous, crate::proofs::Places::unserved, crate::proofs::Places::passes, crate::proofs::Places::fails))]
 pub extern "C" fn gp_slave_offer(slave: &mut GpSlave, offer: &mut [u8]) -> u8
     requires { IsSoundSlave slave.old }
     ensures unchanged { slave.new ≡ slave.old }
-    ensures none { slave.old.live ≡ false → result ≡ NO_END }
-    ensures either { slave.old.live ≡ true → IsTrue (result == OK || result == BAD_LENGTH) }
-    ensures other { result ≡ BAD_LENGTH → IfThere slave.old.place.slave (λ old. length offer.old ≢ sends (OfSlave old.kit.settings)) }
+    ensures answer { result ≡ answered slave.old.place.slave (λ old. length offer.old == sends (OfSlave old.kit.settings)) BAD_LENGTH }
     ensures shown { result ≡ OK → IfThere slave.old.place.slave (λ old. Shows old offer.new model.offer) }
     ensures refused { result ≢ OK → offer.new ≡ offer.old }
 {
     if !slave.live {
         return NO_END;
     }
-    if !copied(slave.place.lend().slave().offer(), offer) {
+    let room = slave.place.lend();
+    if !copied(room.slave.offer(), offer) {
         return BAD_LENGTH;
     }
     OK
@@ -89,7 +87,8 @@ pub extern "C" fn gp_slave_terms(slave: &mut GpSlave, terms: &mut GpTerms) -> u8
     if !slave.live {
         return NO_END;
     }
-    if !tells(slave.place.lend().slave().terms(), terms) {
+    let room = slave.place.lend();
+    if !tells(room.slave.terms(), terms) {
         return NOT_IN_DATA;
     }
     OK
@@ -101,15 +100,15 @@ pub extern "C" fn gp_slave_terms(slave: &mut GpSlave, terms: &mut GpTerms) -> u8
 pub extern "C" fn gp_slave_age(slave: &mut GpSlave, age: &mut u16) -> u8
     requires { IsSoundSlave slave.old }
     ensures unchanged { slave.new ≡ slave.old }
-    ensures done { slave.old.live ≡ true → result ≡ OK }
-    ensures none { slave.old.live ≡ false → result ≡ NO_END }
+    ensures answer { result ≡ served slave.old.live }
     ensures shown { result ≡ OK → IfThere slave.old.place.slave (λ old. Shows old age.new model.age) }
     ensures refused { result ≢ OK → age.new ≡ age.old }
 {
     if !slave.live {
         return NO_END;
     }
-    *age = slave.place.lend().slave().age();
+    let room = slave.place.lend();
+    *age = room.slave.age();
     OK
 }
 
@@ -119,14 +118,14 @@ pub extern "C" fn gp_slave_age(slave: &mut GpSlave, age: &mut u16) -> u8
 pub extern "C" fn gp_slave_held(slave: &mut GpSlave, held: &mut u8) -> u8
     requires { IsSoundSlave slave.old }
     ensures unchanged { slave.new ≡ slave.old }
-    ensures done { slave.old.live ≡ true → result ≡ OK }
-    ensures none { slave.old.live ≡ false → result ≡ NO_END }
+    ensures answer { result ≡ served slave.old.live }
     ensures shown { result ≡ OK → IfThere slave.old.place.slave (λ old. Shows old held.new (λ setup deeds. flag (model.held deeds))) }
     ensures refused { result ≢ OK → held.new ≡ held.old }
 {
     if !slave.live {
         return NO_END;
     }
-    *held = flag(slave.place.lend().slave().held());
+    let room = slave.place.lend();
+    *held = flag(room.slave.held());
     OK
 }

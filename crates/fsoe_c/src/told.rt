@@ -1,5 +1,5 @@
 //! What C code gets: frames, what a step did, and the terms of a session.
-ghost use Rattle.std.specs.Prelude.{◌≡◌, ◌≢◌, ◌≤◌, IsTrue, IsSomeAnd, None, false, drop, length, option_copied};
+ghost use Rattle.std.specs.Prelude.{◌≡◌, ◌==◌, ◌≤◌, IsTrue, IsSomeAnd, None, false, drop, length, option_copied};
 ghost use Rattle.fsoe_c.specs.Told.{frame_of, ShowsDid, ShowsTerms};
 
 use crate::numbers::flag;
@@ -140,7 +140,7 @@ impl GpTerms {
 /// Copies these bytes to `to` if that has their number of bytes. Returns whether it has.
 pub(crate) fn copied(bytes: &[u8], to: &mut [u8]) -> bool
     ensures copied { IsTrue result → to.new ≡ bytes.now }
-    ensures other { result ≡ false → length to.old ≢ length bytes.now }
+    ensures fits { result ≡ (length to.old == length bytes.now) }
     ensures refused { result ≡ false → to.new ≡ to.old }
 {
     if to.len() != bytes.len() {

@@ -1,6 +1,6 @@
 -- A frame that differs in few bits from a frame that fits.
 use Rattle.seq_chain.proofs.Common.{AreBytes, DifferInGroups, Frame, Link, SteppedAlike, byte_turned, cases_eq, common, covered, crcs, crcs_from, fits, groups, pair_turned, place, rem, turned_bits, turned_in_frames, turned_within}
-use Rattle.std.proofs.Common.{◌≡◌, ◌≢◌, ℕ, suc, ◌+◌, ◌<◌, ◌≤◌, inl, inr, List, [], ◌∷◌, ◌++◌, length, take, Option, false, IsTrue, refl, ap, arith, rules}
+use Rattle.std.proofs.Common.{◌≡◌, ◌≢◌, ℕ, suc, ◌+◌, ◌<◌, ◌≤◌, inl, inr, List, [], ◌∷◌, ◌++◌, length, Option, false, IsTrue, refl, ap, arith, rules}
 use Rattle.seq_chain.proofs.ToldApart.{zeros_last}
 use Rattle.seq_chain.proofs.FirstTurned.{pair_turned as first_pair, one_turned}
 
@@ -35,10 +35,6 @@ pub groups_refused : (last : ℕ) (before : Option Link) (f g : Frame) → AreBy
     → turned_in_frames f g < 6 → fits last before g ≡ false
 groups_refused last before f g h k l m n o = search (rules, loads_apart)
 
-pub later_refused : (last : ℕ) (before : Option Link) (f g : Frame) → AreBytes f.load → AreBytes g.load → IsTrue (fits last before f) → DifferInGroups f g → take 2 f.load ≡ take 2 g.load
-    → turned_in_frames f g < 6 → fits last before g ≡ false
-later_refused last before f g h k l m n o = search (rules, groups_refused)
-
 -- where the connection id or the command differs, at least four bits do: of these, of the first group and of its CRC
 first_apart : (last conn conn' n cmd cmd' : ℕ) (load load' : List ℕ) → conn < 65536 → conn' < 65536 → cmd < 256 → cmd' < 256 → 0 < length load → length load ≡ length load' → AreBytes load → AreBytes load' → (conn ≡ conn' → cmd ≢ cmd')
     → 4 ≤ turned_bits conn conn' + turned_bits cmd cmd' + turned_within load load' + turned_within (crcs last conn n cmd load) (crcs last conn' n cmd' load')
@@ -48,10 +44,6 @@ first_apart last conn conn' n cmd cmd' (d ∷ b ∷ load) (d' ∷ b' ∷ load') 
     omega (arith, first_pair last conn conn' n cmd cmd' d b d' b' hconn hconn' hcmd hcmd' (h 0) (h 1) (h' 0) (h' 1) other)
 first_apart last conn conn' n cmd cmd' load load' hconn hconn' hcmd hcmd' some same h h' other = absurd (omega arith)
 
-first_refused : (last : ℕ) (before : Option Link) (f g : Frame) → f.cmd < 256 → g.cmd < 256 → f.conn < 65536 → g.conn < 65536 → 0 < length f.load → length f.load ≡ length g.load → AreBytes f.load → AreBytes g.load
+pub first_refused : (last : ℕ) (before : Option Link) (f g : Frame) → f.cmd < 256 → g.cmd < 256 → f.conn < 65536 → g.conn < 65536 → 0 < length f.load → length f.load ≡ length g.load → AreBytes f.load → AreBytes g.load
     → IsTrue (fits last before f) → SteppedAlike last before f g → (f.conn ≡ g.conn → f.cmd ≢ g.cmd) → turned_in_frames f g < 4 → fits last before g ≡ false
 first_refused last before f g h k l m n o p q r s t u = search (rules, first_apart)
-
-pub anywhere_refused : (last : ℕ) (before : Option Link) (f g : Frame) → f.cmd < 256 → g.cmd < 256 → f.conn < 65536 → g.conn < 65536 → 0 < length f.load → length f.load ≡ length g.load → AreBytes f.load → AreBytes g.load
-    → IsTrue (fits last before f) → f ≢ g → SteppedAlike last before f g → turned_in_frames f g < 4 → fits last before g ≡ false
-anywhere_refused last before f g h k l m n o p q r s t u = search (rules, first_refused, groups_refused)

@@ -1,7 +1,7 @@
 -- Frames whose loads differ in their first group.
-use Rattle.seq_chain.proofs.Common.{AreBytes, Link, SteppedAlike, common, crc_0, fed_bits-below, fed_bytes, fed_bytes-below, first_number, first_of, rem-adjacent, rem-xored, sealed, sixteen_zeros, sixteen_zeros-are_bits, step_in_last, step_in_load, xor_block, xor_lt, zero_first}
+use Rattle.seq_chain.proofs.Common.{AreBytes, common, crc_0, fed_bits-below, fed_bytes, fed_bytes-below, first_number, rem-adjacent, rem-xored, sixteen_zeros, sixteen_zeros-are_bits, step_in_last, step_in_load, xor_block, xor_lt, zero_first}
 use Rattle.fsoe_crc.specs.Remainder.{computing, rem}
-use Rattle.std.proofs.Common.{◌≡◌, ◌≢◌, ℕ, ◌*◌, ◌+◌, ◌<◌, List, [], ◌∷◌, length, bit_xor, Option, refl, sym, ap, ◌∙◌, lit<, arith, rules}
+use Rattle.std.proofs.Common.{◌≡◌, ◌≢◌, ℕ, ◌*◌, ◌+◌, ◌<◌, List, [], ◌∷◌, length, bit_xor, refl, sym, ap, ◌∙◌, lit<, arith, rules}
 use Rattle.seq_chain.proofs.ToldApart.{one_told, pair_told}
 
 pub first_told : (last conn n cmd : ℕ) (load load' : List ℕ) → length load ≡ length load' → AreBytes load → AreBytes load' → first_number load ≢ first_number load'
@@ -11,11 +11,6 @@ first_told last conn n cmd (d ∷ []) (d' ∷ []) same h h' other e = other (ap 
 first_told last conn n cmd (d ∷ b ∷ load) (d' ∷ b' ∷ load') same h h' other e =
     other (ap first_number (pair_told (common last conn n cmd) 0 d b d' b' (h 0) (h 1) (h' 0) (h' 1) e))
 first_told last conn n cmd load load' same h h' other e = absurd (omega arith)
-
-pub frames_told : (last conn cmd : ℕ) (before : Option Link) (load load' : List ℕ) → length load ≡ length load' → AreBytes load → AreBytes load' → first_number load ≢ first_number load'
-    → SteppedAlike last before (sealed last before conn cmd load) (sealed last before conn cmd load')
-    → first_of (sealed last before conn cmd load).crcs ≢ first_of (sealed last before conn cmd load').crcs
-frames_told last conn cmd before load load' h k l m n = search (rules, first_told)
 
 rem-below : (bytes : List ℕ) → rem bytes < 65536
 unfolding rem
@@ -45,11 +40,7 @@ differ_in_load last conn n cmd (d ∷ b ∷ load) (d' ∷ b' ∷ load') same h h
     let both : (x ≡ 0x85) × (y ≡ 0x99) = rem-adjacent [] (0 ∷ 0 ∷ 0 ∷ []) x y 0x85 0x99 hx hy (lit< tt) (lit< tt) (made ∙ sym step_is) in
     let first : d + 256 * b ≡ b * 256 + d = omega arith in
     let second : d' + 256 * b' ≡ b' * 256 + d' = omega arith in
-    ap (λ k. bit_xor k (d' + 256 * b')) first
-    ∙ ap (bit_xor (b * 256 + d)) second
-    ∙ xor_block 8 b b' d d' (h 0) (h' 0)
-    ∙ ap (λ k. k * 256 + x) both.1
-    ∙ ap (λ k. 0x99 * 256 + k) both.0
+    rw (first, second, xor_block 8 b b' d d' (h 0) (h' 0), both.1, both.0)
 differ_in_load last conn n cmd load load' same h h' e = absurd (omega arith)
 
 -- the CRC_0 of a load has 16 bits

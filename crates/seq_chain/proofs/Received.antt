@@ -3,9 +3,6 @@ use Rattle.seq_chain.proofs.Common.{AreBytes, cases_eq, frame_at, frame_len, fra
 use Rattle.std.proofs.Common.{◌≡◌, ◌≢◌, ℕ, zero, suc, ◌+◌, ◌-◌, ◌*◌, ◌/◌, ◌%◌, ◌<◌, List, [], ◌∷◌, length, drop, IsTrue, inl, inr, ap, arith, rules}
 use Rattle.byteorder.specs.Numbers.{little_from-lt}
 
-pub received_command : (l : ℕ) (bytes : List ℕ) → IsTrue (is_length l) → length bytes ≡ frame_len l → AreBytes bytes → (frame_of l bytes).cmd < 256
-received_command l bytes h k m = search (rules, frame_at)
-
 pub received_connection : (l : ℕ) (bytes : List ℕ) → IsTrue (is_length l) → length bytes ≡ frame_len l → AreBytes bytes → (frame_of l bytes).conn < 65536
 received_connection l bytes valid right h =
     let end : ℕ = length bytes - 2 in

@@ -3,7 +3,7 @@ use Rattle.seq_chain.proofs.Common.{AreBytes, DifferAt, common, cover, covered, 
 use Rattle.std.proofs.Common.{◌≡◌, ◌≢◌, ℕ, zero, suc, ◌/◌, ◌%◌, ◌<◌, ◌≤◌, List, [], ◌∷◌, ◌++◌, length, refl, ap, arith, append_assoc, rules}
 
 -- a number of 16 bits is two adjacent bytes
-word_told : (before after : List ℕ) (m n : ℕ) → m < 65536 → n < 65536 → rem (before ++ m % 256 ∷ m / 256 ∷ after) ≡ rem (before ++ n % 256 ∷ n / 256 ∷ after) → m ≡ n
+pub word_told : (before after : List ℕ) (m n : ℕ) → m < 65536 → n < 65536 → rem (before ++ m % 256 ∷ m / 256 ∷ after) ≡ rem (before ++ n % 256 ∷ n / 256 ∷ after) → m ≡ n
 word_told before after m n h k l = search (rules, rem-adjacent)
 
 -- what comes after the common part
@@ -64,5 +64,6 @@ first_group (d ∷ []) = d ∷ []
 first_group (d ∷ b ∷ load) = d ∷ b ∷ []
 
 -- the CRC_0 of a load is that of its first group
-pub crc_0_is : (last conn n cmd : ℕ) (load : List ℕ) → 0 < length load → crc_0 last conn n cmd load ≡ rem (cover last conn n cmd 0 (first_group load))
-crc_0_is last conn n cmd load h = grind arith
+pub first_alike : (last last' conn conn' n n' cmd cmd' : ℕ) (load : List ℕ) → 0 < length load → crc_0 last conn n cmd load ≡ crc_0 last' conn' n' cmd' load
+    → rem (cover last conn n cmd 0 (first_group load)) ≡ rem (cover last' conn' n' cmd' 0 (first_group load))
+first_alike last last' conn conn' n n' cmd cmd' load h e = grind arith

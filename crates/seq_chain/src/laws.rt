@@ -38,7 +38,7 @@ pub fn numbers()
 
 /// Consecutive frames of one end in a session have different CRC_0. The CRC_0 of the frame that is sealed after a
 /// `Link` differs from the one in this `Link`, and so from that of the previous frame.
-#[tactic(auto, using(crate::proofs::Steps::after_link, crate::proofs::Steps::after_frame))]
+#[tactic(auto, using(crate::proofs::Steps::after_link))]
 pub fn consecutive()
     ensures after_link { (last conn cmd : ℕ) (link : Link) (load : List ℕ) → link.number < 65536 → 0 < length load → first_of (sealed last (Some link) conn cmd load).crcs ≢ link.crc }
     ensures after_frame { (last last' conn cmd : ℕ) (before : Option Link) (frame : Frame) (load : List ℕ) → IfSome before (λ link. link.number < 65536) → 0 < length load → first_of (sealed last' (Some (noted last before frame)) conn cmd load).crcs ≢ first_of frame.crcs }
@@ -64,7 +64,7 @@ pub fn one_change_stepped_alike()
 /// Let frame A fit, and let frame B differ from A only in data and CRC fields, in one to five bits. Then B doesn't fit,
 /// provided that the data of the first group are equal, or that the extra increment comes for both or for neither. With
 /// the latter condition no frame fits that differs from A in one to three bits anywhere.
-#[tactic(auto, using(crate::proofs::FewTurned::later_refused, crate::proofs::FewTurned::groups_refused, crate::proofs::FewTurned::anywhere_refused))]
+#[tactic(auto, using(crate::proofs::FewTurned::groups_refused, crate::proofs::FewTurned::first_refused))]
 pub fn few_turned_bits()
     ensures later_groups { (last : ℕ) (before : Option Link) (f g : Frame) → AreBytes f.load → AreBytes g.load → IsTrue (fits last before f) → DifferInGroups f g → take 2 f.load ≡ take 2 g.load → turned_in_frames f g < 6 → fits last before g ≡ false }
     ensures groups { (last : ℕ) (before : Option Link) (f g : Frame) → AreBytes f.load → AreBytes g.load → IsTrue (fits last before f) → DifferInGroups f g → SteppedAlike last before f g → turned_in_frames f g < 6 → fits last before g ≡ false }
@@ -73,7 +73,7 @@ pub fn few_turned_bits()
 
 /// That condition is needed: there are two frames that differ only in the data of the first group and both fit after
 /// the same frames. Only one of their numbers is incremented once more.
-#[tactic(auto, using(crate::proofs::BothFit::stepped_fits, crate::proofs::BothFit::other_fits, crate::proofs::BothFit::data_differ))]
+#[tactic(auto, using(crate::proofs::BothFit::stepped_fits, crate::proofs::BothFit::other_fits))]
 pub fn proviso_is_needed()
     ensures one_fits { IsTrue (fits 0x672D noted_before stepped_frame) }
     ensures another_fits { IsTrue (fits 0x672D noted_before other_frame) }
@@ -93,7 +93,7 @@ pub fn another_last()
 /// Loads of one length with different first groups have different CRC_0 under the same number. So have two candidates
 /// for the next frame, if the extra increment comes for both or for neither, as always at the first frame of a session.
 /// The exclusive-or of their CRC_0 is 72B6h only if that of their first groups is 9985h.
-#[tactic(auto, using(crate::proofs::FirstGroups::first_told, crate::proofs::FirstGroups::frames_told, crate::proofs::FirstGroups::differ_in_load))]
+#[tactic(auto, using(crate::proofs::FirstGroups::first_told, crate::proofs::FirstGroups::differ_in_load))]
 pub fn first_groups()
     ensures loads { (last conn number cmd : ℕ) (load load' : List ℕ) → length load ≡ length load' → AreBytes load → AreBytes load' → first_number load ≢ first_number load' → crc_0 last conn number cmd load ≢ crc_0 last conn number cmd load' }
     ensures frames { (last conn cmd : ℕ) (before : Option Link) (load load' : List ℕ) → length load ≡ length load' → AreBytes load → AreBytes load' → first_number load ≢ first_number load' → SteppedAlike last before (sealed last before conn cmd load) (sealed last before conn cmd load') → first_of (sealed last before conn cmd load).crcs ≢ first_of (sealed last before conn cmd load').crcs }
@@ -110,7 +110,7 @@ pub fn steps()
 
 /// A frame that is read from bytes of its length fulfils the conditions of these laws: its load has at least one byte,
 /// and its parts are within their widths.
-#[tactic(auto, using(crate::proofs::Received::received_command, crate::proofs::Received::received_connection, crate::proofs::Received::received_load, crate::proofs::Received::received_some))]
+#[tactic(auto, using(fsoe_frame::proofs::Places::frame_at, crate::proofs::Received::received_connection, crate::proofs::Received::received_load, crate::proofs::Received::received_some))]
 pub fn received()
     ensures command { (l : ℕ) (bytes : List ℕ) → IsTrue (is_length l) → length bytes ≡ frame_len l → AreBytes bytes → (frame_of l bytes).cmd < 256 }
     ensures connection { (l : ℕ) (bytes : List ℕ) → IsTrue (is_length l) → length bytes ≡ frame_len l → AreBytes bytes → (frame_of l bytes).conn < 65536 }

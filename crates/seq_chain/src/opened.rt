@@ -44,7 +44,7 @@ pub fn open<'a>(frame: &'a [u8], l: usize, repeats: bool) -> Opened<'a>
     match Command::of(view.command_byte()) {
         None => Opened::Refuse(Code::UNKNOWN_COMMAND),
         Some(Command::Reset) => open_reset(view),
-        Some(command) => Opened::OfSession(UnreadFrame::new(command, view)),
+        Some(command) => Opened::OfSession(UnreadFrame { command, view }),
     }
 }
 

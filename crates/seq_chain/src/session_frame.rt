@@ -7,8 +7,8 @@ use std::marker::Model;
 /// command and the frame.
 #[derive(Drop)]
 pub struct UnreadFrame<'a> {
-    command: Command,
-    view: FrameView<'a>,
+    pub(crate) command: Command,
+    pub(crate) view: FrameView<'a>,
 }
 
 impl<'a> Model for UnreadFrame<'a> {
@@ -25,30 +25,13 @@ impl<'a> Model for UnreadFrame<'a> {
 
 impl<'a> UnreadFrame<'a> {
     ghost use Rattle.std.specs.Prelude.{◌≡◌, IsTrue, Some, [], length};
-    ghost use Rattle.fsoe_base.specs.Command.{command_byte};
     ghost use Rattle.fsoe_base.specs.Lengths.{is_length, group_count};
-
-    /// A frame with this command, whose byte it has.
-    pub(crate) fn new(command: Command, view: FrameView<'a>) -> UnreadFrame<'a>
-        requires { view.cmd ≡ command_byte command }
-        ensures { result ≡ record { command = command; frame = view.entry } }
-    {
-        UnreadFrame { command, view }
-    }
 
     /// The command.
     pub fn command(&self) -> Command
         ensures { result ≡ self.now.command }
     {
         self.command
-    }
-
-    /// The frame, which has the byte of its command.
-    fn view(&self) -> &FrameView<'a>
-        ensures value { result.now ≡ self.now.frame }
-        ensures byte { self.now.frame.cmd ≡ command_byte self.now.command }
-    {
-        &self.view
     }
 
     /// Copies the safe data into `out`, whose old contents are lost. Their number is one that a frame can have, and
@@ -123,8 +106,8 @@ impl<'a> SessionFrame<'a> {
         ensures { result ≡ frame.now }
     {
         SessionFrame {
-            command: frame.command(),
-            view: frame.view(),
+            command: frame.command,
+            view: &frame.view,
             load: load.bytes(),
         }
     }
