@@ -10,11 +10,11 @@ use Rattle.fb_lib.specs.Standing.{AreOff, IsOffIfGuarded, kind_of}
 use Rattle.fb_lib.specs.Steps.{next_held, told}
 
 -- an input that is guarded is false
-off-at : (k : ℕ) (gs bs : List Bool) → AreOff gs bs → get_or gs k false ≡ true → get_or bs k false ≡ false
-off-at k [] [] off g = refl
-off-at zero (x ∷ gs) (b ∷ bs) off g = off.0 g
-off-at (suc k) (x ∷ gs) (b ∷ bs) off g = off-at k gs bs off.1 g
-off-at k _ _ off g = absurd off
+pub off_at : (k : ℕ) (gs bs : List Bool) → AreOff gs bs → get_or gs k false ≡ true → get_or bs k false ≡ false
+off_at k [] [] off g = refl
+off_at zero (x ∷ gs) (b ∷ bs) off g = off.0 g
+off_at (suc k) (x ∷ gs) (b ∷ bs) off g = off_at k gs bs off.1 g
+off_at k _ _ off g = absurd off
 
 some-off : (gs bs : List Bool) → AreOff gs bs → list_any (λ g. g) gs ≡ true → list_all (λ b. b) bs ≡ false
 some-off [] bs off g = cc
@@ -31,11 +31,11 @@ all-off (true ∷ gs) (b ∷ bs) off g = let h : b ≡ false = off.0 refl in ap 
 
 -- the value is false
 pub value_off : (k : BlockKind) (n : ℕ) (gs : List Bool) (c : Cycle) (e : List Cycle) → AreOff gs c.ins → is_guarded k gs ≡ true → value k n (c ∷ e) ≡ false
-value_off k n gs c e h l = search (rules, some-off, all-off, off-at)
+value_off k n gs c e h l = search (rules, some-off, all-off, off_at)
 
 -- and so is what a block gives, whatever it holds
 step-off : (n : ℕ) (h : Held) (gs : List Bool) (c : Cycle) → AreOff gs c.ins → is_guarded (kind_of h) gs ≡ true → told n (next_held n h c) c ≡ false
-step-off n h gs c k l = search (rules, some-off, all-off, off-at)
+step-off n h gs c k l = search (rules, some-off, all-off, off_at)
 
 pub told_off : (n : ℕ) (old new : Held) (ticked : Bool) (ins : List Bool) (given : Bool)
     → (let c : Cycle = record { ticked = ticked; ins = ins } in new ≡ next_held n old c) → (let c : Cycle = record { ticked = ticked; ins = ins } in given ≡ told n new c) → IsOffIfGuarded (kind_of old) ins given

@@ -61,6 +61,8 @@ impl Block {
     #[tactic(auto, using(crate::proofs::Looking::follows_by, crate::proofs::Looking::gives_by))]
     pub fn step(&mut self, ticked: bool, ins: &[bool]) -> bool
         requires { IsTrue (takes self.old.kind (length ins.now)) }
+        ensures next { self.new ≡ next_block self.old (record { ticked = ticked; ins = ins.now }) }
+        ensures told { result ≡ told self.new.n self.new.held (record { ticked = ticked; ins = ins.now }) }
         ensures gives { BlockGives self.old (record { ticked = ticked; ins = ins.now }) result }
         ensures follows { BlockFollows self.old (record { ticked = ticked; ins = ins.now }) self.new }
         ensures kind { self.new.kind ≡ self.old.kind }

@@ -4,7 +4,7 @@ use Rattle.std.proofs.Common.{◌≡◌, inl, inr, ℕ, Bool, true, false, not, 
 use Rattle.fb_lib.specs.LookBack.{is_now, run}
 use Rattle.fb_net.specs.declared.wire.Wire.TheVariants as wire
 use Rattle.fb_net.specs.Acknowledged.{stop_blocks, stop_drives, is_on, may_run, in_order, is_acknowledged, is_let_go}
-use Rattle.fb_net.proofs.Driven.{driven_bit}
+use Rattle.fb_net.proofs.Bits.{driven_bit}
 
 -- what was seen, after one more cycle
 seen-more : (p : NetCycle → Bool) (ps : List (NetCycle → Bool)) (q : NetCycle → Bool) (c : NetCycle) (e : List NetCycle)

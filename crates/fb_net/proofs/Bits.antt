@@ -1,11 +1,12 @@
--- The bits of images in which bits are set.
-use Rattle.fb_net.proofs.Common.{Bit, and_or_apart, bit_at, bit_of, cases_eq, common_steps, get_or-set_other, get_or-set_same, images_with, is_same_bit, length-set, pow_apart, set_past, with_bit, with_on, zero_images}
-use Rattle.std.proofs.Common.{◌≡◌, ◌≢◌, ◌⊎◌, inl, inr, ℕ, zero, suc, ◌/◌, ◌%◌, ◌^◌, ◌<◌, ◌≤◌, ◌==◌, true, false, not, List, [], ◌∷◌, length, get_or, map, fold, replicate, slice_index, slice_set, bit_and, bit_or, refl, sym, ap, ◌∙◌, arith, rules}
+-- The bits of images in which bits are set, and so the output bits of a net.
+use Rattle.fb_net.proofs.Common.{Bit, Drive, and_or_apart, and_or_self, at_number, bit_at, bit_of, bits_on, cases_Bool, cases_eq, common_steps, driven_images, get_or-set_other, get_or-set_same, get_or_past, has_bit, images_with, is_same_bit, length-set, list_any, pow_apart, set_past, wire_value, with_bit, with_on, zero_images}
+use Rattle.std.proofs.Common.{Bool, List, [], ap, arith, bit_and, bit_or, cond, false, filter, fold, get_or, inl, inr, length, map, nat_lt, not, refl, replicate, rules, slice_index, slice_set, suc, sym, true, zero, ℕ, ◌%◌, ◌&&◌, ◌*◌, ◌/◌, ◌<◌, ◌==◌, ◌^◌, ◌||◌, ◌∙◌, ◌∷◌, ◌≡◌, ◌≢◌, ◌≤◌, ◌⊎◌}
+use Rattle.std.proofs.lemmas.Bool.Decides.{nat_tests}
 use Rattle.std.specs.Int.Bits.{and_zero_l}
 use Rattle.std.proofs.Math.Seq.{map-set_same}
 
 -- which of two numbers is less
-pub within : (i n : ℕ) → (i < n) ⊎ (n ≤ i)
+within : (i n : ℕ) → (i < n) ⊎ (n ≤ i)
 within i n = grind arith
 
 -- a set bit leaves the others of its byte
@@ -38,7 +39,7 @@ image-apart images k j a b h =
     ]
 
 -- a bit that is set leaves every other bit
-pub other_bit : (images : List (List ℕ)) (d o : Bit) → is_same_bit d o ≡ false → bit_at (with_on images d.link d.bit) o ≡ bit_at images o
+other_bit : (images : List (List ℕ)) (d o : Bit) → is_same_bit d o ≡ false → bit_at (with_on images d.link d.bit) o ≡ bit_at images o
 other_bit images d o h = search (rules, image-apart)
 
 -- images of zeros have no bit set
@@ -57,7 +58,7 @@ pub zero_bit : (lens : List ℕ) (o : Bit) → bit_at (zero_images lens) o ≡ f
 zero_bit lens o = search (rules, zero-image)
 
 -- the lengths
-pub length_with_on : (images : List (List ℕ)) (l b : ℕ) → map length (with_on images l b) ≡ map length images
+length_with_on : (images : List (List ℕ)) (l b : ℕ) → map length (with_on images l b) ≡ map length images
 length_with_on images zero b = refl
 length_with_on images (suc k) b =
     map-set_same (λ (xs : List ℕ). length xs) images k (with_bit (get_or images k []) b true) []
@@ -76,3 +77,60 @@ length_zeros (n ∷ ns) = ap (λ k. k ∷ map length (zero_images ns)) (length-r
 
 pub lengths_with : (lens : List ℕ) (bits : List Bit) → map length (images_with lens bits) ≡ lens
 lengths_with lens bits = length-all (zero_images lens) bits ∙ length_zeros lens
+
+-- a bit that is set is set
+bit-set : (bytes : List ℕ) (b : ℕ) → b < 8 * length bytes → bit_of (with_bit bytes b true) b ≡ true
+bit-set bytes b h = search (rules, and_or_self)
+
+image-set : (images : List (List ℕ)) (k b : ℕ) → b < 8 * length (get_or images k [])
+    → bit_of (get_or (slice_set images k (with_bit (get_or images k []) b true)) k []) b ≡ true
+image-set images k b h =
+    elim (within k (length images)) [
+      | inl lt ↦ ap (λ (xs : List ℕ). bit_of xs b) (get_or-set_same images k (with_bit (get_or images k []) b true) [] lt) ∙ bit-set (get_or images k []) b h
+      | inr le ↦
+          let none : get_or images k [] ≡ [] = get_or_past images k [] le in
+          let e : length (get_or images k []) ≡ 0 = ap (λ (xs : List ℕ). length xs) none in
+          absurd (omega arith)
+    ]
+
+-- a bit exists by the lengths of the images
+length-at : (images : List (List ℕ)) (k : ℕ) → get_or (map length images) k 0 ≡ length (get_or images k [])
+length-at images k = grind (arith, common_steps)
+
+length-number : (images : List (List ℕ)) (l : ℕ) → at_number (map length images) l 0 ≡ length (at_number images l [])
+length-number images l = search (rules, length-at)
+
+-- with or without one more drive whose wire reads true
+set-more : (on : Bool) (images : List (List ℕ)) (d : Drive) (rest : List Drive) (o : Bit) (more : Bool)
+    → has_bit (map length images) o ≡ true
+    → ((xs : List (List ℕ)) → has_bit (map length xs) o ≡ true → bit_at (fold (λ ys b. with_on ys b.link b.bit) xs (map (λ x. x.out) rest)) o ≡ (bit_at xs o || more))
+    → bit_at (fold (λ ys b. with_on ys b.link b.bit) images (map (λ x. x.out) (cond on (d ∷ rest) rest))) o ≡ (bit_at images o || ((is_same_bit d.out o && on) || more))
+set-more on images d rest o more h k = search (rules, length_with_on, image-set, length-number, other_bit)
+
+driven-bit : (ds : List Drive) (values : List Bool) (inputs : List (List ℕ)) (images : List (List ℕ)) (o : Bit) → has_bit (map length images) o ≡ true
+    → bit_at (fold (λ ys b. with_on ys b.link b.bit) images (bits_on ds values inputs)) o ≡ (bit_at images o || list_any (λ d. is_same_bit d.out o && wire_value values inputs d.from) ds)
+driven-bit [] values inputs images o h = grind arith
+driven-bit (d ∷ ds) values inputs images o h =
+    set-more (wire_value values inputs d.from) images d (filter (λ x. wire_value values inputs x.from) ds) o
+    (list_any (λ x. is_same_bit x.out o && wire_value values inputs x.from) ds) h (λ xs g. driven-bit ds values inputs xs o g)
+
+pub driven_bit : (ds : List Drive) (values : List Bool) (inputs : List (List ℕ)) (lens : List ℕ) (o : Bit) → has_bit lens o ≡ true
+    → bit_at (driven_images ds values inputs lens) o ≡ list_any (λ d. is_same_bit d.out o && wire_value values inputs d.from) ds
+driven_bit ds values inputs lens o h = search (rules, driven-bit, length_zeros, zero_bit)
+
+-- a bit that no drive sets is 0, also where there is no such bit
+past-byte : (bytes : List ℕ) (b : ℕ) → nat_lt b (8 * length bytes) ≡ false → length bytes ≤ b / 8
+past-byte bytes b h = grind (arith, nat_tests)
+
+past-bit : (images : List (List ℕ)) (o : Bit) → has_bit (map length images) o ≡ false → bit_at images o ≡ false
+past-bit images o h =
+    let bytes : List ℕ = at_number images o.link [] in
+    no_bit bytes o.bit (get_or_past bytes (o.bit / 8) 0 (past-byte bytes o.bit (rw (length-number images o.link) at h)))
+
+pub off_driven : (ds : List Drive) (values : List Bool) (inputs : List (List ℕ)) (lens : List ℕ) (o : Bit)
+    → list_any (λ d. is_same_bit d.out o && wire_value values inputs d.from) ds ≡ false → bit_at (driven_images ds values inputs lens) o ≡ false
+off_driven ds values inputs lens o none =
+    elim (cases_Bool (has_bit lens o)) [
+      | inl there ↦ driven_bit ds values inputs lens o there ∙ none
+      | inr past ↦ past-bit (driven_images ds values inputs lens) o (rw (lengths_with lens (bits_on ds values inputs)) past)
+    ]

@@ -1,19 +1,16 @@
 -- What a net holds as numbers is what its blocks keep.
-use Rattle.fb_net.proofs.Common.{AllReady, BlockSpec, IsReady, NetBlock, NetCycle, all_restored, count_held, flag_held, given, holds_of, kind_of, net_block, on_held, plan, restored, run_blocks}
-use Rattle.std.proofs.Common.{◌≡◌, Bool, List, [], ◌∷◌, ◌++◌, refl, ap, ap₂, arith}
+use Rattle.fb_net.proofs.Common.{BlockSpec, BlockStands, BlocksStand, Cycle, NetBlock, NetCycle, all_restored, given, holds_of, kept_numbers, net_block, plan, run_blocks, with_block}
+use Rattle.std.proofs.Common.{◌≡◌, ℕ, Bool, List, [], ◌∷◌, ◌++◌, refl, ap, ◌∙◌, arith}
 
--- a block keeps what a block of its kind keeps
-pub kind_is : (b : BlockSpec) → IsReady b → kind_of b.block.held ≡ b.block.kind
-kind_is b h = grind arith
+restored-first : (b : BlockSpec) (e : List Cycle) (ps : List NetBlock) (held : List ℕ) → BlockStands b.block.kind b.block.n b.block e
+    → all_restored (net_block b ∷ ps) (kept_numbers b.block.held ++ held) ≡ b ∷ all_restored ps held
+restored-first b e ps held s = grind arith
 
-restored-back : (b : BlockSpec) → kind_of b.block.held ≡ b.block.kind
-    → restored (net_block b) (count_held b.block.held) (on_held b.block.held) (flag_held b.block.held) ≡ b
-restored-back b h = grind arith
-
-pub all_restored-back : (bs : List BlockSpec) → AllReady bs → all_restored (plan bs) (holds_of bs) ≡ bs
-all_restored-back [] r = refl
-all_restored-back (b ∷ bs) r =
-    ap₂ (λ (x : BlockSpec) (xs : List BlockSpec). x ∷ xs) (restored-back b (kind_is b r.0)) (all_restored-back bs r.1)
+pub all_restored-back : (before : List NetCycle → List Bool) (bs : List BlockSpec) (e : List NetCycle) → BlocksStand before bs e
+    → all_restored (plan bs) (holds_of bs) ≡ bs
+all_restored-back before [] e s = refl
+all_restored-back before (b ∷ bs) e s =
+    restored-first b _ (plan bs) (holds_of bs) s.0 ∙ ap (λ (xs : List BlockSpec). b ∷ xs) (all_restored-back (with_block before (net_block b)) bs e s.1)
 
 -- a cycle leaves what the blocks were made as
 pub plan_stays : (values : List Bool) (c : NetCycle) (bs : List BlockSpec) → plan (run_blocks values c bs) ≡ plan bs

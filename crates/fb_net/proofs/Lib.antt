@@ -1,15 +1,10 @@
-pub mod Stepping
 pub mod Running
-pub mod Clearing
 pub mod Looking
 pub mod Holding
 pub mod Bits
 pub mod Guarding
-pub mod Cycling
 pub mod Faults
 pub mod Mirroring
-pub mod CallsOf
 pub mod Ruled
-pub mod Driven
 pub mod Acknowledging
 pub mod Common

@@ -1,34 +1,38 @@
 -- The values of the blocks that are stepped in order are what looking back over the net's cycles says.
-use Rattle.fb_net.proofs.Common.{AllReady, BlockSpec, BlockStands, BlocksStand, Cycle, IsReady, NetCycle, block_cycles, cycle_of, given, gives_by, net_block, next_block, next_held, plan, run_blocks, run_values, told, values_from, with_block}
+use Rattle.fb_net.proofs.Common.{AllReady, BlockSpec, BlockStands, BlocksStand, CanRun, Cycle, IsReady, NetCycle, block_cycles, cycle_of, follows_by, given, gives_by, net_block, next_block, next_held, plan, run_blocks, run_values, told, values_from, with_block}
 use Rattle.std.proofs.Common.{◌≡◌, Bool, List, [], ◌∷◌, ◌++◌, refl, sym, ap, subst, ◌∙◌}
-use Rattle.fb_lib.specs.Value.{value}
-use Rattle.fb_net.proofs.Stepping.{next_stands}
+use Rattle.fb_net.proofs.Holding.{plan_stays}
 
--- what a block gives in the net
-given-is : (before : List NetCycle → List Bool) (b : BlockSpec) (c : NetCycle) (e : List NetCycle) → IsReady b
-    → BlockStands b.block.kind b.block.n b.block (block_cycles before b.ins e)
-    → given (before (c ∷ e)) c b ≡ value b.block.kind b.block.n (block_cycles before b.ins (c ∷ e))
-given-is before b c e r s =
-    let d : Cycle = cycle_of (before (c ∷ e)) c b.ins in
-    (gives_by b.block (next_block b.block d) d (told b.block.n (next_held b.block.n b.block.held d) d) r.fits refl refl).gives
-    b.block.kind b.block.n (block_cycles before b.ins e) s
-
-more-is : (before : List NetCycle → List Bool) (b : BlockSpec) (c : NetCycle) (e : List NetCycle) → IsReady b
+-- what a block gives in the net is its value
+more-is : (before : List NetCycle → List Bool) (b : BlockSpec) (c : NetCycle) (e : List NetCycle) → IsReady (net_block b)
     → BlockStands b.block.kind b.block.n b.block (block_cycles before b.ins e)
     → before (c ∷ e) ++ given (before (c ∷ e)) c b ∷ [] ≡ with_block before (net_block b) (c ∷ e)
-more-is before b c e r s = ap (λ (v : Bool). before (c ∷ e) ++ v ∷ []) (given-is before b c e r s)
+more-is before b c e r s =
+    let d : Cycle = cycle_of (before (c ∷ e)) c b.ins in
+    ap (λ (v : Bool). before (c ∷ e) ++ v ∷ [])
+    ((gives_by b.block (next_block b.block d) d (told b.block.n (next_held b.block.n b.block.held d) d) r.fits refl refl).gives
+    b.block.kind b.block.n (block_cycles before b.ins e) s)
 
-pub values_are : (before : List NetCycle → List Bool) (bs : List BlockSpec) (c : NetCycle) (e : List NetCycle) → AllReady bs → BlocksStand before bs e
-    → run_values (before (c ∷ e)) c bs ≡ values_from before (plan bs) (c ∷ e)
+pub values_are : (before : List NetCycle → List Bool) (bs : List BlockSpec) (c : NetCycle) (e : List NetCycle) → AllReady (plan bs)
+    → BlocksStand before bs e → run_values (before (c ∷ e)) c bs ≡ values_from before (plan bs) (c ∷ e)
 values_are before [] c e r s = refl
 values_are before (b ∷ bs) c e r s =
     ap (λ (vs : List Bool). run_values vs c bs) (more-is before b c e r.0 s.0) ∙ values_are (with_block before (net_block b)) bs c e r.1 s.1
 
-pub blocks_stand : (before : List NetCycle → List Bool) (bs : List BlockSpec) (c : NetCycle) (e : List NetCycle) → AllReady bs → BlocksStand before bs e
-    → BlocksStand before (run_blocks (before (c ∷ e)) c bs) (c ∷ e)
+pub blocks_stand : (before : List NetCycle → List Bool) (bs : List BlockSpec) (c : NetCycle) (e : List NetCycle) → AllReady (plan bs)
+    → BlocksStand before bs e → BlocksStand before (run_blocks (before (c ∷ e)) c bs) (c ∷ e)
 blocks_stand before [] c e r s = tt
 blocks_stand before (b ∷ bs) c e r s =
-    let P : List Bool → Type 0 = λ vs. BlocksStand (with_block before (net_block b)) (run_blocks vs c bs) (c ∷ e) in (
-      next_stands b.block (cycle_of (before (c ∷ e)) c b.ins) (block_cycles before b.ins e) r.0.fits s.0,
+    let P : List Bool → Type 0 = λ vs. BlocksStand (with_block before (net_block b)) (run_blocks vs c bs) (c ∷ e) in
+    let d : Cycle = cycle_of (before (c ∷ e)) c b.ins in (
+      (follows_by b.block (next_block b.block d) d r.0.fits refl).stands b.block.kind b.block.n (block_cycles before b.ins e) s.0,
       subst P (sym (more-is before b c e r.0 s.0)) (blocks_stand (with_block before (net_block b)) bs c e r.1 s.1),
     )
+
+-- so blocks that can be stepped can be stepped again
+pub can_run : (old new : List BlockSpec) (c : NetCycle) → CanRun old → new ≡ run_blocks [] c old → CanRun new
+can_run old new c r is = rw is (record {
+  ready = subst AllReady (sym (plan_stays [] c old)) r.ready;
+  past = c ∷ r.past;
+  stands = blocks_stand (λ _. []) old c r.past r.ready r.stands;
+})

@@ -6,7 +6,6 @@ pub mod Steps
 pub mod Standing
 pub mod Ready
 pub mod Meaning
-pub mod Ran
 pub mod Fault
 pub mod New
 pub mod Mirror

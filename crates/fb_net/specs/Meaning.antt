@@ -14,6 +14,10 @@ net_holds v = holds_of v.blocks
 abbrev pub rule_of : NetView → List ℕ → Bool → List (List ℕ) → List ℕ → Answer
 rule_of v = net_rule (plan v.blocks) v.drives
 
+-- the answer to a cycle, by what the net holds
+abbrev pub net_answer : NetView → Bool → List (List ℕ) → List ℕ → Answer
+net_answer v ticked inputs lens = rule_of v (net_holds v) ticked inputs lens
+
 -- which output bits are guarded by which input bits
 abbrev pub guards_of : NetView → Bit → Bit → Bool
 guards_of v = is_output_guarded (plan v.blocks) v.drives

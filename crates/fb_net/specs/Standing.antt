@@ -18,9 +18,15 @@ BlocksStand before (b ∷ bs) e =
 pub record NetStands (v : NetView) (e : List NetCycle) : Type 0 where
   pub blocks : BlocksStand (λ _. []) v.blocks e
 
+-- blocks can be stepped, and stand for some cycles
+pub record CanRun (bs : List BlockSpec) : Type 0 where
+  pub ready : AllReady (plan bs)
+  pub past : List NetCycle
+  pub stands : BlocksStand (λ _. []) bs past
+
 -- a net had no cycle, and its blocks can be stepped
 pub record IsNewNet (v : NetView) : Type 0 where
-  pub ready : AllReady v.blocks
+  pub ready : AllReady (plan v.blocks)
   pub stands : NetStands v []
 
 -- a net that stood for some cycles stands for these and the one that it has

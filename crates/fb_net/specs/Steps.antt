@@ -1,6 +1,6 @@
 -- How a net goes on by one cycle, with what its blocks keep. A machine's own words: what they come to is said by
 -- looking back.
-use Rattle.std.specs.Prelude.{ℕ, ◌==◌, Bool, List, [], ◌∷◌, ◌++◌, map, drop, get_or, if◌then◌else◌}
+use Rattle.std.specs.Prelude.{ℕ, ◌==◌, Bool, List, [], ◌∷◌, ◌++◌, map, drop, replicate, get_or, if◌then◌else◌}
 use Rattle.fb_lib.specs.declared.held.Held.{Held}
 use Rattle.fb_lib.specs.declared.held.Held.TheVariants as held
 use Rattle.fb_lib.specs.declared.kind.BlockKind.{BlockKind}
@@ -43,29 +43,19 @@ flag on = if on then 1 else 0
 
 -- what a block keeps, as three numbers: a count, and two that are 1 for true and 0 for false; for two buttons the
 -- second is 1 while they are on, and 2 while they are ready
-abbrev pub count_held : Held → ℕ
-count_held (held.TwoHand (hands.Ready gap)) = gap
-count_held (held.OnDelay d) = d.age
-count_held (held.OffDelay d) = d.left
-count_held (held.Feedback f) = f.age
-count_held _ = 0
-
-abbrev pub on_held : Held → ℕ
-on_held (held.Latch l) = flag l.on
-on_held (held.Estop s) = flag s.on
-on_held (held.TwoHand hands.On) = 1
-on_held (held.TwoHand (hands.Ready gap)) = 2
-on_held (held.Feedback f) = flag f.on
-on_held _ = 0
-
-abbrev pub flag_held : Held → ℕ
-flag_held (held.Estop s) = flag s.ack
-flag_held (held.Feedback f) = flag f.bad
-flag_held _ = 0
+abbrev pub kept_numbers : Held → List ℕ
+kept_numbers (held.Latch l) = 0 ∷ flag l.on ∷ 0 ∷ []
+kept_numbers (held.Estop s) = 0 ∷ flag s.on ∷ flag s.ack ∷ []
+kept_numbers (held.TwoHand (hands.Ready gap)) = gap ∷ 2 ∷ 0 ∷ []
+kept_numbers (held.TwoHand hands.On) = 0 ∷ 1 ∷ 0 ∷ []
+kept_numbers (held.OnDelay d) = d.age ∷ 0 ∷ 0 ∷ []
+kept_numbers (held.OffDelay d) = d.left ∷ 0 ∷ 0 ∷ []
+kept_numbers (held.Feedback f) = f.age ∷ flag f.on ∷ flag f.bad ∷ []
+kept_numbers _ = replicate 3 0
 
 abbrev pub holds_of : List BlockSpec → List ℕ
 holds_of [] = []
-holds_of (b ∷ bs) = count_held b.block.held ∷ on_held b.block.held ∷ flag_held b.block.held ∷ holds_of bs
+holds_of (b ∷ bs) = kept_numbers b.block.held ++ holds_of bs
 
 -- two buttons, from a count and a number
 abbrev pub hands_from : ℕ → ℕ → TwoHand

@@ -1,10 +1,11 @@
 //! One cycle of a net.
-ghost use Rattle.std.specs.Prelude.{◌≡◌, ◌≤◌, false, [], map, length, take};
+ghost use Rattle.std.specs.Prelude.{◌≡◌, ◌≤◌, IsTrue, false, [], map, length, take};
 ghost use Rattle.failsafe_io.specs.Bits.{at_number};
 ghost use Rattle.fb_lib.specs.declared.kind.TheConstants.{MOST_INPUTS};
+ghost use Rattle.fb_lib.specs.Kind.{takes};
 ghost use Rattle.fb_net.specs.Values.{wire_value};
 ghost use Rattle.fb_net.specs.Outputs.{driven_images};
-ghost use Rattle.fb_net.specs.Ready.{IsReady, AllReady};
+ghost use Rattle.fb_net.specs.Standing.{CanRun};
 ghost use Rattle.fb_net.specs.Steps.{stepped, given, run_values, run_blocks};
 
 use crate::images::{bit_at, clear, set_bit};
@@ -32,11 +33,7 @@ pub(crate) fn number_value(values: &[bool], number: u16) -> bool
         return false;
     }
     let place = usize::from(number) - 1;
-    if place < values.len() {
-        values[place]
-    } else {
-        false
-    }
+    place < values.len() && values[place]
 }
 
 /// What the wires of a block read.
@@ -53,12 +50,11 @@ fn read_wires(wires: &[Wire], inputs: &[Image], values: &[bool]) -> ArrayVec<boo
 
 /// Steps a block, and gives its value.
 fn step_block(spec: &mut BlockSpec, ticked: bool, inputs: &[Image], values: &[bool]) -> bool
-    requires { IsReady spec.old }
+    requires { IsTrue (takes spec.old.block.kind (length spec.old.ins)) }
     ensures stepped { spec.new
         ≡ stepped values.now (record { ticked = ticked; inputs = inputs.now }) spec.old }
     ensures given { result
         ≡ given values.now (record { ticked = ticked; inputs = inputs.now }) spec.old }
-    ensures ready { IsReady spec.new }
 {
     let ins = read_wires(spec.ins.list(), inputs, values);
     spec.block.step(ticked, ins.as_slice())
@@ -71,13 +67,13 @@ pub(crate) fn run_blocks(
     inputs: &[Image],
     values: &mut [bool],
 )
-    requires ready { AllReady blocks.old }
+    requires can_run { CanRun blocks.old }
     requires fits { length blocks.old ≤ length values.old }
     ensures blocks { blocks.new
         ≡ run_blocks [] (record { ticked = ticked; inputs = inputs.now }) blocks.old }
+    ensures can_run { CanRun blocks.new }
     ensures values { take (length blocks.old) values.new
         ≡ run_values [] (record { ticked = ticked; inputs = inputs.now }) blocks.old }
-    ensures ready { AllReady blocks.new }
 {
     for i in 0..blocks.len() {
         values[i] = step_block(&mut blocks[i], ticked, inputs, &values[..i]);

@@ -15,7 +15,7 @@ ghost use Rattle.fb_net.specs.Calls.{Call, Called, cycles_of, all_outputs, held_
 ghost use Rattle.fb_net.specs.Acknowledged.{stop_blocks, stop_drives, is_on, may_run, is_acknowledged, is_let_go, StopRow, GuardRow};
 
 /// A new net that has any calls gives in each what looking back over its cycles says, and stands for them all.
-#[tactic(auto, using(crate::proofs::CallsOf::outputs_are, crate::proofs::CallsOf::stands))]
+#[tactic(auto, using(crate::proofs::Ruled::outputs_are, crate::proofs::Ruled::stands))]
 pub fn calls()
     ensures given { (first last : NetView) (e : List Call) (outputs : List (List (List ℕ)))
         → NetStands first [] → Called first e outputs last
@@ -40,7 +40,7 @@ pub fn guards()
 {}
 
 /// An output bit that is there is 1 exactly where a drive of it reads true.
-#[tactic(auto, using(crate::proofs::Driven::driven_bit))]
+#[tactic(auto, using(crate::proofs::Bits::driven_bit))]
 pub fn outputs()
     ensures { (ds : List Drive) (values : List Bool) (inputs : List (List ℕ)) (lens : List ℕ) (o : Bit)
         → has_bit lens o ≡ true

@@ -29,20 +29,10 @@ fn wire_fault(wire: Wire, ins: &[u8], before: u16, number: u16) -> Option<NetFau
     ensures { result ≡ wire_fault ins.now before number wire }
 {
     match wire {
-        Wire::Input(bit) => {
-            if has_bit(ins, bit) {
-                None
-            } else {
-                Some(NetFault::NoInput { bit })
-            }
-        }
-        Wire::Block(k) => {
-            if 1 <= k && k <= before {
-                None
-            } else {
-                Some(NetFault::Later { block: number })
-            }
-        }
+        Wire::Input(bit) if has_bit(ins, bit) => None,
+        Wire::Input(bit) => Some(NetFault::NoInput { bit }),
+        Wire::Block(k) if 1 <= k && k <= before => None,
+        Wire::Block(_) => Some(NetFault::Later { block: number }),
     }
 }
 

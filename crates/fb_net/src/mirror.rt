@@ -1,9 +1,9 @@
 //! An application whose outputs are its inputs.
-ghost use Rattle.std.specs.Prelude.{◌≡◌, [], map, length, get_or, slice_index};
+ghost use Rattle.std.specs.Prelude.{◌≡◌, [], map, length, get_or};
 ghost use Rattle.fb_net.specs.Mirror.{mirrored, mirror_images};
 
 use crate::guards::is_same_bit;
-use failsafe_io::{Application, Bit};
+use failsafe_io::{Application, Bit, zeros};
 use fsoe_base::Image;
 
 /// Gives each connection its input bytes as its outputs where both exist, and 0 elsewhere. It guards each output bit by
@@ -11,23 +11,14 @@ use fsoe_base::Image;
 #[derive(Drop)]
 pub struct Mirror;
 
-/// A byte, or 0 where there is none.
-#[tactic(auto, using(std::proofs::lemmas::List::get_or_past))]
-fn byte_or_zero(bytes: &[u8], place: usize) -> u8
-    ensures { result ≡ slice_index bytes.now place }
-{
-    if place < bytes.len() { bytes[place] } else { 0 }
-}
-
 /// Writes these bytes over an image as far as it goes, and zeros behind them.
 fn write_over(bytes: &[u8], image: &mut Image)
     ensures { image.new ≡ mirrored bytes.now (length image.old) }
 {
     let len = image.len();
-    image.clear();
-    for i in 0..len {
-        image.push(byte_or_zero(bytes, i));
-    }
+    let most = len.min(bytes.len());
+    image.set(&bytes[..most]);
+    image.push_all(zeros(len - most));
 }
 
 /// The bytes of the image at this place, from 0, or none.

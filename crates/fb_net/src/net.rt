@@ -1,8 +1,7 @@
 //! A net of function blocks.
 ghost use Rattle.std.specs.Prelude.{◌≡◌, map, length};
 ghost use Rattle.failsafe_io.specs.Application.{GuardsBy};
-ghost use Rattle.fb_net.specs.Meaning.{net_holds, rule_of, guards_of};
-ghost use Rattle.fb_net.specs.Ran.{net_answer, Ran};
+ghost use Rattle.fb_net.specs.Meaning.{net_holds, rule_of, guards_of, net_answer};
 ghost use Rattle.fb_net.specs.Standing.{NetFollows, NetGives, KeepsPlan};
 
 use crate::cycle::{drive_outputs, run_blocks};
@@ -25,22 +24,24 @@ pub struct Net {
 impl Model for Net {
     ghost use Rattle.std.specs.Prelude.{◌≤◌, length};
     ghost use Rattle.fb_net.specs.NetView.{NetView};
-    ghost use Rattle.fb_net.specs.Ready.{AllReady};
+    ghost use Rattle.fb_net.specs.Standing.{CanRun};
 
     ghost Value = { NetView };
 
     ghost view = { λ n. record { blocks = n.blocks.items; drives = n.drives.items } };
 
-    ghost invariant = { λ n. (length n.blocks.items ≤ 256) × AllReady n.blocks.items };
+    ghost invariant = { λ n. (length n.blocks.items ≤ 256) × CanRun n.blocks.items };
 }
 
 impl Net {
-    ghost use Rattle.std.specs.Prelude.{◌≤◌, [], IfOk, vec_len};
+    ghost use Rattle.std.specs.Prelude.{◌≡◌, ◌≤◌, [], IfOk, map, length, vec_len};
     ghost use Rattle.std.specs.List.{All};
     ghost use Rattle.std.specs.Result.{result_err};
     ghost use Rattle.fb_net.specs.Fault.{first_fault};
     ghost use Rattle.fb_net.specs.New.{IsNew};
-    ghost use Rattle.fb_net.specs.Standing.{IsNewNet};
+    ghost use Rattle.fb_net.specs.Standing.{CanRun, IsNewNet};
+    ghost use Rattle.fb_net.specs.Steps.{run_blocks, run_values};
+    ghost use Rattle.fb_net.specs.Outputs.{driven_images};
 
     /// Creates a net of at most 256 blocks, which have had no cycle yet, and of drives. `ins` and `outs` are the
     /// lengths in bytes of the input and output images of each connection. The first fault is returned: first of the
@@ -70,8 +71,14 @@ impl Net {
 
     // A cycle in the machine's words, from which the rest follows.
     fn run(&mut self, ticked: bool, inputs: &[Image], outputs: &mut [Image])
-        ensures { Ran self.old (record { ticked = ticked; inputs = inputs.now })
-            (map length outputs.old) self.new outputs.new }
+        ensures can_run { CanRun self.old.blocks }
+        ensures blocks { self.new.blocks
+            ≡ run_blocks [] (record { ticked = ticked; inputs = inputs.now }) self.old.blocks }
+        ensures drives { self.new.drives ≡ self.old.drives }
+        ensures outputs { outputs.new
+            ≡ driven_images self.old.drives
+            (run_values [] (record { ticked = ticked; inputs = inputs.now }) self.old.blocks)
+            inputs.now (map length outputs.old) }
     {
         run_blocks(self.blocks.as_mut_slice(), ticked, inputs, &mut self.values);
         let values = &self.values[..self.blocks.len()];

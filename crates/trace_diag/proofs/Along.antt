@@ -45,9 +45,9 @@ session-sent ms r events w at s no-reset =
 
 -- a slave's Session frame carries the piece of its session id that is that of its settings
 answer-id : (ms : MasterSettings) (r : Partner ms) (events : List Event) (w : List Entry) (s : Reaches ms r events w end_name.Slave) → LeaveNonces w → has_command command.Session s.entry.sent ≡ true → has_command command.Reset s.entry.sent ≡ false
-    → (frame_of ms.lengths.slave s.entry.sent).load ≡ padded (piece (session_payload r.nonce ms.profile) (width ms) (count_in state.Session (taken (since (deeds end_name.Slave (s.entry ∷ s.set)))))) ms.lengths.slave
+    → (frame_of ms.lengths.slave s.entry.sent).load ≡ padded (piece (session_payload r.slave.nonce ms.profile) (width ms) (count_in state.Session (taken (since (deeds end_name.Slave (s.entry ∷ s.set)))))) ms.lengths.slave
 answer-id ms r events w s nonces session no-reset =
-    subst (λ (e : List Deed). LeaveNonce e → (frame_of ms.lengths.slave s.entry.sent).load ≡ padded (piece (session_payload r.nonce ms.profile) (width ms) (count_in state.Session (taken (since e)))) ms.lengths.slave)
+    subst (λ (e : List Deed). LeaveNonce e → (frame_of ms.lengths.slave s.entry.sent).load ≡ padded (piece (session_payload r.slave.nonce ms.profile) (width ms) (count_in state.Session (taken (since e)))) ms.lengths.slave)
     (sym (deeds_of end_name.Slave s.entry s.set (entry_end ms r events w end_name.Slave s)))
     (λ left. carries_id ms r (deeds end_name.Slave s.set) s.entry (sends_answer (slave_of ms r) (deeds end_name.Slave s.set) s.entry s.delivery s.no_reset s.taken) left session no-reset) (s.keeps nonces end_name.Slave)
 
@@ -132,12 +132,12 @@ slave_brought ms r y t events w s plain turned-to nonces told = by-stage s.on.st
         is : s.entry.sent ≡ h.frame
         is = same_head s.entry.sent h.frame _ _ (sym (all-sent ms r events w end_name.Slave s) ∙ h.last.is)
 
-        id-is : h.command ≡ command.Session → (frame_of ms.lengths.slave h.frame).load ≡ padded (piece (session_payload r.nonce ms.profile) (width ms) h.a) ms.lengths.slave
+        id-is : h.command ≡ command.Session → (frame_of ms.lengths.slave h.frame).load ≡ padded (piece (session_payload r.slave.nonce ms.profile) (width ms) h.a) ms.lengths.slave
         id-is session =
             ap (λ (g : List ℕ). (frame_of ms.lengths.slave g).load) (sym is)
             ∙ (answer-id ms r events w s nonces (ap (has_command command.Session) (is ∙ h.way.head) ∙ ap (λ (c : Command). command_byte c == 0x4E) session)
             (ap (has_command command.Reset) is ∙ not_reset h.command h.frame h.way.tail h.way.head h.in_session)
-            ∙ ap (λ (n : ℕ). padded (piece (session_payload r.nonce ms.profile) (width ms) n) ms.lengths.slave) h.slave.ids)
+            ∙ ap (λ (n : ℕ). padded (piece (session_payload r.slave.nonce ms.profile) (width ms) n) ms.lengths.slave) h.slave.ids)
 
     replied : (h : IsReplied ms x') → Brought ms r (y ∷ t) end_name.Slave s.entry.sent (s.entry ∷ s.set)
     replied h = subst (λ (g : List ℕ). Brought ms r (y ∷ t) end_name.Slave g (s.entry ∷ s.set)) (sym is) (record {

@@ -117,7 +117,7 @@ some-connected frames h = grind arith
 
 -- the slave's answer that is on its way is the next one
 pub from_up : (ms : MasterSettings) (r : Partner ms) (y : Noted) (t : List Noted) (x x' : Both) (h : IsUp ms r x') → IsPlain ms → turn (y ∷ t) ≡ end_name.Slave → Tells ms (y ∷ t) end_name.Slave x → x'.master ≡ x.master
-    → (h.command ≡ command.Session → (frame_of ms.lengths.slave h.frame).load ≡ padded (piece (session_payload r.nonce ms.profile) (width ms) h.a) ms.lengths.slave) → NextFrame ms r (y ∷ t) h.frame end_name.Slave
+    → (h.command ≡ command.Session → (frame_of ms.lengths.slave h.frame).load ≡ padded (piece (session_payload r.slave.nonce ms.profile) (width ms) h.a) ms.lengths.slave) → NextFrame ms r (y ∷ t) h.frame end_name.Slave
 from_up ms r y t x x' h plain turned-to told same id-is = record {
   long = h.way.long;
   next = subst (λ (f : Frame). IsNext ms r (before ms.lengths (y ∷ t)) end_name.Slave f) (sym frame)
@@ -153,7 +153,7 @@ from_up ms r y t x x' h plain turned-to told same id-is = record {
           before = told.newest.before;
           place = ap₂ (λ (p : State) (e : End). piece_place ms.lengths (y ∷ t) p e) (due ∙ ap phase_of is) turned-to ∙ told.newest.place;
           is = ap (λ (f : Frame). f.load) (sym h.way.frame)
-              ∙ (id-is is ∙ ap (λ (n : ℕ). padded (piece (session_payload r.nonce ms.profile) (width ms) n) ms.lengths.slave) (sym (counted state.Session tt) ∙ told.newest.one_more (phase-is ∙ ap phase_of is)));
+              ∙ (id-is is ∙ ap (λ (n : ℕ). padded (piece (session_payload r.slave.nonce ms.profile) (width ms) n) ms.lengths.slave) (sym (counted state.Session tt) ∙ told.newest.one_more (phase-is ∙ ap phase_of is)));
           parameters = λ other. (let both : state.Session ≡ state.Parameter = sym (ap phase_of is) ∙ other in cc);
         }
 

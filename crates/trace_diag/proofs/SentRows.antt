@@ -36,7 +36,7 @@ Echoes which phase = ⊥
 -- that payload, by the settings
 abbrev pub payload_of : (ms : MasterSettings) → Partner ms → End → State → List ℕ
 payload_of ms r end_name.Master phase = pay ms ms.nonce phase
-payload_of ms r end_name.Slave phase = session_payload r.nonce ms.profile
+payload_of ms r end_name.Slave phase = session_payload r.slave.nonce ms.profile
 
 -- safe data with the next piece of it
 pub record HasPiece (ms : MasterSettings) (r : Partner ms) (which : End) (phase : State) (k : Before) (load : List ℕ) : Type 0 where
@@ -76,7 +76,7 @@ piece_at ms r which phase k load i h within =
 payload-row : (ms : MasterSettings) (r : Partner ms) (which : End) (phase : State) (conn : ℕ) (u : List ℕ) (i : ℕ) → CarriesOwn which phase → IsPlain ms → (phase ≡ state.Connection → conn ≡ ms.conn)
     → (phase ≡ state.Parameter → (j : ℕ) → j < 6 → j ≤ i → at u j ≡ at (payload_of ms r which phase) j) → payload_holds phase conn u i (at (payload_of ms r which phase) i) ≡ true
 payload-row ms r end_name.Master state.Session conn u i own plain is came = ap (λ (p : Profile). id_holds i (at (session_payload ms.nonce p) i)) plain.one ∙ id_row ms.nonce i
-payload-row ms r end_name.Slave state.Session conn u i own plain is came = ap (λ (p : Profile). id_holds i (at (session_payload r.nonce p) i)) plain.one ∙ id_row r.nonce i
+payload-row ms r end_name.Slave state.Session conn u i own plain is came = ap (λ (p : Profile). id_holds i (at (session_payload r.slave.nonce p) i)) plain.one ∙ id_row r.slave.nonce i
 payload-row ms r end_name.Master state.Connection conn u i own plain is came =
     ap (λ (n : ℕ). connection_holds n i (at (connection_payload ms.conn ms.address) i)) (is refl) ∙ connection_row ms.conn ms.address i
 payload-row ms r end_name.Master state.Parameter conn u i own plain is came =

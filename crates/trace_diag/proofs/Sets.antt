@@ -46,7 +46,7 @@ carries_set s e x _ load d a set is-data sent long = absurd (no is-data)
 
 -- a slave's Session frame carries the piece of its session id that is that of its settings
 pub carries_id : (ms : MasterSettings) (r : Partner ms) (e : List Deed) (x : Entry) → SendsAnswer (slave_of ms r) e x → LeaveNonce (deed_in x ∷ e) → has_command command.Session x.sent ≡ true → has_command command.Reset x.sent ≡ false
-    → (frame_of ms.lengths.slave x.sent).load ≡ padded (piece (session_payload r.nonce ms.profile) (width ms) (count_in state.Session (taken (since (deed_in x ∷ e))))) ms.lengths.slave
+    → (frame_of ms.lengths.slave x.sent).load ≡ padded (piece (session_payload r.slave.nonce ms.profile) (width ms) (count_in state.Session (taken (since (deed_in x ∷ e))))) ms.lengths.slave
 carries_id ms r e x a nonces session no_reset =
     let b : List Deed = begun_with x e in
     ap (λ (g : List ℕ). (frame_of ms.lengths.slave g).load) (a.is ∙ answer_session (partner ms r) b a.took_what.command a.took_what.load (sym (ap (has_command command.Session) a.is) ∙ session))

@@ -1,6 +1,6 @@
 -- The settings that are read off a trace to which no row of the table applies: there are such settings, and the bytes
 -- of its payloads are theirs.
-use Rattle.trace_diag.proofs.Common.{Accepts, AreBytes, AreOfBytes, AreReadOff, End, Lengths, MasterSettings, Noted, Partner, State, connection_from, connection_payload, eq-eqb, first_conn, frames_from, get_or_append_left, le-leb, length-append, parameter_holds, parameter_payload, parameters_from, partner, payload_from, phase_of_frame, read_address, read_app, read_app_len, read_conn, read_id, read_watchdog, same_end, same_phase, session_payload, word_or}
+use Rattle.trace_diag.proofs.Common.{Accepts, AreBytes, AreOfBytes, AreReadOff, End, Lengths, MasterSettings, Noted, Partner, SlaveSettings, State, connection_from, connection_payload, eq-eqb, first_conn, frames_from, get_or_append_left, le-leb, length-append, parameter_holds, parameter_payload, parameters_from, partner, payload_from, phase_of_frame, read_address, read_app, read_app_len, read_conn, read_id, read_watchdog, same_end, same_phase, session_payload, word_or}
 use Rattle.std.proofs.Common.{◌≡◌, ℕ, ◌<◌, ◌≤◌, ◌∙◌, nat_le, List, ◌∷◌, ◌++◌, length, Bool, true, if◌then◌else◌, Option, Some, None, unwrap_or, refl, sym, ap, subst, arith, rules}
 use Rattle.fsoe_base.specs.declared.command.End.TheVariants as end_name
 use Rattle.fsoe_base.specs.declared.command.State.TheVariants as state
@@ -36,7 +36,7 @@ pub record Read (ms : MasterSettings) (r : Partner ms) (t : List Noted) : Type 0
   pub session : BeginsAs (payload_from ms.lengths end_name.Master state.Session t) (session_payload ms.nonce ms.profile)
   pub connection : BeginsAs (payload_from ms.lengths end_name.Master state.Connection t) (connection_payload ms.conn ms.address)
   pub parameters : BeginsAs (payload_from ms.lengths end_name.Master state.Parameter t) (parameter_payload ms.watchdog ms.profile ms.app)
-  pub slave : BeginsAs (payload_from ms.lengths end_name.Slave state.Session t) (session_payload r.nonce ms.profile)
+  pub slave : BeginsAs (payload_from ms.lengths end_name.Slave state.Session t) (session_payload r.slave.nonce ms.profile)
   pub conn : (conn : ℕ) → first_conn ms.lengths.master (frames_from end_name.Master t) ≡ Some conn → conn ≡ ms.conn
 
 pub payload_read : (ms : MasterSettings) (r : Partner ms) (t : List Noted) → Read ms r t → (which : End) (phase : State) → CarriesOwn which phase → BeginsAs (payload_from ms.lengths which phase t) (payload_of ms r which phase)
@@ -56,7 +56,7 @@ read_before ms r x t read = record {
   session = read-back ms.lengths end_name.Master state.Session x t (session_payload ms.nonce ms.profile) read.session;
   connection = read-back ms.lengths end_name.Master state.Connection x t (connection_payload ms.conn ms.address) read.connection;
   parameters = read-back ms.lengths end_name.Master state.Parameter x t (parameter_payload ms.watchdog ms.profile ms.app) read.parameters;
-  slave = read-back ms.lengths end_name.Slave state.Session x t (session_payload r.nonce ms.profile) read.slave;
+  slave = read-back ms.lengths end_name.Slave state.Session x t (session_payload r.slave.nonce ms.profile) read.slave;
   conn = λ conn e. read.conn conn (conn_stays conn ms.lengths.master x (frames_from end_name.Master t) (same_end end_name.Master x.from) e);
 }
 
@@ -103,16 +103,20 @@ settled lengths t long are rows =
     let most : read_app_len lengths t ≤ 512 = app-most p p-bytes rows.parameters in
     let ms : MasterSettings = settings lengths t (conn-some (first_conn lengths.master (frames_from end_name.Master t)) (λ conn e. (rows.connection conn e).0)) (watchdog-some p rows.parameters)
     (le-leb (read_id lengths end_name.Master t) 65535 (word_most 0 0 (payload_from lengths end_name.Master state.Session t) m-bytes (omega arith))) in
-    let r : Partner ms = record {
+    let ss : SlaveSettings = record {
+      lengths = lengths;
+      address = read_address lengths t;
       hand = 65535;
       most = 65535;
       rule = rule.Any (read_app_len lengths t);
       nonce = read_id lengths end_name.Slave t;
+      profile = profile.One;
       some_hand = omega arith;
       some_most = omega arith;
       acceptable = le-leb (read_app_len lengths t) 512 most;
       allowed = le-leb (read_id lengths end_name.Slave t) 65535 (word_most 0 0 (payload_from lengths end_name.Slave state.Session t) s-bytes (omega arith));
     } in
+    let r : Partner ms = record { slave = ss; allowed = ss.allowed } in
     record {
       ms = ms;
       r = r;

@@ -44,14 +44,14 @@ none-of lengths x t c are =
     let p : (r : Partner ms) × (partner ms r ≡ ss) =
     as_partner ms ss (c.settings.master.lengths_are ∙ sym c.settings.slave.lengths_are) (c.settings.master.address_is ∙ sym c.settings.slave.address_is) (c.settings.master.profile_is ∙ sym c.settings.slave.profile_is) in
     let r : Partner ms = p.0 in
-    let rule-is : r.rule ≡ rule.Any n = ap (λ (ss : SlaveSettings). ss.rule) p.1 ∙ c.settings.slave.rule_is in
+    let rule-is : r.slave.rule ≡ rule.Any n = ap (λ (ss : SlaveSettings). ss.rule) p.1 ∙ c.settings.slave.rule_is in
     let app-long : length ms.app ≡ n = ap (length {A = ℕ}) c.settings.master.app_is ∙ app_long (parameters_from lengths all) in
     let accepts : Accepts ms r = record {
-      watchdog = subst (λ (n : ℕ). n ≤ r.most) (sym c.settings.master.watchdog_is) (subst (λ (n : ℕ). read_watchdog lengths all ≤ n) (sym (ap (λ (ss : SlaveSettings). ss.most) p.1 ∙ c.settings.slave.most_is)) (word_most 1 2 (parameters_from lengths all) p-bytes (omega arith)));
+      watchdog = subst (λ (n : ℕ). n ≤ r.slave.most) (sym c.settings.master.watchdog_is) (subst (λ (n : ℕ). read_watchdog lengths all ≤ n) (sym (ap (λ (ss : SlaveSettings). ss.most) p.1 ∙ c.settings.slave.most_is)) (word_most 1 2 (parameters_from lengths all) p-bytes (omega arith)));
       as_many = app-long ∙ sym (ap rule_len rule-is);
       allowed = ap (λ (q : AppRule). allows q ms.app) rule-is ∙ eq-eqb (length ms.app) n app-long;
     } in
-    let plain : IsPlain ms = assumption (c.settings.master.profile_is, subst (λ (n : ℕ). n ≤ 512) (sym app-long) (leb-true n 512 (sym (ap is_acceptable rule-is) ∙ r.acceptable))) in
+    let plain : IsPlain ms = assumption (c.settings.master.profile_is, subst (λ (n : ℕ). n ≤ 512) (sym app-long) (leb-true n 512 (sym (ap is_acceptable rule-is) ∙ r.slave.acceptable))) in
     let l : ms.lengths ≡ lengths = c.settings.master.lengths_are in
     let g : Good ms r all =
     good ms r x t [] [] accepts plain (subst (λ (lengths : Lengths). AllLong lengths all) (sym l) c.lengths_hold)

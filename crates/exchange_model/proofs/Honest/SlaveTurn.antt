@@ -71,9 +71,9 @@ begun-with ms p k before load h is = (
 
 -- the settings of both match
 pub record Accepts (ms : MasterSettings) (r : Partner ms) : Type 0 where
-  pub watchdog : ms.watchdog ≤ r.most
-  pub as_many : length ms.app ≡ rule_len r.rule
-  pub allowed : allows r.rule ms.app ≡ true
+  pub watchdog : ms.watchdog ≤ r.slave.most
+  pub as_many : length ms.app ≡ rule_len r.slave.rule
+  pub allowed : allows r.slave.rule ms.app ≡ true
 
 -- a frame with these parts
 abbrev pub parts_with : ℕ → Command → List ℕ → List ℕ → Frame
@@ -84,14 +84,14 @@ passes-contents : (ms : MasterSettings) (r : Partner ms) (id : ℕ) (e : List De
 passes-contents ms r id e command.Reset p a b d conn load crcs m h k = absurd k
 passes-contents ms r id e command.Session p a b d conn load crcs m h k =
     let begun = begun-with ms (session_payload id ms.profile) a (joined state.Session (width ms) (since e)) load h.session k.1 in
-    session_passes id ms.profile r.rule (length (joined state.Session (width ms) (since e))) _ (drop (width ms) load) begun.0 begun.1
+    session_passes id ms.profile r.slave.rule (length (joined state.Session (width ms) (since e))) _ (drop (width ms) load) begun.0 begun.1
 passes-contents ms r id e command.Connection p a b d conn load crcs m h k =
     let begun = begun-with ms (connection_payload ms.conn ms.address) b (joined state.Connection (width ms) (since e)) load h.connection k.1 in
-    ap (λ n. contents_fault (expected.Connection n ms.address) r.rule (length (joined state.Connection (width ms) (since e))) (joined state.Connection (width ms) (since e) ++ take (width ms) load) (drop (width ms) load)) k.0
-    ∙ connection_passes ms.conn ms.address r.rule (length (joined state.Connection (width ms) (since e))) _ (drop (width ms) load) begun.0 begun.1
+    ap (λ n. contents_fault (expected.Connection n ms.address) r.slave.rule (length (joined state.Connection (width ms) (since e))) (joined state.Connection (width ms) (since e) ++ take (width ms) load) (drop (width ms) load)) k.0
+    ∙ connection_passes ms.conn ms.address r.slave.rule (length (joined state.Connection (width ms) (since e))) _ (drop (width ms) load) begun.0 begun.1
 passes-contents ms r id e command.Parameter p a b d conn load crcs m h k =
     let begun = begun-with ms (parameter_payload ms.watchdog ms.profile ms.app) d (joined state.Parameter (width ms) (since e)) load h.parameters k.1 in
-    parameters_pass ms.watchdog r.most r.rule ms.profile ms.app (length (joined state.Parameter (width ms) (since e))) _ (drop (width ms) load) ms.some_watchdog m.watchdog m.as_many m.allowed begun.0 begun.1
+    parameters_pass ms.watchdog r.slave.most r.slave.rule ms.profile ms.app (length (joined state.Parameter (width ms) (since e))) _ (drop (width ms) load) ms.some_watchdog m.watchdog m.as_many m.allowed begun.0 begun.1
 passes-contents ms r id e command.FailSafeData p a b d conn load crcs m h k = ap (λ b. if b then None else Some (code 0x07)) k.1
 passes-contents ms r id e command.ProcessData p a b d conn load crcs m h k = refl
 

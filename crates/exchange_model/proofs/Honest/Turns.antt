@@ -1,51 +1,24 @@
 -- Where a handshake stands: the pieces of each payload that were sent and taken so far, and whose turn it is.
-use Rattle.exchange_model.proofs.Common.{AppRule, Command, Deed, MasterSettings, OfMaster, OfSlave, Profile, Setup, SlaveSettings, State, allows_id, connection_payload, count_in, exchanges, first_conn, id_len, id_sent, is_acceptable, joined, own, parameter_payload, pay, phase_of, phase_sent, phase_taken, piece_len, pieces, pieces_for, same_phase, session_payload, since, taken}
+use Rattle.exchange_model.proofs.Common.{Command, Deed, MasterSettings, OfMaster, OfSlave, Profile, Setup, SlaveSettings, State, allows_id, connection_payload, count_in, exchanges, first_conn, id_len, id_sent, joined, own, parameter_payload, pay, phase_of, phase_sent, phase_taken, piece_len, pieces, pieces_for, same_phase, session_payload, since, taken}
 use Rattle.std.proofs.Common.{◌≡◌, ℕ, zero, suc, ◌+◌, ◌<◌, ◌≤◌, List, length, false, nat_lt, Option, Some, None, IsTrue, if◌then◌else◌, arith, nat_le, refl, sym, subst}
 use Rattle.fsoe_base.specs.declared.command.State.TheVariants as state
 use Rattle.fsoe_base.specs.declared.command.Command.TheVariants as command
 use Rattle.schedule_file.proofs.OneSetting.{same_slave}
 use Rattle.exchange_model.proofs.Alone.Pieces.{front}
 
--- what a slave whose settings match a master's has of its own
+-- a slave whose settings match a master's has an id of its own that the master's profile allows
 pub record Partner (ms : MasterSettings) : Type 0 where
-  pub hand : ℕ
-  pub most : ℕ
-  pub rule : AppRule
-  pub nonce : ℕ
-  pub some_hand : 0 < hand
-  pub some_most : 0 < most
-  pub acceptable : IsTrue (is_acceptable rule)
-  pub allowed : IsTrue (allows_id ms.profile nonce)
+  pub slave : SlaveSettings
+  pub allowed : IsTrue (allows_id ms.profile slave.nonce)
 
 -- the settings of that slave: its lengths, its address and its profile are the master's
 abbrev pub partner : (ms : MasterSettings) → Partner ms → SlaveSettings
-partner ms r = record {
-  lengths = ms.lengths;
-  address = ms.address;
-  hand = r.hand;
-  most = r.most;
-  rule = r.rule;
-  nonce = r.nonce;
-  profile = ms.profile;
-  some_hand = r.some_hand;
-  some_most = r.some_most;
-  acceptable = r.acceptable;
-  allowed = r.allowed;
-}
+partner ms r = record r.slave { lengths = ms.lengths; address = ms.address; profile = ms.profile; allowed = r.allowed }
 
 -- settings with these lengths, this address and this profile are those of a partner
 pub as_partner : (ms : MasterSettings) (ss : SlaveSettings) → ms.lengths ≡ ss.lengths → ms.address ≡ ss.address → ms.profile ≡ ss.profile → (r : Partner ms) × (partner ms r ≡ ss)
 as_partner ms ss lengths address profile =
-    let r : Partner ms = record {
-      hand = ss.hand;
-      most = ss.most;
-      rule = ss.rule;
-      nonce = ss.nonce;
-      some_hand = ss.some_hand;
-      some_most = ss.some_most;
-      acceptable = ss.acceptable;
-      allowed = subst (λ (profile : Profile). IsTrue (allows_id profile ss.nonce)) (sym profile) ss.allowed;
-    } in
+    let r : Partner ms = record { slave = ss; allowed = subst (λ (profile : Profile). IsTrue (allows_id profile ss.nonce)) (sym profile) ss.allowed } in
     (r, same_slave (partner ms r) ss lengths address refl refl refl refl profile)
 
 abbrev pub master_of : MasterSettings → Setup

@@ -1,10 +1,14 @@
 use Rattle.fb_net.proofs.Common.{NetCycle, stepped}
 use Rattle.std.proofs.Common.{◌≡◌, ◌<◌, length, take, arith, rules}
-use Rattle.fb_net.proofs.Running.{ready_at, ready_set, rest_after, value_is, values_more, blocks_more}
+use Rattle.fb_net.proofs.Running.{blocks_all, ready_at, rest_after, same_at, value_is, values_more, blocks_more}
+use Rattle.fb_net.proofs.Looking.{can_run}
 use Rattle.fb_net.proofs.cycle.run_blocks.Goals as goal
 
 pub step_block-requires : goal.step_block-requires
-step_block-requires c = search (rules, ready_at)
+step_block-requires c =
+    let b = c.index-blocks-i.result in
+    rw (same_at c.loop-i.blocks c.args.blocks.now c.loop-i.i b (omega arith) c.loop-i.invariant.rest)
+    ((ready_at c.args.blocks.now c.loop-i.i b c.requires.can_run.ready (omega arith)).takes)
 
 pub loop-i-preserved : goal.loop-i-preserved
 loop-i-preserved c =
@@ -14,4 +18,10 @@ loop-i-preserved c =
     let before = take c.loop-i.i c.loop-i.values in
     let value = value_is c.loop-i.values c.loop-i.i cycle b _ c.step_block.result (omega arith) c.index-blocks-i.is c.step_block.ensures.given in
     let new : c.step_block.new.spec ≡ stepped before cycle b = cc in
-    search (rules, ready_set, rest_after, values_more, blocks_more)
+    search (rules, rest_after, values_more, blocks_more)
+
+pub returns-clause-can_run : goal.returns-clause-can_run
+returns-clause-can_run c =
+    let cycle : NetCycle = record { ticked = c.args.ticked; inputs = c.args.inputs.now } in
+    can_run c.args.blocks.now c.loop-i.blocks cycle c.requires.can_run
+    (blocks_all c.loop-i.blocks c.args.blocks.now c.loop-i.i (take c.loop-i.i c.loop-i.values) cycle c.loop-i.auto.blocks c.loop-i-test.false c.loop-i.invariant.blocks)

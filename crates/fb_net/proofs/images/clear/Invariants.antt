@@ -3,4 +3,4 @@ use Rattle.std.proofs.Common.{◌≡◌, ◌++◌, map, length, take, drop}
 use Rattle.fb_net.proofs.images.clear.Given as goal
 
 abbrev pub invariant-loop-i : goal.invariant-loop-i
-invariant-loop-i l = l.images ≡ zero_images (map length (take l.i l.initial.images)) ++ drop l.i l.initial.images
+invariant-loop-i l = take l.i l.images ++ zero_images (map length (drop l.i l.images)) ≡ zero_images (map length l.initial.images)
