@@ -1,6 +1,7 @@
 -- What the value of a key may be: first its kind, and then its range or its form.
-use Rattle.std.specs.Prelude.{ℕ, ℤ, pos, negsuc, Bool, ◌==◌, nat_le, ◌&&◌, codes, length, List, [], ◌∷◌, Option, Some, None, Result, Ok, Err, option_map, option_and_then, if◌then◌else◌}
-use Rattle.std.specs.List.{slice_split}
+use Rattle.std.specs.Prelude.{ℕ, ℤ, pos, negsuc, Bool, ◌==◌, nat_le, ◌&&◌, codes, length, List, [], ◌∷◌, Option, Some, None, Result, Ok, Err, is_some, option_map, option_and_then, if◌then◌else◌}
+use Rattle.std.specs.List.{filter_map, list_all, slice_split}
+use Rattle.std.specs.Option.{option_or}
 use Rattle.std.specs.Str.{bytes_eq}
 use Rattle.hex.specs.Hex.{decode_of}
 use Rattle.hex.specs.declared.error.FromHexError.{FromHexError}
@@ -18,7 +19,6 @@ use Rattle.plant_conf.specs.declared.key.Key.{Key}
 use Rattle.plant_conf.specs.declared.fault.ConfFault.{ConfFault}
 use Rattle.plant_conf.specs.declared.fault.ConfFault.TheVariants as fault
 use Rattle.schedule_file.specs.Fields.{◌>>=◌, value_or}
-use Rattle.plant_conf.specs.Steps.{all_give}
 
 -- what a value says at a key, or why not
 abbrev pub Form : Type 0 → Type 0
@@ -36,7 +36,7 @@ whole_said allowed (pos n) = if allowed n then Some n else None
 whole_said allowed (negsuc n) = None
 
 -- a whole number from `low` to `high`
-abbrev pub number : ℕ → ℕ → Form ℕ
+unfoldable pub number : ℕ → ℕ → Form ℕ
 number low high = formed as_integer (whole_said (λ n. nat_le low n && nat_le n high))
 
 -- a number of safe data bytes that an end may have
@@ -53,7 +53,7 @@ at_most most (Ok bytes) = if nat_le (length bytes) most then Some bytes else Non
 at_most most (Err e) = None
 
 -- a text that is at most `most` bytes in hexadecimal, or none
-abbrev pub hex_bytes : ℕ → Form (List ℕ)
+unfoldable pub hex_bytes : ℕ → Form (List ℕ)
 hex_bytes most = formed as_str (λ t. at_most most (decode_of t))
 
 -- what a rule says of application parameters: any of as many bytes as these, or exactly these
@@ -120,36 +120,33 @@ bit_said letter t = option_and_then (λ rest. place_said (parts_of rest)) (after
 abbrev pub block_said : List ℕ → Option ℕ
 block_said t = option_and_then (number_said 65535) (after_letter letter_b t)
 
--- the first of two that is there
-abbrev pub first_of : {A : Type 0} → Option A → Option A → Option A
-first_of (Some x) other = Some x
-first_of None other = other
-
 -- `i<k>.<bit>`, or `b<number>`
 abbrev pub wire_said : List ℕ → Option Wire
-wire_said t = first_of (option_map wire.Input (bit_said letter_i t)) (option_map wire.Block (block_said t))
+wire_said t = option_or (option_map wire.Input (bit_said letter_i t)) (option_map wire.Block (block_said t))
 
--- a bit after a letter: of an input, and of an output
+-- a bit after its letter
 abbrev pub bit_after : ℕ → Form Bit
 bit_after letter = formed as_str (bit_said letter)
-
-abbrev pub input_bit : Form Bit
-input_bit = bit_after letter_i
-
-abbrev pub output_bit : Form Bit
-output_bit = bit_after letter_o
 
 abbrev pub one_wire : Form Wire
 one_wire = formed as_str wire_said
 
--- the values of an array
+-- items as a list
 abbrev pub values_of : Items → List Data
 values_of no_items = []
 values_of (item d ds) = d ∷ values_of ds
 
+-- what each of a list gives, where all of them give something
+abbrev pub all_give : {A B : Type 0} → (A → Option B) → List A → Option (List B)
+all_give f xs = if list_all (λ x. is_some (f x)) xs then Some (filter_map f xs) else None
+
+-- the values of an array
+unfoldable pub values_in : Data → Option (List Data)
+values_in d = option_map values_of (as_array d)
+
 -- an array whose values are all of one kind
 abbrev pub as_array_of : {A : Type 0} → (Data → Option A) → Data → Option (List A)
-as_array_of kind d = option_and_then (λ ds. all_give kind (values_of ds)) (as_array d)
+as_array_of kind d = option_and_then (all_give kind) (values_in d)
 
 -- an array of texts, each of which is a wire
 abbrev pub wires : Form (List Wire)

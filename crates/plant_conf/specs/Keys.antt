@@ -1,6 +1,6 @@
 -- The keys of each table, one line for each, in the order in which they are read: whether it has to be there or what it
 -- stands for where it isn't, and what its value may be.
-use Rattle.std.specs.Prelude.{ℕ, ◌-◌, ◌^◌, length, List, [], Option, Some, None, Result, Ok}
+use Rattle.std.specs.Prelude.{ℕ, ◌-◌, ◌^◌, length, List, [], Option, Result, Ok, option_map, unwrap_or}
 use Rattle.toml.specs.Data.{Data, Members, get_member}
 use Rattle.fb_lib.specs.Kept.{block_of}
 use Rattle.fb_net.specs.declared.spec.BlockSpec.{BlockSpec}
@@ -15,48 +15,50 @@ use Rattle.plant_conf.specs.declared.key.KeyName.{KeyName}
 use Rattle.plant_conf.specs.declared.key.KeyName.TheVariants as name
 use Rattle.plant_conf.specs.declared.key.KeyTable.{KeyTable}
 use Rattle.plant_conf.specs.declared.key.KeyTable.TheVariants as table
+use Rattle.plant_conf.specs.declared.tables.LinkKeys.{LinkKeys}
+use Rattle.plant_conf.specs.declared.tables.SlaveKeys.{SlaveKeys}
 use Rattle.plant_conf.specs.Names.{key_word}
-use Rattle.plant_conf.specs.Values.{LinkKeys, SlaveKeys, LinkValues}
+use Rattle.plant_conf.specs.Values.{LinkValues}
 use Rattle.schedule_file.specs.Fields.{◌>>=◌, value_or}
-use Rattle.plant_conf.specs.Forms.{Form, number, data_length, text, hex_bytes, app_rule, block_kind, wires, input_bit, output_bit, one_wire}
+use Rattle.plant_conf.specs.Forms.{Form, number, data_length, text, hex_bytes, app_rule, block_kind, wires, letter_i, letter_o, bit_after, one_wire, one_table}
 
 -- the value at a key
 abbrev pub value_at : Key → Members → Option Data
 value_at key t = get_member (key_word key.table key.name) t
 
 -- a key that has to be there, else `Missing`
-abbrev pub required : {A : Type 0} → Form A → Key → Members → Result A ConfFault
+unfoldable pub required : {A : Type 0} → Form A → Key → Members → Result A ConfFault
 required form key t = do
   d ← value_or (fault.Missing key) (value_at key t)
   form key d
 
--- the value at a key, or else this one
-abbrev pub said_or : {A : Type 0} → A → (Data → Result A ConfFault) → Option Data → Result A ConfFault
-said_or default said (Some d) = said d
-said_or default said None = Ok default
-
 -- a key that may be missing, and then stands for this value
-abbrev pub optional : {A : Type 0} → A → Form A → Key → Members → Result A ConfFault
-optional default form key t = said_or default (form key) (value_at key t)
+unfoldable pub optional : {A : Type 0} → A → Form A → Key → Members → Result A ConfFault
+optional default form key t = unwrap_or (option_map (form key) (value_at key t)) (Ok default)
 
 abbrev pub key_of : KeyTable → ℕ → KeyName → Key
 key_of of k key = record { table = of; index = k; name = key }
 
--- what the table `plant` says
+-- a table as a whole
+abbrev pub whole : KeyTable → Key
+whole of = key_of of 0 name.Whole
+
+-- what the table `plant` says, which has to be there
 pub record PlantKeys : Type 0 where
   pub app : List ℕ
   pub channel : List ℕ
   pub seed : ℕ
 
-abbrev pub plant : Members → Result PlantKeys ConfFault
-plant t = do
+unfoldable pub plant_keys : Members → Result PlantKeys ConfFault
+plant_keys document = do
+  t ← required one_table (whole table.Plant) document
   app ← required text (key_of table.Plant 0 name.App) t
   channel ← required text (key_of table.Plant 0 name.Channel) t
   seed ← optional 0 (number 0 (2 ^ 63 - 1)) (key_of table.Plant 0 name.Seed) t
   Ok (record { app = app; channel = channel; seed = seed })
 
 -- what connection k has to say, and its application parameters
-abbrev pub link_keys : ℕ → Members → Result LinkKeys ConfFault
+unfoldable pub link_keys : ℕ → Members → Result LinkKeys ConfFault
 link_keys k t = do
   id ← required (number 1 65535) (key_of table.Connection k name.Id) t
   address ← required (number 0 65535) (key_of table.Connection k name.Address) t
@@ -74,7 +76,7 @@ link_keys k t = do
   })
 
 -- what connection k may say of its slave
-abbrev pub slave_keys : ℕ → LinkKeys → Members → Result SlaveKeys ConfFault
+unfoldable pub slave_keys : ℕ → LinkKeys → Members → Result SlaveKeys ConfFault
 slave_keys k link t = do
   rule ← optional (rule.Any (length link.app)) (app_rule link.app) (key_of table.Connection k name.Rule) t
   address ← optional link.address (number 0 65535) (key_of table.Connection k name.SlaveAddress) t
@@ -83,7 +85,7 @@ slave_keys k link t = do
   Ok (record { rule = rule; address = address; hand = hand; most = most })
 
 -- connection k, in profile One
-abbrev pub connection : ℕ → Members → Result LinkValues ConfFault
+unfoldable pub connection : ℕ → Members → Result LinkValues ConfFault
 connection k t = do
   link ← link_keys k t
   slave ← slave_keys k link t
@@ -98,7 +100,7 @@ connection k t = do
   })
 
 -- block k, before its first cycle
-abbrev pub block : ℕ → Members → Result BlockSpec ConfFault
+unfoldable pub block : ℕ → Members → Result BlockSpec ConfFault
 block k t = do
   kind ← required block_kind (key_of table.Block k name.Kind) t
   ins ← required wires (key_of table.Block k name.Ins) t
@@ -106,15 +108,15 @@ block k t = do
   Ok (record { block = block_of kind n []; ins = ins })
 
 -- drive k
-abbrev pub drive : ℕ → Members → Result Drive ConfFault
+unfoldable pub drive : ℕ → Members → Result Drive ConfFault
 drive k t = do
-  out ← required output_bit (key_of table.Drive k name.Out) t
+  out ← required (bit_after letter_o) (key_of table.Drive k name.Out) t
   from ← required one_wire (key_of table.Drive k name.From) t
   Ok (record { out = out; from = from })
 
 -- bound k
-abbrev pub bound : ℕ → Members → Result BoundSpec ConfFault
+unfoldable pub bound : ℕ → Members → Result BoundSpec ConfFault
 bound k t = do
-  estop ← required input_bit (key_of table.Bound k name.Estop) t
-  drive ← required output_bit (key_of table.Bound k name.Drive) t
+  estop ← required (bit_after letter_i) (key_of table.Bound k name.Estop) t
+  drive ← required (bit_after letter_o) (key_of table.Bound k name.Drive) t
   Ok (record { estop = estop; drive = drive })

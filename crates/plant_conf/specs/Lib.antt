@@ -1,5 +1,4 @@
 pub mod Names
-pub mod Steps
 pub mod Forms
 pub mod Values
 pub mod Keys

@@ -1,32 +1,38 @@
 -- What a configuration means, or its first fault: that there are too many tables, then those of the keys, table by
 -- table, and then that two connections have one id.
-use Rattle.std.specs.Prelude.{◌≡◌, ℕ, nat_lt, Bool, ◌||◌, length, List, [], ◌∷◌, map, Option, Some, None, Result, Ok, Err, unwrap_or, option_and_then, if◌then◌else◌, IsUtf8}
-use Rattle.toml.specs.Data.{Members, as_table}
+use Rattle.std.specs.Prelude.{◌≡◌, ℕ, suc, nat_lt, Bool, ◌||◌, ◌==◌, length, List, [], ◌∷◌, map, Option, Some, None, Result, Ok, Err, if◌then◌else◌, IsUtf8}
+use Rattle.std.specs.Result.{result_unwrap_or}
+use Rattle.toml.specs.Data.{Members}
 use Rattle.toml.specs.Parse.{parse_document}
 use Rattle.plant_conf.specs.declared.fault.ConfFault.{ConfFault}
 use Rattle.plant_conf.specs.declared.fault.ConfFault.TheVariants as fault
-use Rattle.plant_conf.specs.declared.key.Key.{Key}
-use Rattle.plant_conf.specs.declared.key.KeyName.TheVariants as name
 use Rattle.plant_conf.specs.declared.key.KeyTable.{KeyTable}
 use Rattle.plant_conf.specs.declared.key.KeyTable.TheVariants as table
 use Rattle.plant_conf.specs.ConfView.{ConfValues}
 use Rattle.param_load.specs.SameConn.{same_conn}
 use Rattle.plant_conf.specs.Values.{LinkValues}
 use Rattle.schedule_file.specs.Fields.{◌>>=◌, value_or}
-use Rattle.plant_conf.specs.Steps.{each}
-use Rattle.plant_conf.specs.Forms.{as_array_of, one_table, tables}
-use Rattle.plant_conf.specs.Keys.{PlantKeys, key_of, value_at, required, optional, plant, connection, block, drive, bound}
+use Rattle.plant_conf.specs.Forms.{tables}
+use Rattle.plant_conf.specs.Keys.{whole, optional, plant_keys, connection, block, drive, bound}
 
--- a table as a whole
-abbrev pub whole : KeyTable → Key
-whole of = key_of of 0 name.Whole
+-- what is read of each, numbered from k on
+abbrev pub each : {A B : Type 0} → (ℕ → A → Result B ConfFault) → ℕ → List A → Result (List B) ConfFault
+each read k [] = Ok []
+each read k (x ∷ xs) = do
+  y ← read k x
+  ys ← each read (suc k) xs
+  Ok (y ∷ ys)
+
+-- the tables of a name; there may be none
+unfoldable pub tables_of : KeyTable → Members → Result (List Members) ConfFault
+tables_of of document = optional [] tables (whole of) document
 
 -- how many tables of a name there are; what is no array of tables counts as none
-abbrev pub count_of : KeyTable → Members → ℕ
-count_of of document = length (unwrap_or (option_and_then (as_array_of as_table) (value_at (whole of) document)) [])
+unfoldable pub count_of : KeyTable → Members → ℕ
+count_of of document = length (result_unwrap_or (tables_of of document) [])
 
 -- more tables than a plant may have
-abbrev pub has_too_many : Members → Bool
+unfoldable pub has_too_many : Members → Bool
 has_too_many document =
     nat_lt 64 (count_of table.Connection document) || nat_lt 256 (count_of table.Block document)
     || nat_lt 1024 (count_of table.Drive document)
@@ -36,44 +42,35 @@ abbrev pub few_tables : Members → Result (Unit {0}) ConfFault
 few_tables document = if has_too_many document then Err fault.TooMany else Ok tt
 
 -- at least one connection: an empty array counts as missing
-abbrev pub some_tables : List Members → Result (List Members) ConfFault
-some_tables [] = Err (fault.Missing (whole table.Connection))
-some_tables (t ∷ ts) = Ok (t ∷ ts)
+unfoldable pub some_links : List LinkValues → Result (Unit {0}) ConfFault
+some_links links = if length links == 0 then Err (fault.Missing (whole table.Connection)) else Ok tt
+
+-- what two connections with one id are
+abbrev pub same_ids : Option (ℕ × ℕ) → Result (Unit {0}) ConfFault
+same_ids None = Ok tt
+same_ids (Some p) = Err (fault.SameConn p.0 p.1)
 
 -- no two connections have one id
-abbrev pub apart : Option (ℕ × ℕ) → Result (Unit {0}) ConfFault
-apart None = Ok tt
-apart (Some p) = Err (fault.SameConn p.0 p.1)
+unfoldable pub apart : List LinkValues → Result (Unit {0}) ConfFault
+apart links = same_ids (same_conn 1 (map (λ link. link.keys.id) links))
 
--- what the table `plant` says, which has to be there
-abbrev pub plant_keys : Members → Result PlantKeys ConfFault
-plant_keys document = do
-  t ← required one_table (whole table.Plant) document
-  plant t
-
--- the connections, in order
-abbrev pub connections : Members → Result (List LinkValues) ConfFault
-connections document = do
-  given ← required tables (whole table.Connection) document
-  ts ← some_tables given
-  each connection 1 ts
-
--- what the tables of a name say, in order; there may be none
-abbrev pub all_of : {A : Type 0} → KeyTable → (ℕ → Members → Result A ConfFault) → Members → Result (List A) ConfFault
+-- what the tables of a name say, in order
+unfoldable pub all_of : {A : Type 0} → KeyTable → (ℕ → Members → Result A ConfFault) → Members → Result (List A) ConfFault
 all_of of says document = do
-  ts ← optional [] tables (whole of) document
+  ts ← tables_of of document
   each says 1 ts
 
 -- what a document means
-abbrev pub document_meaning : Members → Result ConfValues ConfFault
+unfoldable pub document_meaning : Members → Result ConfValues ConfFault
 document_meaning document = do
   few ← few_tables document
   keys ← plant_keys document
-  links ← connections document
+  links ← all_of table.Connection connection document
+  some ← some_links links
   blocks ← all_of table.Block block document
   drives ← all_of table.Drive drive document
   bounds ← all_of table.Bound bound document
-  different ← apart (same_conn 1 (map (λ link. link.keys.id) links))
+  different ← apart links
   Ok (record {
     links = links;
     blocks = blocks;

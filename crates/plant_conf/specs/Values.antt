@@ -1,27 +1,13 @@
 -- What a connection says, as plain values: settings hold proofs that their numbers are allowed, which no text gives.
-use Rattle.std.specs.Prelude.{ℕ, List}
-use Rattle.param_load.specs.declared.app_rule.AppRule.{AppRule}
+use Rattle.std.specs.Prelude.{ℕ}
 use Rattle.param_load.specs.declared.profile.Profile.{Profile}
 use Rattle.plant_conf.specs.declared.conf.LinkConf.{LinkConf}
+use Rattle.plant_conf.specs.declared.tables.LinkKeys.{LinkKeys}
+use Rattle.plant_conf.specs.declared.tables.SlaveKeys.{SlaveKeys}
 
--- what it has to say, and its application parameters
-pub record LinkKeys : Type 0 where
-  pub id : ℕ
-  pub address : ℕ
-  pub watchdog : ℕ
-  pub master_length : ℕ
-  pub slave_length : ℕ
-  pub app : List ℕ
-
--- what it may say of its slave
-pub record SlaveKeys : Type 0 where
-  pub rule : AppRule
-  pub address : ℕ
-  pub hand : ℕ
-  pub most : ℕ
-
--- both, and what else the settings of its ends say. The first nonce and the first profile are the master's, the second
--- are the slave's. The slave has lengths of its own: that of the master's data, and that of the slave's
+-- what it has to say, what it may say of its slave, and what else the settings of its ends say. The first nonce and the
+-- first profile are the master's, the second are the slave's. The slave has lengths of its own: that of the master's
+-- data, and that of the slave's
 pub record LinkValues : Type 0 where
   pub keys : LinkKeys
   pub slave : SlaveKeys

@@ -55,15 +55,7 @@ impl Model for PlantConf {
       seed = c.seed;
     } };
 
-    ghost invariant = { λ c. IsConf (record {
-      links = c.links.items;
-      blocks = c.blocks.items;
-      drives = c.drives.items;
-      bounds = c.bounds.items;
-      app = string_bytes c.app;
-      channel = string_bytes c.channel;
-      seed = c.seed;
-    }) };
+    ghost invariant = { λ c. IsConf c.links.items c.blocks.items c.drives.items c.bounds.items };
 }
 
 impl PlantConf {

@@ -1,11 +1,15 @@
 //! The keys of a table: each is there or not, is of a kind, and in its range or its form.
+#![tactic(auto, unfolding(crate::specs::Keys::required, crate::specs::Keys::optional, crate::specs::Forms::number, crate::specs::Forms::hex_bytes))]
+
 ghost use Rattle.std.specs.Prelude.{◌≡◌, ◌≢◌, ◌≤◌, ◌-◌, ◌^◌, IsTrue, IfSome, IfOk, IfErr, option_map, string_bytes, length, []};
 ghost use Rattle.fsoe_base.specs.Lengths.{is_length};
 ghost use Rattle.param_load.specs.AppRule.{is_acceptable};
 ghost use Rattle.param_load.specs.declared.app_rule.AppRule.TheVariants as rule;
+ghost use Rattle.schedule_file.specs.Fields.{value_or};
+ghost use Rattle.std.specs.Result.{result_map_both};
 ghost use Rattle.toml.specs.View.{view, table_view};
-ghost use Rattle.plant_conf.specs.declared.fault.ConfFault.TheVariants.{Memory};
-ghost use Rattle.plant_conf.specs.Forms.{number, whole_said, data_length, text, hex_bytes, app_rule, block_kind, bit_after, one_wire};
+ghost use Rattle.plant_conf.specs.declared.fault.ConfFault.TheVariants as fault;
+ghost use Rattle.plant_conf.specs.Forms.{number, whole_said, data_length, text, hex_bytes, app_rule, block_kind, bit_after, one_table, one_wire};
 ghost use Rattle.plant_conf.specs.Keys.{value_at, required, optional};
 
 use crate::fault::ConfFault;
@@ -24,6 +28,20 @@ pub(crate) fn find<'a>(table: &'a Table, key: Key) -> Option<&'a Value>
     ensures { option_map (λ v. view v.now) result ≡ value_at key (table_view table.now) }
 {
     table.get(key.word())
+}
+
+/// The value at a key that has to be there.
+pub(crate) fn required(table: &Table, key: Key) -> Result<&Value, ConfFault>
+    ensures { result_map_both (λ v. view v.now) (λ e. e) result ≡ value_or (fault.Missing key) (value_at key (table_view table.now)) }
+{
+    find(table, key).ok_or(ConfFault::Missing(key))
+}
+
+/// A table that has to be there.
+pub(crate) fn required_table(table: &Table, key: Key) -> Result<&Table, ConfFault>
+    ensures { result_map_both (λ t. table_view t.now) (λ e. e) result ≡ required one_table key (table_view table.now) }
+{
+    required(table, key)?.as_table().ok_or(ConfFault::Kind(key))
 }
 
 /// A whole number from `low` to `high`.
@@ -62,10 +80,7 @@ pub(crate) fn required_number(table: &Table, key: Key, low: u16) -> Result<u16, 
     ensures value { result ≡ required (number low 65535) key (table_view table.now) }
     ensures low { IfOk result (λ n. low ≤ n) }
 {
-    match find(table, key) {
-        Some(value) => number_16(value, key, low),
-        None => Err(ConfFault::Missing(key)),
-    }
+    number_16(required(table, key)?, key, low)
 }
 
 /// A number of 16 bits that is at least `low`, or the default.
@@ -100,13 +115,10 @@ pub(crate) fn required_length(table: &Table, key: Key) -> Result<usize, ConfFaul
     ensures value { result ≡ required data_length key (table_view table.now) }
     ensures valid { IfOk result (λ l. IsTrue (is_length l)) }
 {
-    match find(table, key) {
-        None => Err(ConfFault::Missing(key)),
-        Some(value) => match value.as_integer() {
-            None => Err(ConfFault::Kind(key)),
-            Some(z) => length_in(z).ok_or(ConfFault::Range(key)),
-        },
-    }
+    let whole = required(table, key)?
+        .as_integer()
+        .ok_or(ConfFault::Kind(key))?;
+    length_in(whole).ok_or(ConfFault::Range(key))
 }
 
 /// A number of safe data bytes, where frames can carry so many.
@@ -127,17 +139,12 @@ fn length_in(z: i64) -> Option<usize>
 /// A text that has to be there.
 pub(crate) fn required_text(alloc: Global, table: &Table, key: Key) -> Result<String, ConfFault>
     ensures reads { IfOk result (λ t. required text key (table_view table.now) ≡ Ok (string_bytes t)) }
-    ensures refuses { IfErr result (λ fault. fault ≢ Memory → required text key (table_view table.now) ≡ Err fault) }
+    ensures refuses { IfErr result (λ e. e ≢ fault.Memory → required text key (table_view table.now) ≡ Err e) }
 {
-    match find(table, key) {
-        None => Err(ConfFault::Missing(key)),
-        Some(value) => match value.as_str() {
-            None => Err(ConfFault::Kind(key)),
-            Some(text) => match String::from_str(alloc, text) {
-                Ok(text) => Ok(text),
-                Err(_) => Err(ConfFault::Memory),
-            },
-        },
+    let text = required(table, key)?.as_str().ok_or(ConfFault::Kind(key))?;
+    match String::from_str(alloc, text) {
+        Ok(text) => Ok(text),
+        Err(_) => Err(ConfFault::Memory),
     }
 }
 
@@ -172,37 +179,22 @@ pub(crate) fn optional_rule(table: &Table, key: Key, app: &AppBytes) -> Result<A
 pub(crate) fn required_kind(table: &Table, key: Key) -> Result<BlockKind, ConfFault>
     ensures { result ≡ required block_kind key (table_view table.now) }
 {
-    match find(table, key) {
-        None => Err(ConfFault::Missing(key)),
-        Some(value) => match value.as_str() {
-            None => Err(ConfFault::Kind(key)),
-            Some(text) => words::kind(text.as_bytes()).ok_or(ConfFault::Range(key)),
-        },
-    }
+    let text = required(table, key)?.as_str().ok_or(ConfFault::Kind(key))?;
+    words::kind(text.as_bytes()).ok_or(ConfFault::Range(key))
 }
 
 /// A bit, which has to be there: one of an input after `i`, or one of an output after `o`.
 pub(crate) fn required_bit(table: &Table, key: Key, letter: u8) -> Result<Bit, ConfFault>
     ensures { result ≡ required (bit_after letter) key (table_view table.now) }
 {
-    match find(table, key) {
-        None => Err(ConfFault::Missing(key)),
-        Some(value) => match value.as_str() {
-            None => Err(ConfFault::Kind(key)),
-            Some(text) => words::bit(text.as_bytes(), letter).ok_or(ConfFault::Range(key)),
-        },
-    }
+    let text = required(table, key)?.as_str().ok_or(ConfFault::Kind(key))?;
+    words::bit(text.as_bytes(), letter).ok_or(ConfFault::Range(key))
 }
 
 /// A wire, which has to be there.
 pub(crate) fn required_wire(table: &Table, key: Key) -> Result<Wire, ConfFault>
     ensures { result ≡ required one_wire key (table_view table.now) }
 {
-    match find(table, key) {
-        None => Err(ConfFault::Missing(key)),
-        Some(value) => match value.as_str() {
-            None => Err(ConfFault::Kind(key)),
-            Some(text) => words::wire(text.as_bytes()).ok_or(ConfFault::Range(key)),
-        },
-    }
+    let text = required(table, key)?.as_str().ok_or(ConfFault::Kind(key))?;
+    words::wire(text.as_bytes()).ok_or(ConfFault::Range(key))
 }

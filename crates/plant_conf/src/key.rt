@@ -1,6 +1,6 @@
 //! The keys of a plant's configuration.
 ghost use Rattle.std.specs.Prelude.{◌≡◌, ◌≤◌, ◌+◌, ◌++◌, length};
-ghost use Rattle.plant_conf.specs.Names.{table_name, key_name, key_word, number_text, rest_text, key_text};
+ghost use Rattle.plant_conf.specs.Names.{table_name, key_name, key_word, key_text};
 
 use fsoe_io::LineText;
 
@@ -147,37 +147,13 @@ impl Key {
         ensures most { length text.new ≤ length text.old + 45 }
     {
         text.push_str(self.table.name());
-        self.push_rest(text);
-    }
-
-    // What stands after the name of the table.
-    fn push_rest(self, text: &mut LineText)
-        requires { length text.old ≤ 910 }
-        ensures text { text.new ≡ text.old ++ rest_text self.table self.index self.name }
-        ensures most { length text.new ≤ length text.old + 35 }
-    {
-        match self.name {
-            KeyName::Whole => {}
-            name => {
-                push_number(self.table, self.index, text);
+        if self.name != KeyName::Whole {
+            if self.table != KeyTable::Plant {
                 text.push_str(" ");
-                text.push_str(name.text());
+                text.push_decimal(u64::from(self.index));
             }
-        }
-    }
-}
-
-/// Appends the number of a table after a space, or nothing for `plant`.
-fn push_number(table: KeyTable, index: u16, text: &mut LineText)
-    requires { length text.old ≤ 910 }
-    ensures text { text.new ≡ text.old ++ number_text table index }
-    ensures most { length text.new ≤ length text.old + 21 }
-{
-    match table {
-        KeyTable::Plant => {}
-        _ => {
             text.push_str(" ");
-            text.push_decimal(u64::from(index));
+            text.push_str(self.name.text());
         }
     }
 }

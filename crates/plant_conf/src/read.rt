@@ -1,26 +1,25 @@
 //! Reads a configuration from its text.
-ghost use Rattle.std.specs.Prelude.{◌≡◌, ◌≢◌, ◌≤◌, ◌+◌, ◌<◌, Ok, Err, Some, None, IfOk, IfErr, map, length, vec_len};
-ghost use Rattle.std.specs.List.{All};
-ghost use Rattle.toml.specs.View.{table_view};
-ghost use Rattle.plant_conf.specs.declared.conf.LinkConf.{LinkConf};
+ghost use Rattle.std.specs.Prelude.{◌≡◌, ◌≢◌, ◌≤◌, ◌<◌, Ok, Err, None, IfOk, IfErr, is_some, map, length, true, vec_len};
+ghost use Rattle.std.specs.List.{All, filter_map, list_all};
+ghost use Rattle.toml.specs.Data.{as_table};
+ghost use Rattle.toml.specs.View.{view, table_view};
 ghost use Rattle.plant_conf.specs.declared.fault.ConfFault.TheVariants as fault;
-ghost use Rattle.plant_conf.specs.Meaning.{whole, count_of, has_too_many, apart, plant_keys, connections, all_of, document_meaning, text_meaning, Means};
+ghost use Rattle.plant_conf.specs.Meaning.{tables_of, count_of, has_too_many, some_links, apart, all_of, document_meaning, Means};
 ghost use Rattle.plant_conf.specs.ConfView.{conf_values};
-ghost use Rattle.plant_conf.specs.Kept.{HasSameLengths, IsProfileOne, plant_said};
-ghost use Rattle.param_load.specs.SameConn.{same_conn};
 ghost use Rattle.plant_conf.specs.Values.{link_values};
+ghost use Rattle.param_load.specs.SameConn.{same_conn};
 
-use crate::arrays::{FromTable, read_each, tables_in};
+use crate::arrays::{FromTable, are_tables, values_in};
 use crate::conf::{LinkConf, PlantConf};
 use crate::fault::ConfFault;
 use crate::forms::find;
-use crate::key::{Key, KeyName, KeyTable};
-use crate::tables::{PlantTable, read_plant};
+use crate::key::KeyTable;
+use crate::tables::{read_plant, whole};
 use arrayvec::ArrayVec;
 use fb_net::{BlockSpec, Drive};
 use param_load::same_conn;
 use std::alloc::Global;
-use toml::Table;
+use toml::{Table, Value};
 
 /// The most connections of a plant.
 const MOST_LINKS: usize = 64;
@@ -34,31 +33,40 @@ const MOST_DRIVES: usize = 1024;
 /// The most bounds that are watched.
 const MOST_BOUNDS: usize = 16;
 
-/// A table as a whole.
-fn whole(table: KeyTable) -> Key
-    ensures { result ≡ whole table }
+/// The values of the array of tables of a name, or none where there is no such key. `Kind` where it is of another kind.
+#[tactic(auto, unfolding(crate::specs::Keys::optional, crate::specs::Meaning::tables_of, crate::specs::Meaning::count_of), using(crate::proofs::ArrayLaws::length_tables))]
+fn tables_of(document: &Table, of: KeyTable) -> Result<&[Value], ConfFault>
+    ensures reads { IfOk result (λ vs. tables_of of (table_view document.now) ≡ Ok (filter_map as_table (map view vs.now))) }
+    ensures tables { IfOk result (λ vs. list_all (λ d. is_some (as_table d)) (map view vs.now) ≡ true) }
+    ensures count { IfOk result (λ vs. count_of of (table_view document.now) ≡ length vs.now) }
+    ensures refuses { IfErr result (λ e. tables_of of (table_view document.now) ≡ Err e) }
 {
-    Key {
-        table,
-        index: 0,
-        name: KeyName::Whole,
+    let key = whole(of);
+    let Some(value) = find(document, key) else {
+        return Ok(&[]);
+    };
+    let Some(values) = values_in(value) else {
+        return Err(ConfFault::Kind(key));
+    };
+    if !are_tables(values) {
+        return Err(ConfFault::Kind(key));
     }
+    Ok(values)
 }
 
 /// How many tables of a name there are. A value that is no array of tables counts as none.
+#[tactic(auto, unfolding(crate::specs::Meaning::count_of))]
 fn count(document: &Table, of: KeyTable) -> usize
     ensures { result ≡ count_of of (table_view document.now) }
 {
-    match find(document, whole(of)) {
-        Some(value) => match tables_in(value) {
-            Some(array) => array.len(),
-            None => 0,
-        },
-        None => 0,
+    match tables_of(document, of) {
+        Ok(tables) => tables.len(),
+        Err(_) => 0,
     }
 }
 
 /// Whether there are more tables than a plant may have.
+#[tactic(auto, unfolding(crate::specs::Meaning::has_too_many))]
 fn has_too_many(document: &Table) -> bool
     ensures { result ≡ has_too_many (table_view document.now) }
 {
@@ -68,47 +76,8 @@ fn has_too_many(document: &Table) -> bool
         || count(document, KeyTable::Bound) > MOST_BOUNDS
 }
 
-/// Reads the table `plant`, which must exist.
-fn plant_keys(alloc: Global, document: &Table) -> Result<PlantTable, ConfFault>
-    ensures reads { IfOk result (λ p. plant_keys (table_view document.now) ≡ Ok (plant_said p)) }
-    ensures refuses { IfErr result (λ e. e ≢ fault.Memory → plant_keys (table_view document.now) ≡ Err e) }
-{
-    let key = whole(KeyTable::Plant);
-    match find(document, key) {
-        None => Err(ConfFault::Missing(key)),
-        Some(value) => match value.as_table() {
-            None => Err(ConfFault::Kind(key)),
-            Some(table) => read_plant(alloc, table),
-        },
-    }
-}
-
-/// Reads the connections, of which there must be at least one.
-fn connections(alloc: Global, document: &Table) -> Result<Vec<LinkConf>, ConfFault>
-    requires { count_of KeyTable.Connection (table_view document.now) ≤ 1024 }
-    ensures reads { IfOk result (λ v. connections (table_view document.now) ≡ Ok (map link_values v.items)) }
-    ensures count { IfOk result (λ v. vec_len v ≡ count_of KeyTable.Connection (table_view document.now)) }
-    ensures some { IfOk result (λ v. 0 < vec_len v) }
-    ensures same_lengths { IfOk result (λ v. All HasSameLengths v.items) }
-    ensures profile_one { IfOk result (λ v. All IsProfileOne v.items) }
-    ensures refuses { IfErr result (λ e. e ≢ fault.Memory → connections (table_view document.now) ≡ Err e) }
-{
-    let key = whole(KeyTable::Connection);
-    match find(document, key) {
-        None => Err(ConfFault::Missing(key)),
-        Some(value) => match tables_in(value) {
-            None => Err(ConfFault::Kind(key)),
-            Some(array) => {
-                if array.is_empty() {
-                    return Err(ConfFault::Missing(key));
-                }
-                read_each(alloc, array, key)
-            }
-        },
-    }
-}
-
-/// The tables of a name, of which there may be none.
+/// Reads the tables of a name, of which there may be none, one after another, from number 1 on.
+#[tactic(auto, unfolding(crate::specs::Meaning::all_of))]
 fn all_of<T: FromTable + Drop>(
     alloc: Global,
     document: &Table,
@@ -120,14 +89,22 @@ fn all_of<T: FromTable + Drop>(
     ensures holds { IfOk result (λ v. All T.Holds v.items) }
     ensures refuses { IfErr result (λ e. e ≢ fault.Memory → all_of of T.says (table_view document.now) ≡ Err e) }
 {
-    let key = whole(of);
-    match find(document, key) {
-        None => Ok(Vec::new(alloc)),
-        Some(value) => match tables_in(value) {
-            None => Err(ConfFault::Kind(key)),
-            Some(array) => read_each(alloc, array, key),
-        },
+    let tables = tables_of(document, of)?;
+    let mut all = Vec::new(alloc);
+    for i in 0..tables.len() {
+        let value = &tables[i];
+        let Some(table) = value.as_table() else {
+            return Err(ConfFault::Kind(whole(of)));
+        };
+        let one = match T::read(alloc, table, i as u16 + 1) {
+            Ok(one) => one,
+            Err(e) => return Err(e),
+        };
+        if all.push(one).is_err() {
+            return Err(ConfFault::Memory);
+        }
     }
+    Ok(all)
 }
 
 /// The connection ids, in order.
@@ -142,10 +119,24 @@ fn ids_of(links: &[LinkConf]) -> ArrayVec<u16, MOST_LINKS>
     ids
 }
 
+/// `Missing` if there is no connection.
+#[tactic(auto, unfolding(crate::specs::Meaning::some_links))]
+fn some_links(links: &[LinkConf]) -> Result<(), ConfFault>
+    ensures value { result ≡ some_links (map link_values links.now) }
+    ensures some { IfOk result (λ _. 0 < length links.now) }
+{
+    if links.is_empty() {
+        return Err(ConfFault::Missing(whole(KeyTable::Connection)));
+    }
+    Ok(())
+}
+
 /// `SameConn` if two connections have one id.
+#[tactic(auto, unfolding(crate::specs::Meaning::apart), using(crate::proofs::Documents::ids_of_values))]
 fn apart(links: &[LinkConf]) -> Result<(), ConfFault>
     requires { length links.now ≤ 64 }
-    ensures { result ≡ apart (same_conn 1 (map (λ link. link.master.conn) links.now)) }
+    ensures value { result ≡ apart (map link_values links.now) }
+    ensures different { IfOk result (λ _. same_conn 1 (map (λ link. link.master.conn) links.now) ≡ None) }
 {
     match same_conn(ids_of(links).as_slice()) {
         Some((a, b)) => Err(ConfFault::SameConn { a, b }),
@@ -159,17 +150,9 @@ pub fn read_conf(alloc: Global, text: &[u8]) -> Result<PlantConf, ConfFault>
     ensures reads { IfOk result (λ conf. Means text.now (Ok (conf_values conf))) }
     ensures refuses { IfErr result (λ e. e ≢ fault.Memory → Means text.now (Err e)) }
 {
-    match std::str::from_utf8(text) {
-        Ok(text) => read_text(alloc, text),
-        Err(_) => Err(ConfFault::Syntax),
-    }
-}
-
-/// Reads a configuration from a text.
-fn read_text(alloc: Global, text: &str) -> Result<PlantConf, ConfFault>
-    ensures reads { IfOk result (λ conf. text_meaning text.now ≡ Ok (conf_values conf)) }
-    ensures refuses { IfErr result (λ e. e ≢ fault.Memory → text_meaning text.now ≡ Err e) }
-{
+    let Ok(text) = std::str::from_utf8(text) else {
+        return Err(ConfFault::Syntax);
+    };
     match toml::table_from_str(alloc, text) {
         Ok(document) => read_document(alloc, &document),
         Err(e) => {
@@ -183,6 +166,7 @@ fn read_text(alloc: Global, text: &str) -> Result<PlantConf, ConfFault>
 }
 
 /// Reads a configuration from a document.
+#[tactic(auto, unfolding(crate::specs::Meaning::document_meaning, crate::specs::Meaning::has_too_many), using(crate::proofs::Documents::map_itself))]
 fn read_document(alloc: Global, document: &Table) -> Result<PlantConf, ConfFault>
     ensures reads { IfOk result (λ conf. document_meaning (table_view document.now) ≡ Ok (conf_values conf)) }
     ensures refuses { IfErr result (λ e. e ≢ fault.Memory → document_meaning (table_view document.now) ≡ Err e) }
@@ -190,14 +174,13 @@ fn read_document(alloc: Global, document: &Table) -> Result<PlantConf, ConfFault
     if has_too_many(document) {
         return Err(ConfFault::TooMany);
     }
-    let plant = plant_keys(alloc, document)?;
-    let links = connections(alloc, document)?;
+    let plant = read_plant(alloc, document)?;
+    let links = all_of::<LinkConf>(alloc, document, KeyTable::Connection)?;
+    some_links(links.as_slice())?;
     let blocks = all_of(alloc, document, KeyTable::Block)?;
     let drives = all_of(alloc, document, KeyTable::Drive)?;
     let bounds = all_of(alloc, document, KeyTable::Bound)?;
-    if let Err(e) = apart(links.as_slice()) {
-        return Err(e);
-    }
+    apart(links.as_slice())?;
     Ok(PlantConf {
         links,
         blocks,

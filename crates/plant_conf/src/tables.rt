@@ -3,20 +3,16 @@ ghost use Rattle.std.specs.Prelude.{◌≡◌, ◌≢◌, ◌<◌, IsTrue, IfOk,
 ghost use Rattle.toml.specs.View.{table_view};
 ghost use Rattle.fsoe_base.specs.Lengths.{is_length};
 ghost use Rattle.param_load.specs.AppRule.{is_acceptable};
-ghost use Rattle.param_load.specs.MasterSettings.{IsMasterSetTo};
-ghost use Rattle.param_load.specs.SlaveSettings.{IsSlaveSetTo};
-ghost use Rattle.param_load.specs.declared.profile.Profile.TheVariants as profile;
 ghost use Rattle.plant_conf.specs.declared.fault.ConfFault.TheVariants as fault;
-ghost use Rattle.plant_conf.specs.Keys.{key_of, plant, link_keys, slave_keys, connection};
-ghost use Rattle.plant_conf.specs.Kept.{plant_said, keys_said, slave_said, HasSameLengths, IsProfileOne};
-ghost use Rattle.plant_conf.specs.Values.{link_values};
+ghost use Rattle.plant_conf.specs.Keys.{key_of, whole, plant_keys, link_keys, slave_keys};
+ghost use Rattle.plant_conf.specs.Kept.{plant_said};
 
 use crate::arrays::{FromTable, required_wires};
 use crate::conf::{BoundSpec, LinkConf};
 use crate::fault::ConfFault;
 use crate::forms::{
     optional_bytes, optional_number, optional_rule, optional_seed, required_bit, required_kind,
-    required_length, required_number, required_text, required_wire,
+    required_length, required_number, required_table, required_text, required_wire,
 };
 use crate::key::{Key, KeyName, KeyTable};
 use fb_net::{BlockSpec, Drive};
@@ -44,6 +40,7 @@ impl FromTable for Drive {
 
     ghost says = { drive };
 
+    #[tactic(auto, unfolding(crate::specs::Keys::drive))]
     fn read(_alloc: Global, table: &Table, number: u16) -> Result<Drive, ConfFault> {
         let out = required_bit(table, key(KeyTable::Drive, number, KeyName::Out), b'o')?;
         let from = required_wire(table, key(KeyTable::Drive, number, KeyName::From))?;
@@ -63,6 +60,7 @@ impl FromTable for BoundSpec {
 
     ghost says = { bound };
 
+    #[tactic(auto, unfolding(crate::specs::Keys::bound))]
     fn read(_alloc: Global, table: &Table, number: u16) -> Result<BoundSpec, ConfFault> {
         let estop = required_bit(table, key(KeyTable::Bound, number, KeyName::Estop), b'i')?;
         let drive = required_bit(table, key(KeyTable::Bound, number, KeyName::Drive), b'o')?;
@@ -83,13 +81,11 @@ impl FromTable for BlockSpec {
 
     ghost says = { block };
 
+    #[tactic(auto, unfolding(crate::specs::Keys::block))]
     fn read(alloc: Global, table: &Table, number: u16) -> Result<BlockSpec, ConfFault> {
         let kind = required_kind(table, key(KeyTable::Block, number, KeyName::Kind))?;
         let ins = required_wires(alloc, table, key(KeyTable::Block, number, KeyName::Ins))?;
-        let n = match optional_number(table, key(KeyTable::Block, number, KeyName::N), 0, 0) {
-            Ok(n) => n,
-            Err(e) => return Err(e),
-        };
+        let n = optional_number(table, key(KeyTable::Block, number, KeyName::N), 0, 0)?;
         Ok(BlockSpec::new(kind, n, ins))
     }
 }
@@ -107,8 +103,34 @@ impl FromTable for LinkConf {
 
     ghost says = { connection };
 
+    #[tactic(auto, unfolding(crate::specs::Keys::connection))]
     fn read(_alloc: Global, table: &Table, number: u16) -> Result<LinkConf, ConfFault> {
-        read_connection(table, number)
+        let of = KeyTable::Connection;
+        let link = read_keys(table, number)?;
+        let slave = read_slave(table, number, &link)?;
+        let master_nonce = optional_number(table, key(of, number, KeyName::MasterNonce), 0, 1)?;
+        let slave_nonce = optional_number(table, key(of, number, KeyName::SlaveNonce), 0, 2)?;
+        let lengths = Lengths::new(link.master_length, link.slave_length).unwrap();
+        let master = MasterSettings::new(
+            lengths,
+            link.id,
+            link.address,
+            link.watchdog,
+            link.app,
+            master_nonce,
+        );
+        let slave = SlaveSettings::new(
+            lengths,
+            slave.address,
+            slave.hand,
+            slave.most,
+            slave.rule,
+            slave_nonce,
+        );
+        Ok(LinkConf {
+            master: master.unwrap(),
+            slave: slave.unwrap(),
+        })
     }
 }
 
@@ -124,8 +146,9 @@ struct LinkKeys {
 }
 
 /// Reads what the connection with this number has to say, and its application parameters.
+#[tactic(auto, unfolding(crate::specs::Keys::link_keys))]
 fn read_keys(table: &Table, number: u16) -> Result<LinkKeys, ConfFault>
-    ensures reads { IfOk result (λ link. link_keys number (table_view table.now) ≡ Ok (keys_said link)) }
+    ensures reads { IfOk result (λ link. link_keys number (table_view table.now) ≡ Ok link) }
     ensures refuses { IfErr result (λ e. link_keys number (table_view table.now) ≡ Err e) }
     ensures id { IfOk result (λ link. 0 < link.id) }
     ensures watchdog { IfOk result (λ link. 0 < link.watchdog) }
@@ -159,10 +182,11 @@ struct SlaveKeys {
 }
 
 /// Reads what the connection with this number may say of its slave, where `link` is what it has to say.
+#[tactic(auto, unfolding(crate::specs::Keys::slave_keys))]
 fn read_slave(table: &Table, number: u16, link: &LinkKeys) -> Result<SlaveKeys, ConfFault>
     requires { 0 < link.now.watchdog }
-    ensures reads { IfOk result (λ s. slave_keys number (keys_said link.now) (table_view table.now) ≡ Ok (slave_said s)) }
-    ensures refuses { IfErr result (λ e. slave_keys number (keys_said link.now) (table_view table.now) ≡ Err e) }
+    ensures reads { IfOk result (λ s. slave_keys number link.now (table_view table.now) ≡ Ok s) }
+    ensures refuses { IfErr result (λ e. slave_keys number link.now (table_view table.now) ≡ Err e) }
     ensures hand { IfOk result (λ s. 0 < s.hand) }
     ensures most { IfOk result (λ s. 0 < s.most) }
     ensures rule { IfOk result (λ s. IsTrue (is_acceptable s.rule)) }
@@ -185,59 +209,6 @@ fn read_slave(table: &Table, number: u16, link: &LinkKeys) -> Result<SlaveKeys, 
     })
 }
 
-/// Reads the settings of both ends of the connection with this number. Doesn't allocate.
-fn read_connection(table: &Table, number: u16) -> Result<LinkConf, ConfFault>
-    ensures reads { IfOk result (λ link. connection number (table_view table.now) ≡ Ok (link_values link)) }
-    ensures holds { IfOk result (λ link. HasSameLengths link × IsProfileOne link) }
-    ensures refuses { IfErr result (λ e. connection number (table_view table.now) ≡ Err e) }
-{
-    let of = KeyTable::Connection;
-    let link = read_keys(table, number)?;
-    let slave = read_slave(table, number, &link)?;
-    let master_nonce = optional_number(table, key(of, number, KeyName::MasterNonce), 0, 1)?;
-    let slave_nonce = optional_number(table, key(of, number, KeyName::SlaveNonce), 0, 2)?;
-    let lengths = Lengths::new(link.master_length, link.slave_length).unwrap();
-    Ok(LinkConf {
-        master: master_of(link, lengths, master_nonce),
-        slave: slave_of(slave, lengths, slave_nonce),
-    })
-}
-
-/// The settings of a master.
-fn master_of(link: LinkKeys, lengths: Lengths, nonce: u16) -> MasterSettings
-    requires id { 0 < link.id }
-    requires watchdog { 0 < link.watchdog }
-    ensures { IsMasterSetTo result lengths link.id link.address link.watchdog link.app nonce profile.One }
-{
-    MasterSettings::new(
-        lengths,
-        link.id,
-        link.address,
-        link.watchdog,
-        link.app,
-        nonce,
-    )
-    .unwrap()
-}
-
-/// The settings of a slave.
-fn slave_of(slave: SlaveKeys, lengths: Lengths, nonce: u16) -> SlaveSettings
-    requires hand { 0 < slave.hand }
-    requires most { 0 < slave.most }
-    requires rule { IsTrue (is_acceptable slave.rule) }
-    ensures { IsSlaveSetTo result lengths slave.address slave.hand slave.most slave.rule nonce profile.One }
-{
-    SlaveSettings::new(
-        lengths,
-        slave.address,
-        slave.hand,
-        slave.most,
-        slave.rule,
-        nonce,
-    )
-    .unwrap()
-}
-
 /// What the table `plant` says.
 #[derive(Drop)]
 pub(crate) struct PlantTable {
@@ -249,12 +220,21 @@ pub(crate) struct PlantTable {
     pub seed: u64,
 }
 
-/// Reads the table `plant`.
-pub(crate) fn read_plant(alloc: Global, table: &Table) -> Result<PlantTable, ConfFault>
-    ensures reads { IfOk result (λ p. plant (table_view table.now) ≡ Ok (plant_said p)) }
-    ensures refuses { IfErr result (λ e. e ≢ fault.Memory → plant (table_view table.now) ≡ Err e) }
+/// A table as a whole.
+pub(crate) fn whole(table: KeyTable) -> Key
+    ensures { result ≡ whole table }
+{
+    key(table, 0, KeyName::Whole)
+}
+
+/// Reads the table `plant`, which has to be there.
+#[tactic(auto, unfolding(crate::specs::Keys::plant_keys))]
+pub(crate) fn read_plant(alloc: Global, document: &Table) -> Result<PlantTable, ConfFault>
+    ensures reads { IfOk result (λ p. plant_keys (table_view document.now) ≡ Ok (plant_said p)) }
+    ensures refuses { IfErr result (λ e. e ≢ fault.Memory → plant_keys (table_view document.now) ≡ Err e) }
 {
     let of = KeyTable::Plant;
+    let table = required_table(document, whole(of))?;
     let app = required_text(alloc, table, key(of, 0, KeyName::App))?;
     let channel = required_text(alloc, table, key(of, 0, KeyName::Channel))?;
     let seed = optional_seed(table, key(of, 0, KeyName::Seed))?;

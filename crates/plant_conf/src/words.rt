@@ -34,10 +34,7 @@ const KINDS: [(&[u8], BlockKind); 10] = [
 fn number(text: &[u8]) -> Option<u16>
     ensures { result ≡ number_said 65535 text.now }
 {
-    match read_number(text, u64::from(u16::MAX)) {
-        Some(n) => Some(n as u16),
-        None => None,
-    }
+    Some(read_number(text, u64::from(u16::MAX))? as u16)
 }
 
 /// What follows a letter, where the text begins with it.
@@ -69,19 +66,17 @@ fn place(text: &[u8]) -> Option<Bit>
     if let Some(_third) = more {
         return None;
     }
-    let link = number(link)?;
-    let bit = number(bit)?;
-    Some(Bit { link, bit })
+    Some(Bit {
+        link: number(link)?,
+        bit: number(bit)?,
+    })
 }
 
 /// A letter, and then `<k>.<bit>`.
 pub(crate) fn bit(text: &[u8], letter: u8) -> Option<Bit>
     ensures { result ≡ bit_said letter text.now }
 {
-    match after(text, letter) {
-        Some(rest) => place(rest),
-        None => None,
-    }
+    place(after(text, letter)?)
 }
 
 /// `i<k>.<bit>`, an input bit, or `b<number>`, a block.
@@ -91,13 +86,7 @@ pub(crate) fn wire(text: &[u8]) -> Option<Wire>
     if let Some(input) = bit(text, b'i') {
         return Some(Wire::Input(input));
     }
-    match after(text, b'b') {
-        Some(rest) => match number(rest) {
-            Some(block) => Some(Wire::Block(block)),
-            None => None,
-        },
-        None => None,
-    }
+    Some(Wire::Block(number(after(text, b'b')?)?))
 }
 
 /// The kind of a block.
