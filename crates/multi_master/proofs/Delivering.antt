@@ -1,13 +1,14 @@
 -- A delivery to one of many connections, by what its master and the application do.
-use Rattle.multi_master.proofs.Common.{Accepts, All-head, All-tail, AllZip, Answer, AnswersFrame, AppView, Call, Connection, Deed, Deliver, Did, Follows, GuardsBy, IsWhere, MasterSettings, MasterView, Meant, Move, MultiView, Replies, RunsCycle, ShowsDue, Stands, StandsFor, StandsIf, Waits, after, answer, cycle_in, deed, delivery_at, due_in, event_at, get_or_from_slice_get, map-set, meant, newest_at, next_deed, offer_at, offer_len, out, outputs_at, own_len, same_deed, settings_in, setup, tells_due, with_cycle, with_event, with_offers}
-use Rattle.std.proofs.Common.{◌≡◌, ℕ, suc, List, [], ◌∷◌, map, slice_get, slice_set, All, Option, Some, None, Bool, true, false, if◌then◌else◌, refl, sym, ap, ap₂, subst, ◌∙◌, arith}
+use Rattle.multi_master.proofs.Common.{Accepts, All-head, All-tail, AllZip, Answer, AnswersFrame, AppView, Call, Connection, Deed, Deliver, Delivery, Did, Follows, GuardsBy, IsWhere, MasterSettings, MasterView, Meant, Move, MultiView, PutsAnswer, Replies, RunsBy, RunsCycle, ShowsDue, StandsFor, Waits, answer, cycle_in, deed, due_in, event_at, event_on, get_or_from_slice_get, is_offer, map-set, meant, newest_at, next_deed, offer_at, offer_len, out, outputs_at, own_len, same_deed, settings_in, setup, tells_due, with_cycle, with_event, with_offer, with_offers}
+use Rattle.std.proofs.Common.{◌≡◌, ◌⊎◌, inl, inr, ℕ, suc, List, [], ◌∷◌, map, slice_get, slice_set, All, Option, Some, None, Bool, true, false, not, if◌then◌else◌, refl, sym, ap, ap₂, subst, ◌∙◌, arith}
 use Rattle.std.proofs.lemmas.List.{set-get_or}
 use Rattle.param_load.specs.declared.entry.Move.TheVariants as move
-use Rattle.multi_master.proofs.Following.{own_lens, cycle_put}
-use Rattle.multi_master.proofs.Places.{at_place, map_set, same_at, set_there, zip_set}
-use Rattle.multi_master.proofs.Putting.{all_outputs_put, all_settings_put}
-use Rattle.multi_master.proofs.Quiet.{quiet_frame, quiet_deed, same_outputs}
-use Rattle.multi_master.proofs.Reading.{StandsIn, stands_so, event_is, quiet_stands, with_one}
+use Rattle.multi_master.proofs.Following.{own_lens}
+use Rattle.multi_master.proofs.Neighbours.{event_keeps}
+use Rattle.multi_master.proofs.Places.{at_place, map_set, set_there, zip_set}
+use Rattle.multi_master.proofs.Putting.{all_put, one_put, outputs_delivered, where_put}
+use Rattle.multi_master.proofs.Quiet.{quiet_deed, quiet_frame}
+use Rattle.multi_master.proofs.Reading.{StandsIn, event_set, quiet_stands, stands_so}
 
 -- the cycle of a delivery to a connection that exists
 cycle-is : (m : Meant) (place : ℕ) (c : Connection) (bytes : List ℕ) (b : Bool) → slice_get m.connections place ≡ Some c → tells_due (next_deed (move.Deliver bytes) c).did ≡ b
@@ -15,42 +16,27 @@ cycle-is : (m : Meant) (place : ℕ) (c : Connection) (bytes : List ℕ) (b : Bo
 cycle-is m place c bytes b h k = grind arith
 
 -- the newest deed of a connection at which an event came
-newest-is : (m : Meant) (place : ℕ) (c : Connection) (what : Move) → slice_get m.connections place ≡ Some c → newest_at (suc place) (with_one m place what c) ≡ Some (next_deed what c)
-newest-is m place c what h =
-    let there = set_there m.connections place c (with_event what c) h in
-    grind arith
+newest-is : (m : Meant) (place : ℕ) (c : Connection) (what : Move) → slice_get m.connections place ≡ Some c → newest_at (suc place) (event_at (suc place) what m) ≡ Some (next_deed what c)
+newest-is m place c what h = rw (event_set m.connections place c what h, set_there m.connections place c (with_event what c) h) refl
 
--- what a delivery means: its cycle, if it ran one, the connection then, and the deed there that answers the frame
-pub record Delivered (m : Meant) (place : ℕ) (bytes : List ℕ) (did : Did) (new : MultiView) (frame : List ℕ) : Type 0 where
-  pub cycle : Option Answer
-  pub cycle_is : cycle_in (Deliver (suc place) bytes) m ≡ cycle
-  pub there : Connection
-  pub is : slice_get (with_cycle cycle m).connections place ≡ Some there
-  pub stands : StandsIn m.connections cycle (with_one (with_cycle cycle m) place (move.Deliver bytes) there) new
-  pub deed_is : next_deed (move.Deliver bytes) there ≡ deed (move.Deliver bytes) did frame
-
+-- what a delivery means: these calls stand with it, and the newest deed of its connection answers the frame
 abbrev pub Delivers : MultiView → ℕ → List ℕ → Did → MultiView → List ℕ → Type 0
-Delivers old place bytes did new frame = (settings : List MasterSettings) (app : AppView) (calls : List Call) → StandsFor settings app old calls → Delivered (meant settings app calls) place bytes did new frame
+Delivers old place bytes did new frame =
+    (settings : List MasterSettings) (app : AppView) (calls : List Call) → StandsFor settings app old calls
+    → StandsFor settings app new (Deliver (suc place) bytes ∷ calls) × (newest_at (suc place) (meant settings app (Deliver (suc place) bytes ∷ calls)) ≡ Some (deed (move.Deliver bytes) did frame))
 
-after-is : (m : Meant) (place : ℕ) (bytes : List ℕ) (did : Did) (new : MultiView) (frame : List ℕ) (x : Delivered m place bytes did new frame)
-    → after (Deliver (suc place) bytes) m ≡ with_one (with_cycle x.cycle m) place (move.Deliver bytes) x.there
-after-is m place bytes did new frame x =
-    ap (λ (o : Option Answer). event_at (suc place) (move.Deliver bytes) (with_cycle o m)) x.cycle_is ∙ event_is (with_cycle x.cycle m) place x.there (move.Deliver bytes) x.is
+-- by its cycle, if it ran one, and the connection then
+delivers_so : (settings : List MasterSettings) (app : AppView) (old new : MultiView) (calls : List Call) (place : ℕ) (bytes : List ℕ) (did : Did) (frame : List ℕ) (o : Option Answer) (c : Connection) → StandsFor settings app old calls
+    → cycle_in (Deliver (suc place) bytes) (meant settings app calls) ≡ o → slice_get (with_cycle o (meant settings app calls)).connections place ≡ Some c
+    → StandsIn (meant settings app calls).connections o (event_at (suc place) (move.Deliver bytes) (with_cycle o (meant settings app calls))) new → next_deed (move.Deliver bytes) c ≡ deed (move.Deliver bytes) did frame
+    → StandsFor settings app new (Deliver (suc place) bytes ∷ calls) × (newest_at (suc place) (meant settings app (Deliver (suc place) bytes ∷ calls)) ≡ Some (deed (move.Deliver bytes) did frame))
+delivers_so settings app old new calls place bytes did frame o c h ran at s is =
+    let m : Meant = meant settings app calls in
+    let same = ap (λ (o : Option Answer). event_at (suc place) (move.Deliver bytes) (with_cycle o m)) ran in
+    (stands_so settings app old new calls (Deliver (suc place) bytes) o _ h ran same s, ap (newest_at (suc place)) same ∙ newest-is (with_cycle o m) place c (move.Deliver bytes) at ∙ ap (λ (x : Deed). Some x) is)
 
 pub delivered : (old new : MultiView) (place : ℕ) (bytes : List ℕ) (did : Did) (frame : List ℕ) → Delivers old place bytes did new frame → Follows old (Deliver (suc place) bytes) new × AnswersFrame old (suc place) bytes did frame
-delivered old new place bytes did frame d = (
-  record {
-    stands = λ settings app calls h.
-        let x = d settings app calls h in
-        stands_so settings app old new calls (Deliver (suc place) bytes) x.cycle _ h x.cycle_is (after-is _ place bytes did new frame x) x.stands;
-  },
-  record {
-    answers = λ settings app calls h.
-        let x = d settings app calls h in
-        ap (λ (y : Meant). newest_at (suc place) y) (after-is _ place bytes did new frame x)
-        ∙ newest-is (with_cycle x.cycle (meant settings app calls)) place x.there (move.Deliver bytes) x.is ∙ ap (λ (y : Deed). Some y) x.deed_is;
-  },
-)
+delivered old new place bytes did frame d = (record { stands = λ settings app calls h. (d settings app calls h).0 }, record { answers = λ settings app calls h. (d settings app calls h).1 })
 
 -- nothing is taken of the frame and no session ends
 pub dropped : (old new : MultiView) (place : ℕ) (bytes : List ℕ) (did : Did) (before last : MasterView) (frame : List ℕ) → slice_get old.masters place ≡ Some before → Accepts before bytes did last
@@ -62,26 +48,42 @@ dropped old new place bytes did before last frame at accepts rest untold f nm na
     let c : Connection = p.there in
     let u = accepts.under_way c.settings c.deeds p.holds in
     let none : tells_due (next_deed (move.Deliver bytes) c).did ≡ false = sym (ap (λ (x : Did). tells_due x) u.did) ∙ untold in
-    record {
-      cycle = None;
-      cycle_is = cycle-is m place c bytes false p.is none;
-      there = c;
-      is = p.is;
-      stands = quiet_stands settings app old new calls place (move.Deliver bytes) c last h p.is (quiet_frame (setup c) c.deeds bytes none) (u.is_after rest) nm na ni nc;
-      deed_is = quiet_deed (setup c) c.deeds bytes p.holds.reached none ∙ ap₂ (λ (x : Did) (sent : List ℕ). deed (move.Deliver bytes) x sent) (sym u.did) (sym f);
-    }
+    delivers_so settings app old new calls place bytes did frame None c h (cycle-is m place c bytes false p.is none) p.is
+    (quiet_stands settings app old new calls place (move.Deliver bytes) c last h p.is (quiet_frame (setup c) c.deeds bytes none) (u.is_after rest) nm na ni nc)
+    (quiet_deed (setup c) c.deeds bytes p.holds.reached none ∙ same_deed (move.Deliver bytes) _ _ _ _ (sym u.did) (sym f))
 
--- masters with no frame due stand alike, whether or not a frame came
-stand-alike : (frame : List ℕ × Did) (cs : List Connection) (ms : List MasterView) → AllZip IsWhere cs ms → AllZip (Stands (Some frame)) cs ms
-stand-alike frame [] [] h = tt
-stand-alike frame (c ∷ cs) (m ∷ ms) h = (subst (λ (due : Bool). StandsIf (Some frame) due c m) (sym (ap due_in h.0.is)) h.0, stand-alike frame cs ms h.1)
-stand-alike frame _ _ h = absurd h
+-- a frame that came for a connection, with what accepting it did, as a delivery there
+abbrev delivery_at : Connection → List ℕ → Did → Delivery
+delivery_at c bytes did = record { settings = c.settings; before = c.deeds; bytes = bytes; did = did }
 
-stand-again : (frame : List ℕ × Did) (cs : List Connection) (ms : List MasterView) → All (λ m. due_in m ≡ false) ms → AllZip (Stands (Some frame)) cs ms → AllZip IsWhere cs ms
-stand-again frame [] [] r h = tt
-stand-again frame (c ∷ cs) (m ∷ ms) r h =
-    (subst (λ (due : Bool). StandsIf (Some frame) due c m) (All-head (λ m. due_in m ≡ false) m ms r) h.0, stand-again frame cs ms (All-tail (λ m. due_in m ≡ false) m ms r) h.1)
-stand-again frame _ _ r h = absurd h
+-- a master is where the deeds of its connection leave it, or its frame is due, and it waits in the delivery
+abbrev Stands : List ℕ → Did → Connection → MasterView → Type 0
+Stands bytes did c m = IsWhere c m ⊎ (Waits m (delivery_at c bytes did) × (due_in m ≡ true))
+
+stands_put : (bytes : List ℕ) (did : Did) (c : Connection) (old new : MasterView) (load : List ℕ) (told : Bool) → Stands bytes did c old → PutsAnswer old load new told → Stands bytes did (with_offer load c) new × (told ≡ not (is_offer load c))
+stands_put bytes did c old new load told (inl h) p = let one = where_put c old new load told h p in (inl one.0, one.1)
+stands_put bytes did c old new load told (inr h) p =
+    let one = one_put (λ c m. Waits m (delivery_at c bytes did)) c old new load told p (p.shows_due.shows (delivery_at c bytes did) h.0) h.0 (λ put. put.1.waits (delivery_at c bytes did) h.0) in
+    (inr (one.0, p.due ∙ h.1), one.1)
+
+waits_there : (bytes : List ℕ) (did : Did) (c : Connection) (m : MasterView) → due_in m ≡ true → Stands bytes did c m → Waits m (delivery_at c bytes did)
+waits_there bytes did c m due (inl h) = absurd (cc (ap due_in h.is, due))
+waits_there bytes did c m due (inr h) = h.0
+
+-- all masters stand so before the cycle, and after the reply no frame is due
+stand_alike : (bytes : List ℕ) (did : Did) (cs : List Connection) (ms : List MasterView) → AllZip IsWhere cs ms → AllZip (Stands bytes did) cs ms
+stand_alike bytes did [] [] h = tt
+stand_alike bytes did (c ∷ cs) (m ∷ ms) h = (inl h.0, stand_alike bytes did cs ms h.1)
+stand_alike bytes did _ _ h = absurd h
+
+where_again : (bytes : List ℕ) (did : Did) (c : Connection) (m : MasterView) → due_in m ≡ false → Stands bytes did c m → IsWhere c m
+where_again bytes did c m rest (inl h) = h
+where_again bytes did c m rest (inr h) = absurd (cc (h.1, rest))
+
+stand_again : (bytes : List ℕ) (did : Did) (cs : List Connection) (ms : List MasterView) → All (λ m. due_in m ≡ false) ms → AllZip (Stands bytes did) cs ms → AllZip IsWhere cs ms
+stand_again bytes did [] [] r h = tt
+stand_again bytes did (c ∷ cs) (m ∷ ms) r h = (where_again bytes did c m (All-head (λ m. due_in m ≡ false) m ms r) h.0, stand_again bytes did cs ms (All-tail (λ m. due_in m ≡ false) m ms r) h.1)
+stand_again bytes did _ _ r h = absurd h
 
 -- the frame is taken, or its session ends: the cycle is run while the master waits, and then it replies
 pub answered : (old new : MultiView) (place : ℕ) (bytes : List ℕ) (did : Did) (frame : List ℕ) (before accepted ready last : MasterView) (input : List ℕ) (put : List MasterView) → slice_get old.masters place ≡ Some before
@@ -94,53 +96,34 @@ answered old new place bytes did frame before accepted ready last input put at a
     let what : Move = move.Deliver bytes in
     let p = at_place IsWhere cs old.masters place before h.masters at in
     let c : Connection = p.there in
-    let d : Connection = with_event what c in
     let u = accepts.under_way c.settings c.deeds p.holds in
     let taken : tells_due (next_deed what c).did ≡ true = sym (ap (λ (x : Did). tells_due x) u.did) ∙ sym told ∙ waiting in
-    let with_frame : Meant = with_one m place what c in
-    let inputs : new.inputs ≡ map outputs_at with_frame.connections =
-    ni ∙ ap₂ (λ (xs : List (List ℕ)) (x : List ℕ). slice_set xs place x) h.inputs_are (reads.shows _ u.waits) ∙ sym (map-set outputs_at cs place d)
+    let heard : Meant = event_at (suc place) what m in
+    let inputs : new.inputs ≡ map outputs_at heard.connections =
+    ni ∙ ap₂ (λ (xs : List (List ℕ)) (x : List ℕ). slice_set xs place x) h.inputs_are (reads.shows _ u.waits) ∙ sym (ap (map outputs_at) (event_set cs place c what p.is) ∙ map-set outputs_at cs place (with_event what c))
     in
-    let lens : map own_len (slice_set old.masters place accepted) ≡ map offer_len with_frame.connections =
-    map_set own_len old.masters place before accepted at (ap (λ s. s.lengths.master) same_settings) ∙ own_lens cs old.masters h.masters ∙ sym (map_set offer_len cs place c d p.is refl)
+    let lens : map own_len (slice_set old.masters place accepted) ≡ map offer_len heard.connections =
+    map_set own_len old.masters place before accepted at (ap (λ s. s.lengths.master) same_settings) ∙ own_lens cs old.masters h.masters ∙ sym (event_keeps offer_len (suc place) what cs (λ c. refl))
     in
-    let came : List ℕ × Did = (bytes, did) in
-    let here : Stands (Some came) c accepted = subst (λ (due : Bool). StandsIf (Some came) due c accepted) (sym waiting) u.waits in
-    let same : slice_set cs place c ≡ cs = ap (slice_set cs place) (sym (get_or_from_slice_get cs place c c p.is)) ∙ set-get_or cs place c in
-    let stand : AllZip (Stands (Some came)) cs (slice_set old.masters place accepted) =
-    subst (λ (xs : List Connection). AllZip (Stands (Some came)) xs (slice_set old.masters place accepted)) same
-    (zip_set (Stands (Some came)) cs old.masters place c accepted (stand-alike came cs old.masters h.masters) here)
-    in
-    let a : Answer = answer false with_frame in
-    let y = cycle_put with_frame false (Some came) cs old.app new.app new.inputs (slice_set old.masters place accepted) put new.changed h.app_is inputs lens stand cycle in
+    let a : Answer = answer false heard in
+    let x : RunsBy a m.app (map outputs_at heard.connections) (slice_set old.masters place accepted) new.app put new.changed = rw (inputs, h.app_is, lens) at cycle in
     let offered : List Connection = with_offers a.outputs cs in
-    let q = at_place (Stands (Some came)) offered put place ready y.put.stand ready_at in
-    let e : Connection = with_event what q.there in
-    let waits : Waits ready (delivery_at q.there came) = subst (λ (due : Bool). StandsIf (Some came) due q.there ready) due q.holds in
-    let same_did : (next_deed what q.there).did ≡ record did { sent = true } = replies.did (delivery_at q.there came) waits ∙ ap (λ (b : Bool). record did { sent = b }) due in
-    let shows : outputs_at e ≡ outputs_at d =
-    same_outputs c q.there bytes (same_at (λ (x : Connection). x.settings) (λ (x : Connection). x.settings) offered cs place q.there c (all_settings_put cs a.outputs) q.is p.is)
-    (same_at outputs_at outputs_at offered cs place q.there c (all_outputs_put cs a.outputs) q.is p.is)
-    (ap (λ (x : Did). x.took) same_did ∙ ap (λ (x : Did). x.took) u.did) (ap (λ (x : Did). x.reset) same_did ∙ ap (λ (x : Did). x.reset) u.did)
-    in
-    let kept : map outputs_at with_frame.connections ≡ map outputs_at (slice_set offered place e) =
-    map-set outputs_at cs place d ∙ ap₂ (λ (xs : List (List ℕ)) (x : List ℕ). slice_set xs place x) (sym (all_outputs_put cs a.outputs)) (sym shows) ∙ sym (map-set outputs_at offered place e)
-    in
-    let replied : Stands (Some came) e last = subst (λ (due : Bool). StandsIf (Some came) due e last) (sym (ap due_in (replies.is_after _ waits).is)) (replies.is_after _ waits) in
-    record {
-      cycle = Some a;
-      cycle_is = cycle-is m place c bytes true p.is taken ∙ ap (λ (x : Meant). Some (answer false x)) (event_is m place c what p.is);
-      there = q.there;
-      is = q.is;
-      stands = record {
-        masters = stand-again came (slice_set offered place e) new.masters rest (rw nm (zip_set (Stands (Some came)) offered put place e last y.put.stand replied));
-        app_is = y.app_is;
-        inputs_are = inputs ∙ kept;
-        changed_are = y.put.told_are;
-        sound = record {
-          answered = map_set offer_at offered place q.there e q.is refl ∙ y.answered;
-          guarded = subst (λ (xs : List (List ℕ)). GuardsBy m.app.guards xs a.outputs) kept y.guarded;
-        };
+    let same : slice_set cs place c ≡ cs = ap (slice_set cs place) (sym (get_or_from_slice_get cs place c c p.is)) ∙ set-get_or cs place c in
+    let stand = rw same at (zip_set (Stands bytes did) cs old.masters place c accepted (stand_alike bytes did cs old.masters h.masters) (inr (u.waits, waiting))) in
+    let y = all_put (Stands bytes did) (stands_put bytes did) 1 cs (slice_set old.masters place accepted) a.outputs put new.changed stand x.puts in
+    let q = at_place (Stands bytes did) offered put place ready y.0 ready_at in
+    let waits = waits_there bytes did q.there ready due q.holds in
+    let same_did : (next_deed what q.there).did ≡ record did { sent = true } = replies.did (delivery_at q.there bytes did) waits ∙ ap (λ (b : Bool). record did { sent = b }) due in
+    let kept : map outputs_at heard.connections ≡ map outputs_at (event_on (suc place) what offered) = sym (outputs_delivered (suc place) bytes cs a.outputs) in
+    let stands : StandsIn cs (Some a) (event_at (suc place) what (with_cycle (Some a) m)) new = record {
+      masters = rw (event_set offered place q.there what q.is) (stand_again bytes did (slice_set offered place (with_event what q.there)) new.masters rest (rw nm (zip_set (Stands bytes did) offered put place (with_event what q.there) last y.0 (inl (replies.is_after _ waits)))));
+      app_is = x.app_is;
+      inputs_are = inputs ∙ kept;
+      changed_are = y.1;
+      sound = record {
+        answered = event_keeps offer_at (suc place) what offered (λ c. refl) ∙ y.2;
+        guarded = subst (λ (xs : List (List ℕ)). GuardsBy m.app.guards xs a.outputs) kept x.guarded;
       };
-      deed_is = same_deed what _ _ _ _ same_did (sym (replies.sent (delivery_at q.there came) waits));
     }
+    in
+    delivers_so settings app old new calls place bytes _ frame (Some a) q.there h (cycle-is m place c bytes true p.is taken) q.is stands (same_deed what _ _ _ _ same_did (sym (replies.sent (delivery_at q.there bytes did) waits)))

@@ -1,10 +1,50 @@
--- What a call does, from what it does to the masters, the inputs and the application.
-use Rattle.multi_master.proofs.Common.{AllZip, AnswersTick, AppView, ChangeApp, Connection, Did, Follows, GuardsBy, HavePut, IsWhere, MasterView, Meant, MultiView, PutsEach, RunsCycle, Stands, Tick, TicksEach, all_tick, answer, changed_from, meant, numbers_of, offer_at, offer_len, outputs_at, own_len, with_cycle, with_offers}
-use Rattle.std.proofs.Common.{◌≡◌, ℕ, List, [], ◌∷◌, map, Option, Some, None, Bool, true, false, refl, sym, ap, ap₂, subst, ◌∙◌, arith}
-use Rattle.std.proofs.lemmas.Slice.Zip.{AllZip-long}
-use Rattle.multi_master.proofs.Putting.{offers_put, all_outputs_put}
+-- What a call does, from what it does to the masters, the inputs and the application; first how all masters tick.
+use Rattle.multi_master.proofs.Common.{AllZip, AnswersTick, AppView, Cause, ChangeApp, Connection, Did, Follows, GuardsBy, IsRun, IsWhere, MasterView, MayBeRead, Meant, MultiView, RunsBy, RunsCycle, Tick, TicksEach, TicksOne, all_tick, answer, changed_from, meant, next_deed, numbers_of, offer_len, outputs_at, own_len, setup, with_cycle, with_event, with_offers}
+use Rattle.std.proofs.Common.{◌≡◌, ℕ, List, [], ◌∷◌, map, Option, Some, None, Bool, true, false, refl, sym, ap, ap₂, subst, ◌∙◌, suc, ◌++◌}
+use Rattle.multi_master.proofs.Putting.{all_outputs_put, all_put, where_put}
 use Rattle.multi_master.proofs.Reading.{StandsIn, stands_so}
-use Rattle.multi_master.proofs.Ticking.{told_ticked}
+use Rattle.param_load.specs.declared.entry.Move.TheVariants as move
+use Rattle.multi_master.proofs.Quiet.{quiet_tick}
+
+-- the outputs of a master are as they were read, where they are read only if its session ended
+read-so : (c : Connection) (m : MasterView) (before after : List ℕ) (r : Option Cause) → (next_deed move.Tick c).did.reset ≡ r → IsRun (setup c) c.deeds → IsWhere (with_event move.Tick c) m
+    → before ≡ outputs_at c → MayBeRead r m before after → after ≡ outputs_at (with_event move.Tick c)
+read-so c m before after (Some why) e run w b p = p.shows c.settings _ w
+read-so c m before after None e run w b p = p ∙ b ∙ sym (quiet_tick (setup c) c.deeds run e)
+
+-- connections whose masters ticked: so these stand, these are their outputs, and so it is told what they did and sent
+record HaveTicked (cs : List Connection) (masters : List MasterView) (read : List (List ℕ)) (dids : List Did) (sent : List (List ℕ)) : Type 0 where
+  stand : AllZip IsWhere (map (with_event move.Tick) cs) masters
+  read_are : read ≡ map outputs_at (map (with_event move.Tick) cs)
+  dids_are : dids ≡ map (λ c. (next_deed move.Tick c).did) cs
+  sent_are : sent ≡ map (λ c. (next_deed move.Tick c).sent) cs
+
+all_ticked : (cs : List Connection) (before : List MasterView) (inputs : List (List ℕ)) (after : List MasterView) (read : List (List ℕ)) (dids : List Did) (sent : List (List ℕ)) → AllZip IsWhere cs before
+    → inputs ≡ map outputs_at cs → TicksEach before inputs after read dids sent → HaveTicked cs after read dids sent
+all_ticked [] [] [] [] [] [] [] h e t = record { stand = tt; read_are = refl; dids_are = refl; sent_are = refl }
+all_ticked (c ∷ cs) (m ∷ before) (input ∷ inputs) (m' ∷ after) (now ∷ read) (did ∷ dids) (frame ∷ sent) h e t =
+    let stands : IsWhere (with_event move.Tick c) m' = t.0.follows.is_after c.settings c.deeds h.0 in
+    let did-is : did ≡ (next_deed move.Tick c).did = t.0.answers.did c.settings c.deeds h.0 in
+    let is : now ≡ outputs_at (with_event move.Tick c) = read-so c m' input now did.reset (sym (ap (λ (d : Did). d.reset) did-is)) h.0.reached stands (cc e) t.0.read in
+    let sent-is = t.0.answers.sent c.settings c.deeds h.0 in
+    let rest = all_ticked cs before inputs after read dids sent h.1 (cc e) t.1 in
+    record { stand = (stands, rest.stand); read_are = cc; dids_are = cc; sent_are = cc }
+all_ticked [] [] _ _ _ _ _ h e t = absurd t
+all_ticked (c ∷ cs) (m ∷ before) _ _ _ _ _ h e t = absurd t
+all_ticked _ _ _ _ _ _ _ h e t = absurd h
+
+-- one master more ticks
+pub ticks_more : (before : List MasterView) (inputs : List (List ℕ)) (after : List MasterView) (read : List (List ℕ)) (dids : List Did) (sent : List (List ℕ)) (m : MasterView) (input : List ℕ) (m' : MasterView) (now : List ℕ) (did : Did) (frame : List ℕ)
+    → TicksEach before inputs after read dids sent → TicksOne m input m' now did frame
+    → TicksEach (before ++ m ∷ []) (inputs ++ input ∷ []) (after ++ m' ∷ []) (read ++ now ∷ []) (dids ++ did ∷ []) (sent ++ frame ∷ [])
+ticks_more [] [] [] [] [] [] m input m' now did frame t one = (one, tt)
+ticks_more (_ ∷ before) (_ ∷ inputs) (_ ∷ after) (_ ∷ read) (_ ∷ dids) (_ ∷ sent) m input m' now did frame t one = (t.0, ticks_more before inputs after read dids sent m input m' now did frame t.1 one)
+ticks_more _ _ _ _ _ _ m input m' now did frame t one = absurd t
+
+-- a tick changes no offer, so the same answers are others than the offers before and after it
+pub told_ticked : (n : ℕ) (cs : List Connection) (loads : List (List ℕ)) → changed_from n (map (with_event move.Tick) cs) loads ≡ changed_from n cs loads
+told_ticked n (c ∷ cs) (load ∷ loads) = rw (told_ticked (suc n) cs loads) refl
+told_ticked n _ _ = refl
 
 -- masters have the lengths of their connections
 pub own_lens : (cs : List Connection) (ms : List MasterView) → AllZip IsWhere cs ms → map own_len ms ≡ map offer_len cs
@@ -12,40 +52,21 @@ own_lens [] [] h = refl
 own_lens (c ∷ cs) (m ∷ ms) h = ap₂ (λ (n : ℕ) (ns : List ℕ). n ∷ ns) (ap own_len h.0.is) (own_lens cs ms h.1)
 own_lens _ _ h = absurd h
 
--- a cycle was run over what is meant, and its answers were put at these connections
-pub record CyclePut (m : Meant) (ticked : Bool) (frame : Option (List ℕ × Did)) (cs : List Connection) (masters : List MasterView) (app : AppView) (told : List ℕ) : Type 0 where
-  pub put : HavePut frame cs (answer ticked m).outputs masters told
-  pub app_is : app ≡ record m.app { holds = (answer ticked m).holds }
-  pub answered : map offer_at (with_offers (answer ticked m).outputs cs) ≡ (answer ticked m).outputs
-  pub guarded : GuardsBy m.app.guards (map outputs_at m.connections) (answer ticked m).outputs
-
-pub cycle_put : (m : Meant) (ticked : Bool) (frame : Option (List ℕ × Did)) (cs : List Connection) (old new : AppView) (inputs : List (List ℕ)) (middle masters : List MasterView) (told : List ℕ) → old ≡ m.app
-    → inputs ≡ map outputs_at m.connections → map own_len middle ≡ map offer_len m.connections → AllZip (Stands frame) cs middle → RunsCycle old ticked inputs middle new masters told
-    → CyclePut m ticked frame cs masters new told
-cycle_put m ticked frame cs old new inputs middle masters told a i l w r =
-    let both : (r.answers ≡ (answer ticked m).outputs) × (new ≡ record m.app { holds = (answer ticked m).holds }) = grind arith in
-    let p : PutsEach middle (answer ticked m).outputs masters told = subst (λ (loads : List (List ℕ)). PutsEach middle loads masters told) both.0 r.puts in
-    record {
-      put = p.each frame cs w;
-      app_is = both.1;
-      answered = offers_put (answer ticked m).outputs cs (p.long ∙ AllZip-long (Stands frame) cs middle w);
-      guarded = rw (← both.0, ← i, ← a) r.guarded;
-    }
-
--- it was run while no frame was due, by connections where the same offers are changed
+-- a cycle was run while no frame was due, by connections where the same offers are changed
 cycle-stands : (m : Meant) (ticked : Bool) (cs : List Connection) (old : AppView) (middle : List MasterView) (new : MultiView) → ((loads : List (List ℕ)) → changed_from 1 m.connections loads ≡ changed_from 1 cs loads)
     → old ≡ m.app → new.inputs ≡ map outputs_at m.connections → AllZip IsWhere m.connections middle → RunsCycle old ticked new.inputs middle new.app new.masters new.changed
     → StandsIn cs (Some (answer ticked m)) (with_cycle (Some (answer ticked m)) m) new
 cycle-stands m ticked cs old middle new same a i w r =
     let loads : List (List ℕ) = (answer ticked m).outputs in
-    let p = cycle_put m ticked None m.connections old new.app new.inputs middle new.masters new.changed a i (own_lens m.connections middle w) w r in
+    let x : RunsBy (answer ticked m) m.app (map outputs_at m.connections) middle new.app new.masters new.changed = rw (i, a, own_lens m.connections middle w) at r in
+    let put = all_put IsWhere where_put 1 m.connections middle loads new.masters new.changed w x.puts in
     let kept : map outputs_at m.connections ≡ map outputs_at (with_offers loads m.connections) = sym (all_outputs_put m.connections loads) in
     record {
-      masters = p.put.stand;
-      app_is = p.app_is;
+      masters = put.0;
+      app_is = x.app_is;
       inputs_are = i ∙ kept;
-      changed_are = p.put.told_are ∙ ap numbers_of (same loads);
-      sound = record { answered = p.answered; guarded = subst (λ (xs : List (List ℕ)). GuardsBy m.app.guards xs loads) kept p.guarded };
+      changed_are = put.1 ∙ ap numbers_of (same loads);
+      sound = record { answered = put.2; guarded = subst (λ (xs : List (List ℕ)). GuardsBy m.app.guards xs loads) kept x.guarded };
     }
 
 -- a tick of all connections
@@ -54,14 +75,14 @@ pub tick_follows : (old new : MultiView) (middle : List MasterView) (dids : List
 tick_follows old new middle dids frames t r = record {
   stands = λ settings app calls h.
       let m : Meant = meant settings app calls in
-      let x = t.each m.connections h.masters h.inputs_are in
+      let x = all_ticked m.connections old.masters old.inputs middle new.inputs dids frames h.masters h.inputs_are t in
       stands_so settings app old new calls Tick _ _ h refl refl (cycle-stands (all_tick m) true m.connections old.app middle new (told_ticked 1 m.connections) h.app_is x.read_are x.stand r);
 }
 
 pub tick_answers : (old : MultiView) (middle : List MasterView) (read : List (List ℕ)) (dids : List Did) (frames : List (List ℕ)) → TicksEach old.masters old.inputs middle read dids frames → AnswersTick old dids frames
 tick_answers old middle read dids frames t = record {
-  dids = λ settings app calls h. (t.each (meant settings app calls).connections h.masters h.inputs_are).dids_are;
-  sent = λ settings app calls h. (t.each (meant settings app calls).connections h.masters h.inputs_are).sent_are;
+  dids = λ settings app calls h. (all_ticked (meant settings app calls).connections old.masters old.inputs middle read dids frames h.masters h.inputs_are t).dids_are;
+  sent = λ settings app calls h. (all_ticked (meant settings app calls).connections old.masters old.inputs middle read dids frames h.masters h.inputs_are t).sent_are;
 }
 
 -- another application runs

@@ -6,6 +6,5 @@ pub mod Looping
 pub mod Neighbours
 pub mod Putting
 pub mod Reading
-pub mod Ticking
 pub mod Quiet
 pub mod Common

@@ -1,6 +1,6 @@
 -- Loops over lists, place by place.
-use Rattle.multi_master.proofs.Common.{All-append, All-weaker, AreNumbers, IsNumber, common_steps, get_or_from_slice_get, map-append, slice_get_within, take_more, take_more_set}
-use Rattle.std.proofs.Common.{◌≡◌, ◌≤◌, ◌<◌, ℕ, ◌+◌, List, [], ◌∷◌, ◌++◌, map, length, take, slice_get, slice_set, Some, Bool, if◌then◌else◌, sym, ap, ap₂, ◌∙◌, arith, length-append}
+use Rattle.multi_master.proofs.Common.{All-append, All-weaker, AreNumbers, IsNumber, common_steps, get_or_from_slice_get, slice_get_within, take_more}
+use Rattle.std.proofs.Common.{◌≡◌, ◌≤◌, ℕ, ◌+◌, List, [], ◌∷◌, ◌++◌, take, slice_get, slice_set, Some, Bool, if◌then◌else◌, ap, ◌∙◌, arith, length-append}
 use Rattle.std.proofs.lemmas.Option.{gets}
 
 -- from a place on, a list is as it was
@@ -13,15 +13,6 @@ untouched_more i old now now' y h set = λ k late. let was = h k (omega arith) i
 -- the first places of a list with the next one
 pub next_taken : {A : Type 0} (xs : List A) (i : ℕ) (x : A) → slice_get xs i ≡ Some x → take (i + 1) xs ≡ take i xs ++ x ∷ []
 next_taken xs i x at = take_more xs i x (slice_get_within xs i x at) ∙ ap (λ y. take i xs ++ y ∷ []) (get_or_from_slice_get xs i x x at)
-
--- what the steps so far say of these places of a list that is written, with one step more
-pub written_more : {S A : Type 0} (f : S → A) (steps : List S) (x : S) (now now' : List A) (i : ℕ) → map f steps ≡ take i now → i < length now → now' ≡ slice_set now i (f x)
-    → map f (steps ++ x ∷ []) ≡ take (i + 1) now'
-written_more f steps x now now' i h within set = map-append f steps (x ∷ []) ∙ ap (λ ys. ys ++ f x ∷ []) h ∙ sym (ap (take (i + 1)) set ∙ take_more_set now i (f x) within)
-
--- a list that says what the steps so far say, with one step more
-pub mapped_more : {S A : Type 0} (f : S → A) (steps : List S) (x : S) (ys : List A) (y : A) → ys ≡ map f steps → y ≡ f x → ys ++ y ∷ [] ≡ map f (steps ++ x ∷ [])
-mapped_more f steps x ys y h is = ap₂ (λ zs z. zs ++ z ∷ []) h is ∙ sym (map-append f steps (x ∷ []))
 
 -- the numbers of the connections up to a place, and of the next one where it is told
 pub number_told : (told : Bool) (i : ℕ) (old new : List ℕ) → new ≡ old ++ (if told then (i + 1) ∷ [] else []) → AreNumbers i old → AreNumbers (i + 1) new

@@ -2,6 +2,7 @@
 use Rattle.multi_master.proofs.Common.{Answer, AppView, Call, ChangeApp, Connection, Deed, Deliver, MasterSettings, Meant, Move, Nonce, Tick, after, all_tick, append-nil, common_steps, connection, cycle_in, event_on, events_of, fresh, is_offer, meant, run, run_append, setup, step, with_cycle, with_event, with_offers}
 use Rattle.std.proofs.Common.{◌≡◌, ℕ, zero, suc, ◌==◌, List, [], ◌∷◌, ◌++◌, map, slice_get, Option, Some, None, IfSome, Bool, true, false, if◌then◌else◌, refl, sym, ap, subst, ◌∙◌, arith}
 use Rattle.std.proofs.lemmas.List.{map-id}
+use Rattle.std.proofs.lemmas.Option.{IfSome_then}
 use Rattle.std.proofs.lemmas.Simd.{map-map}
 use Rattle.param_load.specs.declared.entry.Move.TheVariants as move
 use Rattle.multi_master.specs.Own.{own_part, own_events, is_no_put, without_puts}
@@ -10,9 +11,9 @@ use lib.Dec.{compare_is_eq}
 use Prim.Native.Nat.compare
 
 -- a connection's deeds are the run of their events, which are its own and offers that were put
-pub record IsOwn (own : List Move) (c : Connection) : Type 0 where
-  pub run : c.deeds ≡ run (setup c) (events_of c.deeds)
-  pub events : without_puts (events_of c.deeds) ≡ own
+record IsOwn (own : List Move) (c : Connection) : Type 0 where
+  run : c.deeds ≡ run (setup c) (events_of c.deeds)
+  events : without_puts (events_of c.deeds) ≡ own
 
 no-puts-more : (xs : List Move) (what : Move) → without_puts (xs ++ what ∷ []) ≡ without_puts xs ++ (if is_no_put what then what ∷ [] else [])
 no-puts-more xs what = grind (arith, common_steps)
@@ -72,10 +73,16 @@ fresh-own [] k = tt
 fresh-own (s ∷ ss) zero = record { run = refl; events = refl }
 fresh-own (s ∷ ss) (suc k) = fresh-own ss k
 
-pub all_own : (settings : List MasterSettings) (app : AppView) (calls : List Call) (link : ℕ) → IfSome (connection link (meant settings app calls)) (IsOwn (own_events link calls))
+all_own : (settings : List MasterSettings) (app : AppView) (calls : List Call) (link : ℕ) → IfSome (connection link (meant settings app calls)) (IsOwn (own_events link calls))
 all_own settings app calls zero = tt
 all_own settings app [] (suc k) = fresh-own settings k
 all_own settings app (call ∷ calls) (suc k) = call-own (own_events (suc k) calls) call (meant settings app calls) k (all_own settings app calls (suc k))
+
+pub runs_alone : (settings : List MasterSettings) (app : AppView) (calls : List Call) (link : ℕ) → IfSome (connection link (meant settings app calls)) (λ c. c.deeds ≡ run (setup c) (events_of c.deeds))
+runs_alone settings app calls link = IfSome_then _ (all_own settings app calls link) (λ c (own : IsOwn (own_events link calls) c). own.run)
+
+pub events_alone : (settings : List MasterSettings) (app : AppView) (calls : List Call) (link : ℕ) → IfSome (connection link (meant settings app calls)) (λ c. without_puts (events_of c.deeds) ≡ own_events link calls)
+events_alone settings app calls link = IfSome_then _ (all_own settings app calls link) (λ c (own : IsOwn (own_events link calls) c). own.events)
 
 -- what is the same after an event stays so at all connections
 pub event_keeps : {X : Type 0} (f : Connection → X) (link : ℕ) (what : Move) (cs : List Connection) → ((c : Connection) → f (with_event what c) ≡ f c) → map f (event_on link what cs) ≡ map f cs

@@ -1,5 +1,5 @@
 -- Events that leave offers and outputs as they are.
-use Rattle.multi_master.proofs.Common.{Cause, Connection, Deed, Did, IsRun, Move, OfMaster, Setup, deed, held_up, next_deed, out, outputs, outputs_at, step, tells_due, with_event, zeros}
+use Rattle.multi_master.proofs.Common.{Cause, Deed, Did, IsRun, Move, Setup, deed, held_up, out, outputs, step, tells_due, zeros}
 use Rattle.std.proofs.Common.{◌≡◌, ℕ, List, [], ◌∷◌, Option, None, is_some, false, ◌||◌, if◌then◌else◌, refl, sym, ◌∙◌, arith, rules}
 use Rattle.fsoe_base.specs.declared.did.Took.{Took}
 use Rattle.param_load.specs.declared.entry.Move.TheVariants as move
@@ -42,12 +42,3 @@ pub quiet_deed : (s : Setup) (e : List Deed) (bytes : List ℕ) → IsRun s e �
 quiet_deed s e bytes r h =
     let x : Deed = step s e (move.Deliver bytes) in
     sym (quiet s e (move.Deliver bytes) x.did x.sent tt h (reacts s e (move.Deliver bytes) r tt))
-
-frame-brings : (c : Connection) (bytes : List ℕ) → outputs_at (with_event (move.Deliver bytes) c)
-    ≡ (if is_some (next_deed (move.Deliver bytes) c).did.reset then zeros (OfMaster c.settings) else held_up (OfMaster c.settings) [] 0 (next_deed (move.Deliver bytes) c).did.took (outputs_at c))
-frame-brings c bytes = grind arith
-
-pub same_outputs : (c d : Connection) (bytes : List ℕ) → d.settings ≡ c.settings → outputs_at d ≡ outputs_at c
-    → (next_deed (move.Deliver bytes) d).did.took ≡ (next_deed (move.Deliver bytes) c).did.took → (next_deed (move.Deliver bytes) d).did.reset ≡ (next_deed (move.Deliver bytes) c).did.reset
-    → outputs_at (with_event (move.Deliver bytes) d) ≡ outputs_at (with_event (move.Deliver bytes) c)
-same_outputs c d bytes h k l m = search (rules, frame-brings)

@@ -19,14 +19,10 @@ shown_at {A = A} rule holds guards inside now link from m shown word s read f sa
 }
 
 -- an event at a connection that exists
-event_set : (cs : List Connection) (place : ℕ) (c : Connection) (what : Move) → slice_get cs place ≡ Some c → event_on (suc place) what cs ≡ slice_set cs place (with_event what c)
+pub event_set : (cs : List Connection) (place : ℕ) (c : Connection) (what : Move) → slice_get cs place ≡ Some c → event_on (suc place) what cs ≡ slice_set cs place (with_event what c)
 event_set [] place c what h = absurd (cc h)
 event_set (a ∷ cs) zero c what h = let i : a ≡ c = cc in ap (λ (x : Connection). with_event what x ∷ cs) i
 event_set (a ∷ cs) (suc place) c what h = ap (λ (xs : List Connection). a ∷ xs) (event_set cs place c what h)
-
-pub event_is : (m : Meant) (place : ℕ) (c : Connection) (what : Move) → slice_get m.connections place ≡ Some c
-    → event_at (suc place) what m ≡ record m { connections = slice_set m.connections place (with_event what c) }
-event_is m place c what h = ap (λ (cs : List Connection). record m { connections = cs }) (event_set m.connections place c what h)
 
 -- it stands where a call led, with the answer of its cycle, if it ran one, over these connections
 pub record StandsIn (cs : List Connection) (o : Option Answer) (later : Meant) (v : MultiView) : Type 0 where
@@ -41,22 +37,19 @@ pub stands_so : (settings : List MasterSettings) (app : AppView) (old v : MultiV
 stands_so settings app old v calls call o later h k l m = grind arith
 
 -- an event at one connection that changes no outputs, and runs no cycle
-abbrev pub with_one : Meant → ℕ → Move → Connection → Meant
-with_one m place what c = record m { connections = slice_set m.connections place (with_event what c) }
-
 pub quiet_stands : (settings : List MasterSettings) (app : AppView) (old new : MultiView) (calls : List Call) (place : ℕ) (what : Move) (c : Connection) (last : MasterView) → StandsFor settings app old calls
     → slice_get (meant settings app calls).connections place ≡ Some c → outputs_at (with_event what c) ≡ outputs_at c → IsWhere (with_event what c) last
     → new.masters ≡ slice_set old.masters place last → new.app ≡ old.app → new.inputs ≡ old.inputs → new.changed ≡ []
-    → StandsIn (meant settings app calls).connections None (with_one (meant settings app calls) place what c) new
+    → StandsIn (meant settings app calls).connections None (event_at (suc place) what (meant settings app calls)) new
 quiet_stands settings app old new calls place what c last h is o w nm na ni nc =
     let cs : List Connection = (meant settings app calls).connections in
-    record {
+    rw (event_set cs place c what is) (record {
       masters = rw nm (zip_set IsWhere cs old.masters place (with_event what c) last h.masters w);
       app_is = na ∙ h.app_is;
       inputs_are = ni ∙ h.inputs_are ∙ sym (map_set outputs_at cs place c (with_event what c) is o);
       changed_are = nc;
       sound = tt;
-    }
+    })
 
 -- a session id is set at one connection
 pub nonce_follows : (old new : MultiView) (link place id : ℕ) (m last : MasterView) → Placed old.masters link place m → core.Follows m (move.Nonce id) last
@@ -66,6 +59,6 @@ nonce_follows old new link place id m last at f nm na ni nc = record {
       let later : Meant = meant settings app calls in
       let p = at_place IsWhere later.connections old.masters place m h.masters at.at in
       let c : Connection = p.there in
-      stands_so settings app old new calls (Nonce link id) None (with_one later place (move.Nonce id) c) h refl (ap (λ k. event_at k (move.Nonce id) later) at.number ∙ event_is later place c (move.Nonce id) p.is)
+      stands_so settings app old new calls (Nonce link id) None (event_at (suc place) (move.Nonce id) later) h refl (ap (λ k. event_at k (move.Nonce id) later) at.number)
       (quiet_stands settings app old new calls place (move.Nonce id) c last h p.is refl (f.is_after c.settings c.deeds p.holds) nm na ni nc);
 }

@@ -114,13 +114,9 @@ pub record Follows (old : MultiView) (call : Call) (new : MultiView) : Type 0 wh
   pub stands : (settings : List MasterSettings) (app : AppView) (calls : List Call) → StandsFor settings app old calls
       → StandsFor settings app new (call ∷ calls)
 
--- the deeds of the connection with this number, none where there is no such connection
-abbrev pub deeds_at : ℕ → Meant → List Deed
-deeds_at link m = option_map_or (λ c. c.deeds) (connection link m) []
-
--- the newest deed of the connection with this number
+-- the newest deed of the connection with this number, none where there is no such connection
 abbrev pub newest_at : ℕ → Meant → Option Deed
-newest_at link m = slice_get (deeds_at link m) 0
+newest_at link m = slice_get (option_map_or (λ c. c.deeds) (connection link m) []) 0
 
 -- what is done with a frame, and the frame that is sent, are those of the newest deed of its connection
 pub record AnswersFrame (old : MultiView) (link : ℕ) (bytes : List ℕ) (done : Did) (sent : List ℕ) : Type 0 where

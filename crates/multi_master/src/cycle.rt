@@ -26,7 +26,7 @@ fn put_answer(master: &mut Master, answer: &[u8]) -> bool
 fn put_answers(masters: &mut [Master], answers: &[Image], changed: &mut ArrayVec<u16, MOST_LINKS>)
     requires fits { map length answers.now ≡ map own_len masters.old }
     requires most { length masters.old ≤ MOST_LINKS }
-    ensures puts { PutsEach masters.old answers.now masters.new changed.new.items }
+    ensures puts { PutsEach 1 masters.old answers.now masters.new changed.new.items }
     ensures numbers { AreNumbers (length masters.new) changed.new.items }
     ensures settings { map settings_in masters.new ≡ map settings_in masters.old }
     ensures due { map due_in masters.new ≡ map due_in masters.old }

@@ -1,15 +1,62 @@
 -- A tick is late for a bound only where a pair has another entry: from the first of the still moments that reach it on
--- the bound is quiet. Acts and what is heard are listed newest first.
-use Rattle.plant_model.proofs.Common.{Act, AllSound, Beginning, BoundSpec, Happen, HasLinks, JournalStep, LinkConf, PullFrom, Said, StaysOff, append-nil, first_of_both, is_on, is_still, is_tick, journal, limit, line_step, offers, option_map_or, steps_of, ticks}
-use Rattle.std.proofs.Common.{◌≡◌, ◌≤◌, ℕ, suc, ◌+◌, ◌-◌, Bool, true, false, cond, ◌||◌, List, [], ◌∷◌, ◌++◌, Option, None, refl, sym, ap, ap₂, ◌∙◌, arith, rules}
+-- the bound is quiet. No act of a tick but the line of the script changes what a slave offers, or which application
+-- runs, and each cycle keeps off what the application guards. Acts and what is heard are listed newest first, steps
+-- oldest first.
+use Rattle.plant_model.proofs.Common.{Act, AllSound, Beginning, Bit, BoundSpec, Event, Happen, HasLinks, JournalStep, LinkConf, Offered, Parcel, PullFrom, Said, StaysOff, Unset, append-nil, first_of_both, is_on, is_still, is_tick, journal, limit, line_step, link_at, masters, next_offered, of_end, offer_step, offers, offers_bit, option_map_or, pair, steps_of, ticks}
+use Rattle.std.proofs.Common.{◌≡◌, ◌≤◌, ℕ, suc, ◌+◌, ◌-◌, Bool, true, false, cond, ◌||◌, List, [], ◌∷◌, ◌++◌, Option, None, refl, sym, ap, ap₂, ◌∙◌, arith, rules, ◌&&◌, not, All, Some}
 use Rattle.std.proofs.lemmas.Bool.{and_parts}
 use Rattle.reaction_bound.specs.Reaction as reaction
 use Rattle.plant_model.specs.BoundLines.{limit_by, limit_of, is_driven, is_ticking, heard, heard_before}
 use Rattle.plant_model.proofs.Reacting.{Clean, clean_at, clean_before, steps_off}
 use Rattle.plant_model.proofs.Since.{act_ticks, is_tick_act}
-use Rattle.plant_model.proofs.StillTicks.{Pulls, of_tick, stays_still}
 use Rattle.plant_model.proofs.FairPlant.{AreWorlds}
 use Rattle.plant_model.specs.Broken.{BrokenByOther}
+use Rattle.std.proofs.lemmas.List.Elements.{All-cons, All-nil, All-push}
+use Rattle.fsoe_base.specs.declared.command.End.TheVariants as side
+use Rattle.plant_model.specs.declared.event.PlantEvent.TheVariants as event
+use Rattle.plant_model.specs.declared.journal.JournalStep.TheVariants as step
+use Rattle.plant_model.proofs.Growing.{Keeps, steps_keep}
+use Rattle.plant_model.proofs.Lines.{each_listed}
+
+-- what the slave of connection k offers by a journal
+abbrev offered_by : LinkConf → ℕ → List JournalStep → Offered
+offered_by link k js = next_offered (of_end side.Slave (pair link k js))
+
+-- an offer at its master leaves it, and so does a frame that comes
+abbrev Leaves : LinkConf → ℕ → JournalStep → Type 0
+Leaves link k s = Keeps (λ w. next_offered (of_end side.Slave w)) link k s
+
+offer_leaves : (link : LinkConf) (k : ℕ) (x : ℕ × List ℕ) → Leaves link k (offer_step x)
+offer_leaves link k x w = grind arith
+
+-- a tick, and a pull, of a tick
+data IsOfTick : Act → Type 0 where
+  Ticks : IsOfTick (Happen (Event event.Tick))
+  Pulls : (gift : Option Parcel) → IsOfTick (PullFrom gift)
+
+act_leaves : (link : LinkConf) (k : ℕ) (b : Beginning) (act : Act) (done : List Act) → IsOfTick act → All (Leaves link k) (steps_of act (offers b act done))
+act_leaves link k b _ done Ticks = All-cons (Leaves link k) (step.Script event.Tick) _ (λ w. refl) (each_listed (Leaves link k) (offer_leaves link k) _)
+act_leaves link k b _ done (Pulls None) = All-nil (Leaves link k)
+act_leaves link k b _ done (Pulls (Some parcel)) = All-push (Leaves link k) _ (step.Pulled parcel) (each_listed (Leaves link k) (offer_leaves link k) _) (λ w. grind arith)
+
+act_offers : (link : LinkConf) (k : ℕ) (b : Beginning) (act : Act) (done : List Act) → IsOfTick act → offered_by link k (journal b (act ∷ done)) ≡ offered_by link k (journal b done)
+act_offers link k b act done h = steps_keep (λ w. next_offered (of_end side.Slave w)) link k (journal b done) (steps_of act (offers b act done)) (act_leaves link k b act done h)
+
+off_if : (o : Option LinkConf) (k bit : ℕ) (b : Beginning) (act : Act) (done : List Act) → IsOfTick act
+    → offers_bit bit (option_map_or (λ link. offered_by link k (journal b (act ∷ done))) o Unset) ≡ offers_bit bit (option_map_or (λ link. offered_by link k (journal b done)) o Unset)
+off_if o k bit b act done h = search (rules, act_offers)
+
+-- so a bound stays still through a tick
+stays_still : (b : Beginning) (bound : BoundSpec) (act : Act) (done : List Act) → IsOfTick act → is_still b bound (act ∷ done) ≡ is_still b bound done
+stays_still b bound act done h =
+    let same : (masters b (act ∷ done)).app.guards ≡ (masters b done).app.guards = grind arith in
+    ap₂ (λ (x y : Bool). not x && y) (off_if (link_at b.links bound.estop.link) bound.estop.link bound.estop.bit b act done h)
+    (ap (λ (guards : Bit → Bit → Bool). guards bound.drive bound.estop) same)
+
+-- a line that is a tick
+of_tick : (said : Said) → is_tick (line_step said) ≡ true → IsOfTick (Happen said)
+of_tick (Event event.Tick) h = Ticks
+of_tick _ h = absurd (cc h)
 
 -- a bound is still and quiet since some of these acts, after which at least so many ticks came
 data QuietFor (b : Beginning) (bound : BoundSpec) : List Act → ℕ → Type 0 where
@@ -44,8 +91,8 @@ quiet_now b bound done n still heard h k l = search (rules, here)
 not_late : (limit : ℕ) (on : Bool) (heard : List reaction.Heard) → (reaction.quiet_for (limit - 1) heard ≡ true → on ≡ false) → reaction.is_late limit (reaction.Tick on ∷ heard) ≡ false
 not_late limit on heard h = grind arith
 
--- before its newest line a bound was quiet for as long as was heard, and not broken: it is quiet after a tick, and where
--- it is still after another line
+-- before its newest line a bound was quiet for as long as was heard, and not broken: it is quiet after a tick, and
+-- where it is still after another line
 record KeptBefore (b : Beginning) (bound : BoundSpec) (done : List Act) (tick : Bool) (heard : List reaction.Heard) : Type 0 where
   quiet : (n : ℕ) → reaction.quiet_for n heard ≡ true → (tick || is_still b bound done) ≡ true → QuietFor b bound done (n + cond tick 1 0)
   none : reaction.broken_of (limit_of b.links bound) heard ≡ None

@@ -1,32 +1,19 @@
 -- A net that runs answers by looking back over its cycles.
-use Rattle.plant_model.proofs.Common.{Act, Answer, AppView, Beginning, Call, ChangeApp, Connection, Deliver, MasterSettings, Meant, Nonce, Tick, after, all_tick, answer, call_of, calls, connection, cycle_in, event_at, event_keeps, event_on, is_heard, is_offer, masters, meant, offer_len, option_and_then, option_to_list, outputs_at, settings, settings_alone, with_cycle, with_event, with_offers}
-use Rattle.std.proofs.Common.{◌≡◌, ℕ, zero, suc, Bool, true, false, List, [], ◌∷◌, ◌++◌, map, Option, Some, None, IfSome, if◌then◌else◌, refl, sym, ap, ap₂, ◌∙◌, arith}
+use Rattle.plant_model.proofs.Common.{Act, Answer, AppView, Beginning, Call, ChangeApp, Connection, Deliver, MasterSettings, Meant, Nonce, Tick, after, all_tick, answer, call_of, calls, connection, cycle_in, event_at, event_keeps, is_heard, masters, meant, offer_len, option_and_then, option_to_list, outputs_at, settings, settings_alone, with_cycle, with_event}
+use Rattle.std.proofs.Common.{◌≡◌, ℕ, true, false, List, [], ◌∷◌, ◌++◌, map, Option, Some, None, IfSome, refl, sym, ap, ap₂, ◌∙◌, arith}
 use Rattle.std.proofs.lemmas.List.{map-id}
 use Rattle.std.proofs.lemmas.Option.{cond_some}
 use Rattle.std.proofs.lemmas.Simd.{map-map}
 use Rattle.fb_net.specs.Calls as net
-use Rattle.fb_net.specs.Calls.{cycles_of, held_after}
+use Rattle.fb_net.specs.Calls.{held_after}
 use Rattle.fb_net.specs.NetView.{NetView}
 use Rattle.fb_net.specs.Standing.{IsNewNet}
 use Rattle.fb_net.specs.Outputs.{net_outputs}
 use Rattle.fb_net.specs.Values.{NetCycle}
 use Rattle.fb_net.proofs.Ruled.{rule_answers}
 use Rattle.param_load.specs.declared.entry.Move.TheVariants as move
-use Rattle.multi_master.proofs.Putting.{all_outputs_put, outputs_put}
+use Rattle.multi_master.proofs.Putting.{all_outputs_put, outputs_delivered}
 use Rattle.plant_model.specs.NetCycles.{AnswersByNet, app_begun, app_cycles, cycles_before, is_ticked, net_app, sent_lens, with_answered}
-
--- an answer that was put before a frame changes nothing of what the frame brings
-put_delivered : (c : Connection) (load bytes : List ℕ) (b : Bool) → outputs_at (with_event (move.Deliver bytes) (if b then c else with_event (move.Put load) c)) ≡ outputs_at (with_event (move.Deliver bytes) c)
-put_delivered c load bytes true = refl
-put_delivered c load bytes false = refl
-
-outputs_delivered : (link : ℕ) (bytes : List ℕ) (cs : List Connection) (loads : List (List ℕ))
-    → map outputs_at (event_on link (move.Deliver bytes) (with_offers loads cs)) ≡ map outputs_at (event_on link (move.Deliver bytes) cs)
-outputs_delivered link bytes cs [] = refl
-outputs_delivered zero bytes (c ∷ cs) (load ∷ loads) = all_outputs_put (c ∷ cs) (load ∷ loads)
-outputs_delivered (suc zero) bytes (c ∷ cs) (load ∷ loads) = ap₂ (λ (x : List ℕ) (xs : List (List ℕ)). x ∷ xs) (put_delivered c load bytes (is_offer load c)) (all_outputs_put cs loads)
-outputs_delivered (suc (suc place)) bytes (c ∷ cs) (load ∷ loads) = ap₂ (λ (x : List ℕ) (xs : List (List ℕ)). x ∷ xs) (outputs_put c load) (outputs_delivered (suc place) bytes cs loads)
-outputs_delivered link bytes [] (load ∷ loads) = refl
 
 -- the application that answers in a call
 abbrev answering : Call → Meant → AppView

@@ -1,13 +1,13 @@
 -- The masters of a plant did what their pairs in the journal say: connection by connection both have the same deeds.
-use Rattle.plant_model.proofs.Common.{Act, Answer, App, Beginning, Call, Connection, Deed, End, Entry, Happen, IsSomeAnd, JournalStep, LinkConf, MastersAgree, Meant, Move, PlantEvent, PullFrom, SaysEvent, Start, all_tick, append-nil, calls, changed_by, changed_from, connection, cycle_in, cycle_of, deeds, delivery_call, eq-eqb, event_on, fresh, if_same, is_offer, journal, link_at, masters, meant, next_of, offer_step, option_and_then, option_map, option_to_list, own_events, own_part, pair, settings, with_cycle, with_event, with_offers, world_after}
-use Rattle.std.proofs.Common.{◌≡◌, ◌≢◌, ℕ, zero, suc, ◌+◌, ◌<◌, ◌==◌, List, [], ◌∷◌, ◌++◌, map, slice_get, Option, Some, None, Bool, true, false, if◌then◌else◌, refl, sym, ap, ap₂, subst, ◌∙◌, append_assoc, arith}
+use Rattle.plant_model.proofs.Common.{Act, Answer, App, Beginning, Call, Connection, Deed, End, Entry, Happen, IfSome, IsSomeAnd, JournalStep, LinkConf, Meant, Move, PlantEvent, PullFrom, SaysEvent, Start, all_tick, append-nil, calls, changed_by, changed_from, connection, cycle_in, cycle_of, deeds, delivery_call, eq-eqb, event_on, fresh, if_same, is_offer, journal, link_at, masters, meant, next_of, offer_step, option_and_then, option_map, option_to_list, own_events, own_part, pair, settings, with_cycle, with_event, with_offers, world_after}
+use Rattle.std.proofs.Common.{◌≡◌, ◌≢◌, ℕ, zero, suc, ◌+◌, ◌<◌, ◌==◌, List, [], ◌∷◌, ◌++◌, map, slice_get, Option, Some, None, Bool, true, false, if◌then◌else◌, refl, sym, ap, ap₂, ◌∙◌, append_assoc, arith}
 use Rattle.std.proofs.lemmas.Option.{slice_get-map}
 use Rattle.fsoe_base.specs.declared.command.End.TheVariants as side
 use Rattle.param_load.specs.declared.entry.Move.TheVariants as move
 use Rattle.schedule_file.specs.declared.event.Event.{Event}
 use Rattle.schedule_file.specs.declared.event.Event.TheVariants as at
 use Rattle.multi_master.proofs.Neighbours.{suc-suc}
-use Rattle.multi_master.proofs.Ticking.{told_ticked}
+use Rattle.multi_master.proofs.Following.{told_ticked}
 use Rattle.plant_model.specs.declared.event.PlantEvent.TheVariants as event
 use Rattle.plant_model.specs.declared.journal.JournalStep.TheVariants as step
 use Rattle.plant_model.specs.Acts.{event_call}
@@ -131,10 +131,8 @@ mastered b (Happen (App app) ∷ acts) place link h =
 mastered b (PullFrom None ∷ acts) place link h = cycle_step None (masters b acts) place link (journal b acts) (mastered b acts place link h)
 mastered b (PullFrom (Some parcel) ∷ acts) place link h = parcel_step b acts place link parcel.to.link parcel.to.end parcel.frame (link_at b.links parcel.to.link) h refl (mastered b acts place link h)
 
-agree : (b : Beginning) (acts : List Act) (k : ℕ) (link : LinkConf) → link_at b.links k ≡ Some link → IsSomeAnd (connection k (masters b acts)) (λ c. deeds side.Master (pair link k (journal b acts)) ≡ c.deeds)
-agree b acts zero link h = absurd (cc h)
-agree b acts (suc place) link h =
-    subst (λ (o : Option Connection). IsSomeAnd o (λ c. deeds side.Master (pair link (suc place) (journal b acts)) ≡ c.deeds)) (sym (mastered b acts place link h)) refl
-
-pub masters_agree : (b : Beginning) (acts : List Act) → MastersAgree b acts
-masters_agree b acts = λ k. if_some (λ link. IsSomeAnd (connection k (masters b acts)) (λ c. deeds side.Master (pair link k (journal b acts)) ≡ c.deeds)) (link_at b.links k) (agree b acts k)
+pub masters_agree : (b : Beginning) (acts : List Act) (k : ℕ) → IfSome (link_at b.links k) (λ link. IsSomeAnd (connection k (masters b acts)) (λ c. deeds side.Master (pair link k (journal b acts)) ≡ c.deeds))
+masters_agree b acts zero = tt
+masters_agree b acts (suc place) =
+    if_some (λ link. IsSomeAnd (connection (suc place) (masters b acts)) (λ c. deeds side.Master (pair link (suc place) (journal b acts)) ≡ c.deeds)) (slice_get b.links place)
+    (λ link is. rw (mastered b acts place link is) refl)

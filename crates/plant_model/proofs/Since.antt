@@ -1,6 +1,7 @@
 -- How the entries of a pair grow with the acts of a plant: the ticks that came, and since when the peer of an end sent
--- no data that offer a bit as 1. Acts and entries are listed newest first, steps oldest first.
-use Rattle.plant_model.proofs.Common.{Act, Beginning, End, Entry, Happen, JournalStep, LinkConf, Move, PullFrom, append-nil, common_steps, cond, flat_map-append, is_tick, journal, line_step, next_of, offers, own_part, pair, peer, pulled_in, same_end, steps_of, sum_by-append, ticked, ticks, world_after}
+-- no data that offer a bit as 1. Data frames are sent as answers alone, and a frame that comes changes no offer. Acts
+-- and entries are listed newest first, steps oldest first.
+use Rattle.plant_model.proofs.Common.{Act, Beginning, Deed, End, Entry, Happen, IsTrue, JournalStep, LinkConf, Move, PullFrom, Setup, WasOffered, append-nil, common_steps, cond, flat_map-append, is_data_frame, is_tick, journal, line_step, next_of, next_offered, of_end, offers, offers_bit, own_part, pair, peer, pulled_in, same_end, step, steps_of, sum_by-append, ticked, ticks, ticks_of, world_after}
 use Rattle.std.proofs.Common.{◌≡◌, ◌≤◌, ℕ, suc, ◌+◌, ◌==◌, Bool, true, false, List, [], ◌∷◌, ◌++◌, Some, if◌then◌else◌, refl, sym, ap, ap₂, subst, length, ◌⊎◌, inl, inr, ◌∙◌, append_assoc, length-append, arith}
 use Rattle.std.proofs.lemmas.List.{nil_from_length}
 use Rattle.fsoe_base.specs.declared.command.End.TheVariants as side
@@ -10,7 +11,57 @@ use Rattle.plant_model.specs.declared.journal.JournalStep.TheVariants as step
 use Rattle.plant_model.specs.JournalLaws.{parcel_of}
 use Rattle.plant_model.proofs.Growing.{event_for, one_world, pair_step}
 use Rattle.plant_model.proofs.Lines.{act_gives, no_parcels, offers_alone}
-use Rattle.plant_model.proofs.Sends.{BringsNone, OffersZero, ZeroSince, delivered_zero, zero_more, zero_silent}
+
+-- no frame comes in an event
+abbrev pub BringsNone : Move → Type 0
+BringsNone (move.Deliver bytes) = ⊥
+BringsNone _ = Unit {0}
+
+-- where no frame comes no data frame is sent
+no_data : (s : Setup) (e : List Deed) (what : Move) → BringsNone what → is_data_frame (step s e what).sent ≡ false
+no_data s e what h = grind arith
+
+-- an end offers a bit as 0
+abbrev pub OffersZero : End → ℕ → List Entry → Type 0
+OffersZero which bit w = offers_bit bit (next_offered (of_end which w)) ≡ false
+
+-- a frame that comes changes no offer
+delivered_zero : (which : End) (bit : ℕ) (end : End) (bytes : List ℕ) (link : LinkConf) (w : List Entry) → OffersZero which bit (next_of end (move.Deliver bytes) link w ∷ w) → OffersZero which bit w
+delivered_zero which bit end bytes link w h = grind arith
+
+-- after each data frame of its peer that offers a bit as 1, an end ticked at least from one number to the other
+abbrev pub ZeroSince : End → ℕ → ℕ → ℕ → List Entry → Type 0
+ZeroSince which bit from now w = (most : ℕ) → WasOffered which bit most w → now ≤ from + most
+
+ticked_most : (m : Move) (mine : Bool) (from a b : ℕ) → a ≤ from + b → (if mine then ticked m a else a) ≤ from + (if mine then ticked m b else b)
+ticked_most m mine from a b h = grind arith
+
+zero_by : (which : End) (bit from now : ℕ) (x y : Entry) (w later before : List Entry) → (x.end ≡ peer which → IsTrue (is_data_frame x.sent) → OffersZero (peer which) bit w) → ZeroSince which bit from now w
+    → x ∷ w ≡ later ++ (y ∷ before) → y.end ≡ peer which → IsTrue (is_data_frame y.sent) → IsTrue (offers_bit bit (next_offered (of_end (peer which) before)))
+    → (if same_end which x.end then ticked x.what now else now) ≤ from + ticks_of which later
+zero_by which bit from now x y w [] before zero h e is sends on =
+    let same : x ≡ y = cc in
+    let rest : w ≡ before = cc in
+    let off = zero (cc (same, is)) (cc (same, sends)) in
+    absurd (cc (off, on, rest))
+zero_by which bit from now x y w (z ∷ later) before zero h e is sends on =
+    let same : x ≡ z = cc in
+    let rest : w ≡ later ++ (y ∷ before) = cc in
+    let least = h (ticks_of which later) (record { later = later; sending = y; before = before; parts_are = rest; by_peer = is; sent_data = sends; offered = on; lately = omega arith }) in
+    subst (λ (v : Entry). (if same_end which x.end then ticked x.what now else now) ≤ from + ticks_of which (v ∷ later)) same (ticked_most x.what (same_end which x.end) from now (ticks_of which later) least)
+
+-- so it is after an entry more, where the peer offered it as 0 if it sent data in that
+zero_more : (which : End) (bit from now later : ℕ) (x : Entry) (w : List Entry) → (x.end ≡ peer which → IsTrue (is_data_frame x.sent) → OffersZero (peer which) bit w)
+    → later ≤ (if same_end which x.end then ticked x.what now else now) → ZeroSince which bit from now w → ZeroSince which bit from later (x ∷ w)
+zero_more which bit from now later x w zero few h = λ most was.
+    let least = zero_by which bit from now x was.sending w was.later was.before zero h was.parts_are was.by_peer was.sent_data was.offered in
+    let lately = was.lately in
+    omega arith
+
+-- so it is where no frame comes
+zero_silent : (which : End) (bit from now later : ℕ) (end : End) (what : Move) (link : LinkConf) (w : List Entry) → BringsNone what → later ≤ (if same_end which (next_of end what link w).end then ticked what now else now)
+    → ZeroSince which bit from now w → ZeroSince which bit from later (next_of end what link w ∷ w)
+zero_silent which bit from now later end what link w none few h = zero_more which bit from now later (next_of end what link w) w (λ is sends. absurd (cc (sends, no_data _ _ what none))) few h
 
 ticked_least : (what : Move) (mine : Bool) (n : ℕ) → n ≤ (if mine then ticked what n else n)
 ticked_least what mine n = grind arith

@@ -4,7 +4,7 @@ use Rattle.param_load.specs.declared.entry.Entry.{Entry}
 use Rattle.exchange_model.specs.World.{deeds}
 use Rattle.multi_master.specs.Calls.{connection}
 use Rattle.plant_model.specs.Acts.{Beginning, cycle_of, App, Happen, masters, Start, journal, Act, PullFrom, Event}
-use Rattle.plant_model.specs.Pair.{pair, link_at, is_tick_event, pulls_after}
+use Rattle.plant_model.specs.Pair.{pair, link_at, is_tick, is_tick_event, pulls_after}
 use Rattle.plant_model.specs.declared.journal.JournalStep.TheVariants as step
 use Rattle.plant_model.specs.declared.journal.JournalStep.{JournalStep}
 use Rattle.plant_model.specs.PlantReport.{is_line}
@@ -49,10 +49,9 @@ Cycles b act acts = is_some (cycle_of b act acts) ≡ runs_cycle b.links act (jo
 -- many may come before the first line of these steps
 abbrev pub PullsFit : ℕ → List JournalStep → Type 0
 PullsFit room [] = Unit {0}
-PullsFit room (step.Script event ∷ steps) = PullsFit (pulls_after (is_tick_event event)) steps
-PullsFit room (step.App ∷ steps) = PullsFit 0 steps
 PullsFit room (step.Offer link load ∷ steps) = PullsFit room steps
 PullsFit room (step.Pulled parcel ∷ steps) = (0 < room) × PullsFit (room - 1) steps
+PullsFit room (line ∷ steps) = PullsFit (pulls_after (is_tick line)) steps
 
 -- the parcel of a step, where one was pulled
 abbrev pub parcel_of : JournalStep → List Parcel
@@ -72,10 +71,9 @@ one_if_left (suc room) n = suc n
 -- many may come before the first line of these steps
 abbrev pub short_ticks : ℕ → List JournalStep → ℕ
 short_ticks room [] = one_if_left room 0
-short_ticks room (step.Script event ∷ steps) = one_if_left room (short_ticks (pulls_after (is_tick_event event)) steps)
-short_ticks room (step.App ∷ steps) = one_if_left room (short_ticks 0 steps)
 short_ticks room (step.Offer link load ∷ steps) = short_ticks room steps
 short_ticks room (step.Pulled parcel ∷ steps) = short_ticks (room - 1) steps
+short_ticks room (line ∷ steps) = one_if_left room (short_ticks (pulls_after (is_tick line)) steps)
 
 -- the steps of a journal that are lines of the script
 abbrev pub line_steps : List JournalStep → List JournalStep

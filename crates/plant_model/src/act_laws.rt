@@ -50,7 +50,7 @@ pub fn nets()
 
 /// The parcels that the channel gave are those in the journal, in their order. Its pulls that gave nothing are as many
 /// as the ticks after which fewer than 64 parcels were pulled.
-#[tactic(auto, using(crate::proofs::Given::given, crate::proofs::Given::empties))]
+#[tactic(auto, using(crate::proofs::Lines::given, crate::proofs::Lines::empties))]
 pub fn given()
     ensures gifts { (b : Beginning) (acts : List Act) → gifts (uses b acts) ≡ pulled_in (journal b acts) }
     ensures empties { (b : Beginning) (acts : List Act) → IsPast 0 acts → empty_pulls (uses b acts) ≡ short_ticks 0 (journal b acts) }

@@ -1,5 +1,5 @@
-use Rattle.multi_master.proofs.Common.{AllZip, Connection, HaveTicked, IsWhere, due_in, outputs_at, settings_in}
-use Rattle.std.proofs.Common.{◌≡◌, List, All, false, map, take}
+use Rattle.multi_master.proofs.Common.{TicksEach, due_in, settings_in}
+use Rattle.std.proofs.Common.{◌≡◌, All, false, map, take}
 use Rattle.multi_master.proofs.Looping.{Untouched}
 use Rattle.multi_master.proofs.cycle.tick_all.Given as goal
 
@@ -9,6 +9,5 @@ invariant-loop-i l = record {
   settings : map settings_in l.masters ≡ map settings_in l.initial.masters;
   untouched : Untouched l.i l.initial.masters l.masters;
   unread : Untouched l.i l.initial.inputs l.inputs;
-  ticked : (cs : List Connection) → AllZip IsWhere cs l.initial.masters → l.initial.inputs ≡ map outputs_at cs
-      → HaveTicked (take l.i cs) (take l.i l.masters) (take l.i l.inputs) (take l.i l.dids) (take l.i l.outs);
+  ticked : TicksEach (take l.i l.initial.masters) (take l.i l.initial.inputs) (take l.i l.masters) (take l.i l.inputs) (take l.i l.dids) (take l.i l.outs);
 }

@@ -14,13 +14,12 @@ returns g c =
     let lens : map length c.as_mut_slice.result.now ≡ map own_len masters = ap (map length) c.as_mut_slice.ensures.value ∙ c.requires.fits in
     let settings : map settings_in c.put_answers.new.masters ≡ map settings_in masters = c.put_answers.ensures.settings ∙ ap (map settings_in) c.as_mut_slice-2.ensures.value in
     let holds = rw (c.as_slice.ensures.value, lens) at c.cycle.ensures.holds in
+    let answers = rw (c.as_slice.ensures.value, lens) at c.cycle.ensures.answers in
     rw (put, outputs) (record {
       runs = record {
-        answers = c.cycle.new.outputs;
-        answers_are = rw (c.as_slice.ensures.value, lens) at c.cycle.ensures.answers;
         app_is = grind arith;
-        guarded = rw c.as_slice.ensures.value at c.cycle.ensures.guarded;
-        puts = rw (c.as_slice-2.ensures.value ∙ outputs, c.as_mut_slice-2.ensures.value) at c.put_answers.ensures.puts;
+        guarded = rw (← answers) (rw c.as_slice.ensures.value at c.cycle.ensures.guarded);
+        puts = rw (← answers) (rw (c.as_slice-2.ensures.value ∙ outputs, c.as_mut_slice-2.ensures.value) at c.put_answers.ensures.puts);
       };
       numbers = c.put_answers.ensures.numbers;
       fit = c.cycle.ensures.lengths ∙ lens ∙ sym (same_lens c.put_answers.new.masters masters settings);
