@@ -16,8 +16,8 @@ use Rattle.plant_file.specs.declared.noted.Wanted.TheVariants as wanted
 abbrev pub untold : Told
 untold = record { before = None; after = None; faults_before = 0; faults_after = 0 }
 
--- a plant ran, its report went nowhere, and its journal was written: its first 2^52 steps, which is more than any memory
--- holds; or a first part of that where a write failed
+-- a plant ran, its report went nowhere, and its journal was written: its first 2^52 steps, which is more than any
+-- memory holds; or a first part of that where a write failed
 pub record RanNoted (t : Terms) (ended : Ended) (o : Outside) (before after : channel.Told) (steps : List JournalStep) : Type 0 where
   pub ends : Ended
   pub ran : RanPlant t ends (record { source = o.source; sink = untold }) before after steps

@@ -27,8 +27,8 @@ use Rattle.plant_model.specs.Past.{Named}
 use Rattle.plant_run.specs.Reporting.{Terms}
 use Rattle.plant_file.specs.Handed.{DeskTold, Handed}
 
--- what a run of a plant promises, by its terms, how it ended, what was read and written, what its channel told before and
--- after it, and its journal
+-- what a run of a plant promises, by its terms, how it ended, what was read and written, what its channel told before
+-- and after it, and its journal
 abbrev pub PlantRun : Type 1
 PlantRun = Terms → Ended → Outside → Told → Told → List JournalStep → Type 0
 

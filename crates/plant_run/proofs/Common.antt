@@ -29,9 +29,8 @@ pub use Rattle.plant_model.specs.declared.journal.JournalStep.{JournalStep}
 pub use Rattle.plant_run.specs.Given.{named}
 pub use Rattle.plant_run.specs.Ran.{IsReportOf, RanPlant}
 pub use Rattle.plant_run.specs.Reporting.{PlantReports, Terms, plant_reporting, run_stop}
-pub use Rattle.plant_run.specs.Running.{LineFits, RunCloses, RunStands}
+pub use Rattle.plant_run.specs.Running.{AreAged, HasRoom, HearsOne, LineFits, RunCloses, RunStands, RunView, ShowsBound, lines_by, rest_in, watched_after, watched_by, watching}
 pub use Rattle.plant_run.specs.Script.{Script, ScriptHeading, happening, script_format}
-pub use Rattle.plant_run.specs.Watching.{AreAged, HasRoom, HearsOne, ShowsBound, lines_by, rest_in, watched_after, watched_by, watching}
 pub use Rattle.plant_run.specs.declared.watching.Watched.{Watched}
 pub use Rattle.plant_setup.specs.Names.{IsTaken, place_of}
 pub use Rattle.reaction_bound.specs.Kept.{Hears, ReactionView, view_of}

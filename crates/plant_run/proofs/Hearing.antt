@@ -1,6 +1,6 @@
 -- The bounds of a plant that runs are told of each line of its script, and the ages of their connections are told.
-use Rattle.plant_run.proofs.Common.{Act, All-map, AreAged, Beginning, BoundSpec, HasRoom, Happen, Hears, HearsOne, IfSome, IsAged, IsSome, JournalStep, LinkConf, Named, PlantLine, PlantStands, PlantView, PullFrom, Quiet, ReactionView, RunStands, ScriptHeading, ShowsOn, TellsStill, Terms, Tick, Told, Watched, eq-eqb, fixed_in, heard, heard_before, heard_of, is_driven, is_named, is_tick, is_ticking, length-map, length_push, limit_of, line_step, link_at, links_made, option_map, said_in, slice_get_read, take_all, view_of, watched_after, watched_by, watching}
-use Rattle.std.proofs.Common.{◌≡◌, ◌≤◌, ◌<◌, ◌+◌, ◌*◌, ◌^◌, ◌==◌, ◌||◌, ℕ, zero, suc, Bool, true, false, List, [], ◌∷◌, ◌++◌, All, get_or, length, take, slice_get, slice_index_or, slice_set, Some, None, if◌then◌else◌, refl, sym, ap, ap₂, ◌∙◌, arith}
+use Rattle.plant_run.proofs.Common.{Act, All-map, AreAged, Beginning, BoundSpec, HasRoom, Happen, Hears, HearsOne, IfSome, IsAged, IsSome, JournalStep, LinkConf, PlantLine, PlantStands, PlantView, PullFrom, Quiet, ReactionView, RunStands, RunView, ScriptHeading, ShowsOn, TellsStill, Terms, Tick, Told, Watched, eq-eqb, fixed_in, heard, heard_before, heard_of, is_driven, is_named, is_tick, is_ticking, length-map, length_push, limit_of, line_step, link_at, links_made, said_in, slice_get_read, take_all, view_of, watched_by, watching}
+use Rattle.std.proofs.Common.{◌≡◌, ◌≤◌, ◌<◌, ◌+◌, ◌^◌, ◌==◌, ◌||◌, ℕ, zero, suc, Bool, true, false, List, [], ◌∷◌, ◌++◌, All, get_or, length, take, slice_get, slice_index_or, slice_set, Some, if◌then◌else◌, refl, sym, ap, ap₂, ◌∙◌, arith}
 use Rattle.std.specs.List.{AllZip}
 use Rattle.std.specs.Option.{option_map_or}
 use Rattle.std.proofs.lemmas.Bool.{or_left, or_right}
@@ -11,18 +11,6 @@ use Rattle.reaction_bound.specs.Reaction as reaction
 use Rattle.multi_master.proofs.Looping.{Untouched, next_taken, untouched_more}
 use Rattle.plant_model.specs.Bound.{is_on}
 use Rattle.plant_core.specs.Link.{LinkView, fixed_of, new_link}
-
--- the limit of a bound whose connections there are
-pub limit_both : (links : List LinkConf) (bound : BoundSpec) (m n : ℕ) → Some m ≡ option_map (λ l. l.master.watchdog) (link_at links bound.estop.link) → Some n ≡ option_map (λ l. l.master.watchdog) (link_at links bound.drive.link)
-    → 2 * m + 2 * n ≡ limit_of links bound
-limit_both links bound m n h k = grind arith
-
--- that of one without its e-stop's connection, and of one without its drive's
-pub limit_none : (links : List LinkConf) (bound : BoundSpec) → None ≡ option_map (λ l. l.master.watchdog) (link_at links bound.estop.link) → 0 ≡ limit_of links bound
-limit_none links bound h = grind arith
-
-pub limit_less : (links : List LinkConf) (bound : BoundSpec) → None ≡ option_map (λ l. l.master.watchdog) (link_at links bound.drive.link) → 0 ≡ limit_of links bound
-limit_less links bound h = grind arith
 
 pub tick_heard : (v : PlantView) (tick : Bool) (old new : Watched) (mid : ReactionView) (on still : Bool) → ShowsOn v old.bound.drive on → Hears old.reaction (Tick on) mid → TellsStill v old.bound still → Hears mid (Quiet still) new.reaction
     → new ≡ record old { reaction = new.reaction } → tick ≡ true → HearsOne v tick old new
@@ -76,30 +64,27 @@ said_ticks b bound (PullFrom gift ∷ acts) on = said_ticks b bound acts on
 said_ticks b bound _ on = omega arith
 
 -- a plant that runs can tell its bounds of a line more
-rooms : (b : Beginning) (acts : List Act) (bounds : List BoundSpec) → length (said_in acts) + 1 < 2 ^ 64 → All HasRoom (watched_after b acts bounds)
-rooms b acts bounds h =
-    All-map HasRoom (λ bound. watching b.links bound (heard_of b bound acts)) bounds
-    (λ k d below. let few = said_ticks b (get_or bounds k d) acts (is_driven b (get_or bounds k d) acts) in omega (arith, few, h))
-
-pub can_hear : (t : Terms) (v : PlantView) (watched : List Watched) (left : List Named) (before after : Told) (count : ℕ) (h : ScriptHeading) (log : List PlantLine) (text : List ℕ) → RunStands t v watched left before after count h log text
-    → length log + 1 < 2 ^ 64 → All HasRoom watched
-can_hear t v watched left before after count h log text k few = rw k.watched_are (rooms t.begins k.acts t.bounds (omega (arith, k.whole, few)))
+pub can_hear : {t : Terms} {before : Told} {now : RunView} {count : ℕ} {h : ScriptHeading} {log : List PlantLine} {text : List ℕ} → RunStands t before now count h log text → length log + 1 < 2 ^ 64 → All HasRoom now.watched
+can_hear {t} k few =
+    rw k.watched_are (All-map HasRoom (λ bound. watching t.begins.links bound (heard_of t.begins bound k.acts)) t.bounds
+    (λ i d below. let ticks = said_ticks t.begins (get_or t.bounds i d) k.acts (is_driven t.begins (get_or t.bounds i d) k.acts) in omega (arith, ticks, k.whole, few)))
 
 -- bounds to which nothing was said can be told of a line
 pub fresh_rooms : (links : List LinkConf) (bounds : List BoundSpec) (made : List Watched) → made ≡ watched_by links (λ bound. []) bounds → All HasRoom made
 fresh_rooms links bounds made e = rw e (All-map HasRoom (λ bound. watching links bound []) bounds (λ k d below. omega arith))
 
--- a bound names its connections
-named_by : (bounds : List BoundSpec) (place : ℕ) (bound : BoundSpec) → slice_get bounds place ≡ Some bound → (is_named bounds bound.estop.link ≡ true) × (is_named bounds bound.drive.link ≡ true)
-named_by [] place bound e = absurd (cc e)
-named_by (first ∷ bounds) zero bound e =
-    let same : first ≡ bound = cc in
+-- what is watched at a place is a bound, which names its connections
+pub bound_at : (links : List LinkConf) (before : BoundSpec → List reaction.Heard) (bounds : List BoundSpec) (place : ℕ) (w : Watched) → slice_get (watched_by links before bounds) place ≡ Some w
+    → (is_named bounds w.bound.estop.link ≡ true) × (is_named bounds w.bound.drive.link ≡ true) × (w ≡ watching links w.bound (before w.bound))
+bound_at links before [] place w e = absurd (cc e)
+bound_at links before (bound ∷ bounds) zero w e =
+    let same : watching links bound (before bound) ≡ w = cc in
     let i : ℕ = bound.estop.link in
     let o : ℕ = bound.drive.link in
-    rw same (or_left (i == i || o == i) (is_named bounds i) (or_left (i == i) (o == i) (eq-eqb i i refl)), or_left (i == o || o == o) (is_named bounds o) (or_right (i == o) (o == o) (eq-eqb o o refl)))
-named_by (first ∷ bounds) (suc place) bound e =
-    let rest = named_by bounds place bound e in
-    (or_right (first.estop.link == bound.estop.link || first.drive.link == bound.estop.link) _ rest.0, or_right (first.estop.link == bound.drive.link || first.drive.link == bound.drive.link) _ rest.1)
+    rw (← same) (or_left (i == i || o == i) (is_named bounds i) (or_left (i == i) (o == i) (eq-eqb i i refl)), or_left (i == o || o == o) (is_named bounds o) (or_right (i == o) (o == o) (eq-eqb o o refl)), refl)
+bound_at links before (bound ∷ bounds) (suc place) w e =
+    let rest = bound_at links before bounds place w e in
+    (or_right (bound.estop.link == w.bound.estop.link || bound.drive.link == w.bound.estop.link) _ rest.0, or_right (bound.estop.link == w.bound.drive.link || bound.drive.link == w.bound.drive.link) _ rest.1, rest.2)
 
 -- the ages of a connection are told that a bound names
 aged_one : (aged : Bool) (link : LinkConf) (v : LinkView) → fixed_of v ≡ fixed_of (new_link aged link) → aged ≡ true → IsSome v.ages
@@ -117,23 +102,13 @@ aged_at : (bounds : List BoundSpec) (links : List LinkConf) (vs : List LinkView)
 aged_at bounds links vs zero e named = tt
 aged_at bounds links vs (suc place) e named = aged_from 1 place (suc place) bounds links vs (omega arith) e named
 
--- what is watched at a place is a bound
-pub bound_at : (links : List LinkConf) (before : BoundSpec → List reaction.Heard) (bounds : List BoundSpec) (place : ℕ) (w : Watched) → slice_get (watched_by links before bounds) place ≡ Some w
-    → (slice_get bounds place ≡ Some w.bound) × (w ≡ watching links w.bound (before w.bound))
-bound_at links before [] place w e = absurd (cc e)
-bound_at links before (bound ∷ bounds) zero w e = let same : watching links bound (before bound) ≡ w = cc in rw (← same) (refl, refl)
-bound_at links before (bound ∷ bounds) (suc place) w e = bound_at links before bounds place w e
-
 -- what is watched at a place that there is
-pub watched_at : (t : Terms) (v : PlantView) (watched : List Watched) (left : List Named) (before after : Told) (count : ℕ) (h : ScriptHeading) (log : List PlantLine) (text : List ℕ) (bounds : List BoundSpec) (place : ℕ) (w : Watched) → RunStands t v watched left before after count h log text
-    → bounds ≡ t.bounds → place < length bounds → w ≡ slice_index_or watched place w → slice_get watched place ≡ Some w
-watched_at t v watched left before after count h log text bounds place w k same within read =
+pub watched_at : {t : Terms} {before : Told} {now : RunView} {count : ℕ} {h : ScriptHeading} {log : List PlantLine} {text : List ℕ} {bounds : List BoundSpec} {place : ℕ} {w : Watched} → RunStands t before now count h log text → bounds ≡ t.bounds → place < length bounds → w ≡ slice_index_or now.watched place w → slice_get now.watched place ≡ Some w
+watched_at {t} {before} {now} {count} {h} {log} {text} {bounds} {place} {w} k same within read =
     let long = ap length k.watched_are ∙ length-map t.bounds (λ bound. watching t.begins.links bound (heard_of t.begins bound k.acts)) ∙ sym (ap length same) in
-    slice_get_read watched (length watched) place w refl (omega (arith, long, within)) read
+    slice_get_read now.watched (length now.watched) place w refl (omega (arith, long, within)) read
 
-pub are_aged : (t : Terms) (v : PlantView) (watched : List Watched) (left : List Named) (before after : Told) (count : ℕ) (h : ScriptHeading) (log : List PlantLine) (text : List ℕ) (place : ℕ) (w : Watched) → RunStands t v watched left before after count h log text
-    → slice_get watched place ≡ Some w → AreAged v.links w.bound
-are_aged t v watched left before after count h log text place w k at =
-    let there = (bound_at t.begins.links (λ bound. heard_of t.begins bound k.acts) t.bounds place w (ap (λ (ws : List Watched). slice_get ws place) (sym k.watched_are) ∙ at)).0 in
-    let named = named_by t.bounds place w.bound there in
-    record { estop = aged_at t.bounds t.begins.links v.links w.bound.estop.link k.fixed named.0; drive = aged_at t.bounds t.begins.links v.links w.bound.drive.link k.fixed named.1 }
+pub are_aged : {t : Terms} {before : Told} {now : RunView} {count : ℕ} {h : ScriptHeading} {log : List PlantLine} {text : List ℕ} (place : ℕ) {w : Watched} → RunStands t before now count h log text → slice_get now.watched place ≡ Some w → AreAged now.plant.links w.bound
+are_aged {t} {before} {now} {count} {h} {log} {text} place {w} k at =
+    let is = bound_at t.begins.links (λ bound. heard_of t.begins bound k.acts) t.bounds place w (rw k.watched_are at at) in
+    record { estop = aged_at t.bounds t.begins.links now.plant.links w.bound.estop.link k.fixed is.0; drive = aged_at t.bounds t.begins.links now.plant.links w.bound.drive.link k.fixed is.1 }

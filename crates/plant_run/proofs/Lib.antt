@@ -4,6 +4,5 @@ mod RanPlant
 mod ScriptFits
 mod Scripted
 mod TakenApps
-mod TicksText
 mod Waiting
 pub mod Common

@@ -1,28 +1,21 @@
 -- A plant that runs goes on by a line of its script.
-use Rattle.plant_run.proofs.Common.{Act, App, AppView, Beginning, BoundSpec, Ended, EndsStopped, EndsWhole, EntryOf, Fits, Follows, HearsOne, IfOk-at_ok, IsReportOf, IsSaid, IsTaken, JournalStep, KindOf, Lengths, LineFits, LinkConf, Named, None, Option, Parcel, PlantLine, PlantView, Plays, RunCloses, RunStands, Said, ScriptHeading, Some, Start, Starts, Taken, TellsOther, Terms, Told, Watched, bound_line, bound_lines, codes, common_steps, decimal, ended_with, fixed_in, happening, has_other, heard, heard_before, heard_of, is_tick, is_ticking, journal, length_push, lengths_in, lengths_kept, lengths_made, line_said, line_step, line_steps, lines_by, link_lines, links_made, lowest_other, named, no_lines_by, offers, other_line, place_of, plant_reporting, said, said_in, said_with, script_format, string_bytes, ticks, trace_append, uses, watched_after, watched_by, with_line}
+use Rattle.plant_run.proofs.Common.{Act, App, AppView, Beginning, BoundSpec, Ended, EndsStopped, EndsWhole, EntryOf, Fits, Follows, HearsOne, IfOk-at_ok, IsReportOf, IsSaid, IsTaken, JournalStep, KindOf, Lengths, LineFits, LinkConf, None, Option, Parcel, PlantLine, PlantView, Plays, RunCloses, RunStands, RunView, Said, ScriptHeading, Some, Start, Starts, Taken, TellsOther, Terms, Told, Watched, codes, common_steps, decimal, ended_with, fixed_in, happening, has_other, heard, heard_before, heard_of, is_tick, is_ticking, journal, length_push, lengths_in, lengths_kept, lengths_made, line_said, line_step, lines_by, link_lines, links_made, lowest_other, named, no_lines_by, offers, other_line, place_of, plant_reporting, report_text, said, said_in, said_with, script_format, string_bytes, tick_lines, ticks, ticks_text, trace_append, uses, watched_after, watched_by, with_line}
 use Rattle.std.proofs.Common.{◌≡◌, ℕ, ◌+◌, ◌≤◌, Bool, true, false, cond, suc, List, [], ◌∷◌, ◌++◌, length, map, All, if◌then◌else◌, refl, sym, ap, ap₂, subst, ◌∙◌, append_assoc, arith, rules}
 use Rattle.std.specs.Prelude.{◌⊎◌}
 use Rattle.std.specs.List.{AllZip}
 use Rattle.fb_net.specs.declared.kind_of.KindOf.TheVariants as kind
+use Rattle.schedule_file.specs.Input.{AtEnd}
 use Rattle.file_run.specs.declared.stopped.Stopped.{Stopped}
 use Rattle.file_run.specs.declared.stopped.Stopped.TheVariants as stopped
 use Rattle.plant_conf.specs.Kept.{HasSameLengths}
 use Rattle.plant_model.specs.declared.event.PlantEvent.{PlantEvent}
 use Rattle.plant_model.specs.declared.event.PlantLine.TheVariants as line
-use Rattle.plant_model.specs.declared.journal.JournalStep.TheVariants as step
 use Rattle.plant_model.specs.Uses.{Trace}
 use Rattle.plant_core.proofs.Pulling.{more_uses}
 use Rattle.plant_run.proofs.Hearing.{all_heard}
 use Rattle.plant_run.proofs.ScriptFits.{all_fit}
 use Rattle.plant_run.proofs.TakenApps.{app_missing, app_taken}
-use Rattle.plant_run.proofs.TicksText.{After, after_line, in_tick_quiet, lines_quiet, text_after}
-
--- steps that are no lines of the script are no ticks
-ticks_quiet : (rest : List JournalStep) → line_steps rest ≡ [] → ticks rest ≡ 0
-ticks_quiet [] none = refl
-ticks_quiet (step.Offer link load ∷ rest) none = ticks_quiet rest none
-ticks_quiet (step.Pulled parcel ∷ rest) none = ticks_quiet rest none
-ticks_quiet _ none = cc
+use Rattle.plant_run.proofs.Scripted.{After, after_line, bounds_shown, quiet, text_after}
 
 -- one tick more, where the line is one
 abbrev pub one_if : Bool → ℕ
@@ -32,7 +25,7 @@ one_most : (tick : Bool) → one_if tick ≤ 1
 one_most tick = grind arith
 
 ticks_after : (one : Said) (old new : List JournalStep) → After one old new → ticks new ≡ ticks old + one_if (is_tick (line_step one))
-ticks_after one old new h = grind (arith, common_steps, ticks_quiet)
+ticks_after one old new h = let none : ticks h.rest ≡ 0 = (quiet h.rest h.none).0 in grind (arith, common_steps, none)
 
 -- the channel of a plant that went on by a line was used by that too
 used : (b : Beginning) (acts : List Act) (one : Said) (new : PlantView) (before mid after : Told) → Trace (uses b acts) before mid → (p : Plays b acts one new mid after)
@@ -51,58 +44,59 @@ written_at one count links steps =
     if is_tick (line_step one) then (codes "tick" ++ codes " " ++ decimal count ++ codes "\n") ++ link_lines 1 links steps else []
 
 -- a plant that runs goes on by a line
-pub goes_on : (t : Terms) (old new : PlantView) (was watched : List Watched) (left next : List Named) (before mid after : Told) (count now : ℕ) (h : ScriptHeading) (log : List PlantLine) (text piece : List ℕ) (event says : PlantLine) (one : Said) → event ≡ says
-    → RunStands t old was left before mid count h log text → Follows old one new mid after → fixed_in new.links ≡ fixed_in old.links → AllZip (HearsOne new (is_tick (line_step one))) was watched
-    → ((more : List PlantLine) → said left (says ∷ more) ≡ one ∷ said next more) → now ≡ count + one_if (is_tick (line_step one)) → piece ≡ written_at one now t.begins.links new.journal
-    → RunStands t new watched next before after now h (log ++ event ∷ []) (text ++ piece)
-goes_on t old new was watched left next before mid after count now h log text piece event says one is k follows same hears goes counts written =
+pub goes_on : {t : Terms} {before : Told} {old new : RunView} {count now : ℕ} {h : ScriptHeading} {log : List PlantLine} {text piece : List ℕ} {event says : PlantLine} {one : Said} → event ≡ says → RunStands t before old count h log text
+    → Follows old.plant one new.plant old.told new.told → fixed_in new.plant.links ≡ fixed_in old.plant.links → AllZip (HearsOne new.plant (is_tick (line_step one))) old.watched new.watched
+    → ((more : List PlantLine) → said old.left (says ∷ more) ≡ one ∷ said new.left more) → now ≡ count + one_if (is_tick (line_step one)) → piece ≡ written_at one now t.begins.links new.plant.journal
+    → RunStands t before new now h (log ++ event ∷ []) (text ++ piece)
+goes_on {t} {before} {old} {new} {count} {now} {h} {log} {text} {piece} {event} {says} {one} is k follows same hears goes counts written =
     let p = follows.plays t.begins k.acts k.stands in
-    let grew : After one old.journal new.journal = rw (k.stands.has_done.journal_is, p.stands.has_done.journal_is) (after_line t.begins one p.gifts k.acts) in
-    let counted : now ≡ ticks new.journal = let more = ticks_after one old.journal new.journal grew in omega (arith, more, k.counted, counts) in
+    let acts : List Act = with_line one p.gifts k.acts in
+    let grew : After one old.plant.journal new.plant.journal = rw (k.stands.has_done.journal_is, p.stands.has_done.journal_is) (after_line t.begins one p.gifts k.acts) in
+    let counted : now ≡ ticks new.plant.journal = let more = ticks_after one old.plant.journal new.plant.journal grew in omega (arith, more, k.counted, counts) in
+    let in_line = line_said one p.gifts k.acts in
     record {
-      acts = with_line one p.gifts k.acts;
+      acts = acts;
       stands = p.stands;
-      whole = omega (arith, k.whole, length_push log event, ap (length {A = Said}) (line_said one p.gifts k.acts), length_push (said_in k.acts) one);
+      whole = omega (arith, k.whole, length_push log event, ap (length {A = Said}) in_line, length_push (said_in k.acts) one);
       says = λ more.
           ap (said t.spare) (append_assoc log (event ∷ []) more)
           ∙ k.says (event ∷ more)
-          ∙ ap (λ (first : PlantLine). said_in k.acts ++ said left (first ∷ more)) is
+          ∙ ap (λ (first : PlantLine). said_in k.acts ++ said old.left (first ∷ more)) is
           ∙ ap (λ (z : List Said). said_in k.acts ++ z) (goes more)
-          ∙ sym (append_assoc (said_in k.acts) (one ∷ []) (said next more))
-          ∙ ap (λ (z : List Said). z ++ said next more) (sym (line_said one p.gifts k.acts));
-      channel = used t.begins k.acts one new before mid after k.channel p;
+          ∙ sym (append_assoc (said_in k.acts) (one ∷ []) (said new.left more))
+          ∙ ap (λ (z : List Said). z ++ said new.left more) (sym in_line);
+      channel = used t.begins k.acts one new.plant before old.told new.told k.channel p;
       watched_are =
-          all_heard t.begins (with_line one p.gifts k.acts) new (is_tick (line_step one)) (λ bound. heard_of t.begins bound k.acts) t.bounds watched p.stands (subst (λ (z : List Watched). AllZip (HearsOne new (is_tick (line_step one))) z watched) k.watched_are hears)
-          ∙ line_heard t.begins one p.gifts k.acts (with_line one p.gifts k.acts) t.bounds;
+          all_heard t.begins acts new.plant (is_tick (line_step one)) (λ bound. heard_of t.begins bound k.acts) t.bounds new.watched p.stands (rw k.watched_are at hears)
+          ∙ line_heard t.begins one p.gifts k.acts acts t.bounds;
       fixed = same ∙ k.fixed;
       same_lengths = k.same_lengths;
       counted = counted;
       few = omega (arith, k.few, counts, one_most (is_tick (line_step one)), length_push log event);
       lengths_are = k.lengths_are;
       text_is =
-          ap₂ (λ (x y : List ℕ). x ++ y) k.text_is (written ∙ ap (λ (n : ℕ). written_at one n t.begins.links new.journal) counted)
-          ∙ sym (text_after t.begins.links one old.journal new.journal grew);
+          ap₂ (λ (x y : List ℕ). x ++ y) k.text_is (written ∙ ap (λ (n : ℕ). written_at one n t.begins.links new.plant.journal) counted)
+          ∙ sym (text_after t.begins.links one old.plant.journal new.plant.journal grew);
     }
 
 -- a plant that has begun runs
-pub begun : (t : Terms) (v : PlantView) (made watched : List Watched) (before after : Told) (h : ScriptHeading) → Starts t.begins v before after → fixed_in v.links ≡ fixed_in (links_made 1 t.bounds t.begins.links)
-    → made ≡ watched_by t.begins.links (λ bound. []) t.bounds → AllZip (HearsOne v false) made watched → All HasSameLengths t.begins.links → h.lengths ≡ map lengths_in t.begins.links → RunStands t v watched t.spare before after 0 h [] []
-begun t v made watched before after h starts fixed fresh hears all lengths_are =
-    let changed : List JournalStep = offers t.begins Start [] in
-    let none : line_steps changed ≡ [] = no_lines_by t.begins Start [] in
+pub begun : {t : Terms} {before : Told} {now : RunView} {h : ScriptHeading} {made : List Watched} → Starts t.begins now.plant before now.told → fixed_in now.plant.links ≡ fixed_in (links_made 1 t.bounds t.begins.links) → made ≡ watched_by t.begins.links (λ bound. []) t.bounds
+    → AllZip (HearsOne now.plant false) made now.watched → All HasSameLengths t.begins.links → h.lengths ≡ map lengths_in t.begins.links → ((more : List PlantLine) → said t.spare more ≡ said now.left more) → RunStands t before now 0 h [] []
+begun {t} {before} {now} starts fixed fresh hears all lengths_are left =
+    let q = quiet (offers t.begins Start []) (no_lines_by t.begins Start []) in
     record {
       acts = Start ∷ [];
       stands = starts.stands;
       whole = refl;
-      says = λ more. refl;
+      says = left;
       channel = starts.channel;
-      watched_are = all_heard t.begins (Start ∷ []) v false (λ bound. []) t.bounds watched starts.stands (subst (λ (z : List Watched). AllZip (HearsOne v false) z watched) fresh hears);
+      watched_are = all_heard t.begins (Start ∷ []) now.plant false (λ bound. []) t.bounds now.watched starts.stands (rw fresh at hears);
       fixed = fixed;
       same_lengths = all;
-      counted = sym (ap ticks starts.stands.has_done.journal_is ∙ ticks_quiet changed none);
+      counted = sym (ap ticks starts.stands.has_done.journal_is ∙ q.0);
       few = omega arith;
       lengths_are = lengths_are;
-      text_is = search (rules, lines_quiet, in_tick_quiet);
+      text_is = sym (ap (ticks_text t.begins.links) starts.stands.has_done.journal_is ∙ q.2 t.begins.links [] ∙ ap (λ (tick : Bool). if tick then tick_lines t.begins.links (offers t.begins Start []) else []) (q.1 false));
     }
 
 -- the line of an event
@@ -110,10 +104,9 @@ says_step : (event : PlantLine) (e : PlantEvent) → happening event ≡ Some (l
 says_step event e h = grind arith
 
 -- it fits the connections of the plant
-pub step_fits : (t : Terms) (v : PlantView) (watched : List Watched) (left : List Named) (before after : Told) (count : ℕ) (h : ScriptHeading) (log : List PlantLine) (text : List ℕ) (e : PlantEvent) → RunStands t v watched left before after count h log text
-    → IsSaid (script_format (map lengths_in t.begins.links)) h (line.Step e) → Fits (lengths_kept v.links) e
-step_fits t v watched left before after count h log text e k said =
-    let same : h.lengths ≡ lengths_kept v.links = k.lengths_are ∙ sym (lengths_made t.bounds t.begins.links v.links k.fixed) in
+pub step_fits : {t : Terms} {before : Told} {now : RunView} {count : ℕ} {h : ScriptHeading} {log : List PlantLine} {text : List ℕ} {e : PlantEvent} → RunStands t before now count h log text → IsSaid (script_format (map lengths_in t.begins.links)) h (line.Step e) → Fits (lengths_kept now.plant.links) e
+step_fits {t} {before} {now} {count} {h} {log} {text} {e} k said =
+    let same : h.lengths ≡ lengths_kept now.plant.links = k.lengths_are ∙ sym (lengths_made t.bounds t.begins.links now.plant.links k.fixed) in
     subst (λ (all : List Lengths). Fits all e) same (subst (LineFits h.lengths) (says_step said.1 e said.3) (IfOk-at_ok (LineFits h.lengths) said.2 (all_fit h.lengths said.0)))
 
 -- what is said with an application that its script takes
@@ -128,46 +121,29 @@ lowest_from : (k : ℕ) (links : List LinkConf) (steps : List JournalStep) (n : 
 lowest_from k [] steps n is = cc
 lowest_from k (link ∷ links) steps n is = lowest_by (has_other link k steps) k (lowest_other (suc k) links steps) n (λ e. lowest_from (suc k) links steps n e) is
 
-pub other_ends : (t : Terms) (v : PlantView) (watched : List Watched) (left : List Named) (before after : Told) (count : ℕ) (h : ScriptHeading) (log : List PlantLine) (text : List ℕ) (other : Option ℕ) → RunStands t v watched left before after count h log text → TellsOther v other
-    → EndsWhole true (ended_with other).status (ended_with other).place
-other_ends t v watched left before after count h log text other k l = search (rules, lowest_from)
+pub other_ends : {t : Terms} {before : Told} {now : RunView} {count : ℕ} {h : ScriptHeading} {log : List PlantLine} {text : List ℕ} {other : Option ℕ} → RunStands t before now count h log text → TellsOther now.plant other → EndsWhole true (ended_with other).status (ended_with other).place
+other_ends k l = search (rules, lowest_from)
 
 -- an application isn't taken: there is none of its name, or no memory
-pub app_stopped : {H : Type 0} (view : KindOf H → AppView) (t : Terms) (v : PlantView) (watched : List Watched) (all : List (EntryOf H)) (before after : Told) (count : ℕ) (h : ScriptHeading) (log : List PlantLine) (text name : List ℕ) (event : PlantLine) (why : Stopped)
-    → event ≡ line.App name → RunStands t v watched (map (named view) all) before after count h log text → (why ≡ stopped.Memory) ⊎ ((why ≡ stopped.NoApp) × (place_of name (map (λ e. string_bytes e.name) all) ≡ None))
-    → EndsStopped (plant_reporting t) h log text event why
-app_stopped view t v watched all before after count h log text name event why k l m = grind (arith, common_steps, app_missing)
-
--- the lines of bounds are those by their reactions
-lines_are : (b : Beginning) (acts : List Act) (bounds : List BoundSpec) → lines_by b.links (journal b acts) (watched_after b acts bounds) ≡ bound_lines b acts bounds
-lines_are b acts [] = refl
-lines_are b acts (bound ∷ bounds) = ap (λ (z : List ℕ). bound_line b acts bound ++ z) (lines_are b acts bounds)
-
--- so they are the same over any acts by which there is one journal, and over which bounds are watched alike
-same_lines : (b : Beginning) (these those : List Act) (bounds : List BoundSpec) (watched : List Watched) → watched ≡ watched_after b these bounds → watched ≡ watched_after b those bounds → journal b these ≡ journal b those
-    → bound_lines b these bounds ≡ bound_lines b those bounds
-same_lines b these those bounds watched e f same =
-    sym (lines_are b these bounds)
-    ∙ ap₂ (λ (j : List JournalStep) (ws : List Watched). lines_by b.links j ws) same (sym e ∙ f)
-    ∙ lines_are b those bounds
+pub app_stopped : {H : Type 0} (view : KindOf H → AppView) {t : Terms} {before : Told} {now : RunView} {count : ℕ} {h : ScriptHeading} {log : List PlantLine} {text : List ℕ} (all : List (EntryOf H)) (name : List ℕ) (event : PlantLine) (why : Stopped) → event ≡ line.App name → RunStands t before now count h log text → now.left ≡ map (named view) all
+    → (why ≡ stopped.Memory) ⊎ ((why ≡ stopped.NoApp) × (place_of name (map (λ e. string_bytes e.name) all) ≡ None)) → EndsStopped (plant_reporting t) h log text event why
+app_stopped view all name event why k l same m = grind (arith, common_steps, app_missing)
 
 -- a plant that has run closes with the lines of its bounds, which wait
-pub closed : (t : Terms) (v : PlantView) (watched : List Watched) (left : List Named) (before after : Told) (count : ℕ) (h : ScriptHeading) (log : List PlantLine) (text : List ℕ) (other : Option ℕ) (piece : List ℕ) (links : List LinkConf) (ended : Ended)
-    → RunStands t v watched left before after count h log text → TellsOther v other → piece ≡ (codes "ticks" ++ codes " " ++ decimal count ++ codes "\n") ++ other_line other → links ≡ t.begins.links → ended ≡ ended_with other
-    → RunCloses t v watched left before after h log (text ++ (piece ++ lines_by links v.journal watched)) ended
-closed t v watched left before after count h log text other piece links ended k told is same ended_is =
-    let lowest : other ≡ lowest_other 1 t.begins.links v.journal = told.tells t.begins k.acts k.stands in
-    let waits : lines_by links v.journal watched ≡ bound_lines t.begins k.acts t.bounds = search (rules, lines_are) in
+pub closed : {t : Terms} {before : Told} {now : RunView} {count : ℕ} {h : ScriptHeading} {log : List PlantLine} {text : List ℕ} {other : Option ℕ} {piece : List ℕ} {links : List LinkConf} {ended : Ended} → RunStands t before now count h log text → TellsOther now.plant other → piece ≡ (codes "ticks" ++ codes " " ++ decimal count ++ codes "\n") ++ other_line other
+    → links ≡ t.begins.links → ended ≡ ended_with other → RunCloses t before now h log (text ++ (piece ++ lines_by links now.plant.journal now.watched)) ended
+closed {t} {before} {now} {count} {h} {log} {text} k told is same ended_is =
+    let lowest = told.tells t.begins k.acts k.stands in
     let first = is ∙ ap₂ (λ (n : ℕ) (o : Option ℕ). (codes "ticks " ++ decimal n ++ codes "\n") ++ other_line o) k.counted lowest in
     record {
       count = count;
       ticks = text;
       stands = k;
-      text_is = ap (λ (z : List ℕ). text ++ z) (ap₂ (λ (x y : List ℕ). x ++ y) first waits);
+      text_is = ap₂ (λ (x y : List ℕ). x ++ y) k.text_is (ap₂ (λ (x : List ℕ) (ls : List LinkConf). x ++ lines_by ls now.plant.journal now.watched) first same);
       ended_is = ended_is ∙ ap ended_with lowest;
     }
 
--- what it has closed with is the report of its journal, and of any acts over which bounds are watched alike
-pub reported : (t : Terms) (v : PlantView) (watched : List Watched) (left : List Named) (before after : Told) (h : ScriptHeading) (log : List PlantLine) (text : List ℕ) (ended : Ended) (acts : List Act) → v.journal ≡ journal t.begins acts
-    → watched ≡ watched_after t.begins acts t.bounds → RunCloses t v watched left before after h log text ended → IsReportOf t acts v.journal h log text ended
-reported t v watched left before after h log text ended acts k l m = search (rules, same_lines)
+-- it is the report of any acts by which there is its journal, and over which bounds are watched as they are
+pub reported : {t : Terms} {before : Told} {now : RunView} {h : ScriptHeading} {log : List PlantLine} {text : List ℕ} {ended : Ended} (acts : List Act) → now.plant.journal ≡ journal t.begins acts → now.watched ≡ watched_after t.begins acts t.bounds → RunCloses t before now h log text ended
+    → IsReportOf t acts now.plant.journal h log text ended
+reported {t} {before} {now} acts same are c = (c.text_is ∙ ap (λ (z : List ℕ). report_text t.begins.links now.plant.journal z AtEnd) (bounds_shown t now acts same are), c.ended_is)

@@ -1,6 +1,6 @@
 -- What a run over a script leaves is what a plant did.
-use Rattle.plant_run.proofs.Common.{Ended, IfSome, LinkConf, Named, PlantLine, PlantView, RanOver, RanPlant, Reporting, RunCloses, RunStands, ScriptHeading, Terms, Told, Watched, append-nil, link_at, plant_reporting, said, said_in}
-use Rattle.std.proofs.Common.{◌≡◌, ℕ, List, [], Option, Some, None, refl, sym, ap, subst, ◌∙◌, inl, inr, arith}
+use Rattle.plant_run.proofs.Common.{Ended, IfSome, LinkConf, PlantLine, RanOver, RanPlant, Reporting, RunCloses, RunStands, RunView, ScriptHeading, Terms, Told, link_at, plant_reporting}
+use Rattle.std.proofs.Common.{◌≡◌, ℕ, List, [], Option, Some, None, refl, sym, subst, inl, inr, arith}
 use Rattle.std.specs.List.{IsDistinct}
 use Rattle.fsoe_io.specs.declared.status.Status.{Status}
 use Rattle.exchange_model.specs.Fair.{Fair}
@@ -9,6 +9,7 @@ use Rattle.file_run.specs.Running.{Leaves}
 use Rattle.file_run.specs.Outside.{Outside}
 use Rattle.plant_model.specs.FairPairs.{PairsAreFair}
 use Rattle.plant_run.proofs.NextLine.{reported}
+use Rattle.plant_run.proofs.Scripted.{said_are}
 use Rattle.plant_core.proofs.Worlds.{broken_by_other, plants_are_fair, reacts, sound}
 
 -- a relation of a header, its events, their text and an end
@@ -28,10 +29,9 @@ fair_if_none (Some link) = record { from_awaited = tt; master_once = tt; slave_o
 none_is_fair : (links : List LinkConf) → PairsAreFair links []
 none_is_fair links = λ k. fair_if_none (link_at links k)
 
-pub ran_plant : (t : Terms) (v : PlantView) (ended : Ended) (o : Outside) (before after : Told) (watched : List Watched) (left : List Named) (unbegun : Type 0) (stands : ScriptHeading → List PlantLine → List ℕ → Type 0) → RanOver (plant_reporting t) ended o
-    → Leaves unbegun (plant_reporting t) stands (RunCloses t v watched left before after) ended o → (unbegun → (after ≡ before) × (v.journal ≡ []))
-    → ((h : ScriptHeading) (log : List PlantLine) (text : List ℕ) → stands h log text → (count : ℕ) × RunStands t v watched left before after count h log text) → RanPlant t ended o before after v.journal
-ran_plant t v ended o before after watched left unbegun stands ran leaves nothing stood =
+pub ran_plant : {t : Terms} {ended : Ended} {o : Outside} {before : Told} (now : RunView) {unbegun : Type 0} {stands : ScriptHeading → List PlantLine → List ℕ → Type 0} → RanOver (plant_reporting t) ended o → Leaves unbegun (plant_reporting t) stands (RunCloses t before now) ended o
+    → (unbegun → (now.told ≡ before) × (now.plant.journal ≡ [])) → ((h : ScriptHeading) (log : List PlantLine) (text : List ℕ) → stands h log text → (count : ℕ) × RunStands t before now count h log text) → RanPlant t ended o before now.told now.plant.journal
+ran_plant {t} {ended} {o} {before} now ran leaves nothing stood =
     elim leaves [
       | inl none ↦
           let was = nothing none.0 in
@@ -45,18 +45,18 @@ ran_plant t v ended o before after watched left unbegun stands ran leaves nothin
             did = inr (record {
               may = s.stands.may;
               done = d;
-              said_are = sym (ap (said t.spare) (sym (append-nil d.log)) ∙ s.says [] ∙ append-nil (said_in s.acts));
+              said_are = said_are s;
               whole = s.whole;
-              sound = sound t.begins v s.acts s.stands;
-              reacts = reacts t.begins v s.acts s.stands s.same_lengths;
-              broken = broken_by_other t.begins v s.acts s.stands s.same_lengths;
+              sound = sound t.begins now.plant s.acts s.stands;
+              reacts = reacts t.begins now.plant s.acts s.stands s.same_lengths;
+              broken = broken_by_other t.begins now.plant s.acts s.stands s.same_lengths;
               text_is = s.text_is;
               begun = did.begun;
-              ends = leaves_as t _ _ (λ h log text e c. reported t v watched left before after h log text e s.acts s.stands.has_done.journal_is s.watched_are c) d ended.status ended o did.ends;
+              ends = leaves_as t _ _ (λ h log text e c. reported s.acts s.stands.has_done.journal_is s.watched_are c) d ended.status ended o did.ends;
             });
             journal_is = s.stands.has_done.journal_is;
             channel = s.channel;
-            fair = plants_are_fair t.begins v s.acts s.stands s.same_lengths;
+            fair = plants_are_fair t.begins now.plant s.acts s.stands s.same_lengths;
           }
     ]
 

@@ -1,5 +1,5 @@
 -- The lines of the connections and of the bounds that wait.
-use Rattle.plant_run.proofs.Common.{Act, Beginning, BoundSpec, IsSomeAnd, JournalStep, LinkConf, Named, None, Option, PlantLine, PlantStands, PlantView, RunStands, ScriptHeading, ShowsBound, ShowsPair, Some, Terms, Told, Watched, broken_of, codes, decimal, heard_of, limit_of, line_by, lines_by, link_at, link_line, link_lines, made_count, outputs_at, pair, same_count, slice_get_within, state_at, view_of, watched_after}
+use Rattle.plant_run.proofs.Common.{Act, Beginning, BoundSpec, IsSomeAnd, JournalStep, LinkConf, None, Option, PlantLine, PlantStands, PlantView, RunStands, RunView, ScriptHeading, ShowsBound, ShowsPair, Some, Terms, Told, Watched, broken_of, codes, decimal, heard_of, limit_of, line_by, lines_by, link_at, link_line, link_lines, made_count, outputs_at, pair, same_count, slice_get_within, state_at, view_of, watched_after}
 use Rattle.std.proofs.Common.{◌≡◌, ◌≤◌, ℕ, suc, List, [], ◌∷◌, ◌++◌, drop, length, slice_get, refl, sym, ap, subst, ◌∙◌, arith, rules}
 use Rattle.std.proofs.Math.Seq.{drop-cons}
 use Rattle.std.proofs.lemmas.List.{drop_all}
@@ -44,16 +44,15 @@ part_shown b acts v place next links text stands same shows number =
     rw (same, number) (link_part (slice_get b.links place) b.links place text v.journal refl (subst (λ (n : ℕ). IsSomeAnd (link_at b.links n) (λ l. text ≡ link_line l n (pair l n v.journal))) number (shows.shows b acts stands)))
 
 -- none waits after the last
-pub links_done : (t : Terms) (v : PlantView) (watched : List Watched) (left : List Named) (before after : Told) (count : ℕ) (h : ScriptHeading) (log : List PlantLine) (text : List ℕ) (place most : ℕ) (links : List LinkConf) → RunStands t v watched left before after count h log text
-    → links ≡ t.begins.links → most ≡ length v.links → most ≤ place → link_lines (suc place) (drop place links) v.journal ≡ []
-links_done t v watched left before after count h log text place most links k l m n = search (rules, same_count, made_count, drop_all)
+pub links_done : {t : Terms} {before : Told} {now : RunView} {count : ℕ} {h : ScriptHeading} {log : List PlantLine} {text : List ℕ} {place most : ℕ} {links : List LinkConf} → RunStands t before now count h log text → links ≡ t.begins.links → most ≡ length now.plant.links → most ≤ place → link_lines (suc place) (drop place links) now.plant.journal ≡ []
+links_done k l m n = search (rules, same_count, made_count, drop_all)
 
 -- the line of the next bound is the first part of what waits, and the rest waits on
 pub bound_part : (b : Beginning) (acts : List Act) (v : PlantView) (links : List LinkConf) (bounds : List BoundSpec) (watched : List Watched) (place next : ℕ) (w : Watched) (broken : Option ℕ) (text : List ℕ) → PlantStands b v acts → links ≡ b.links
     → watched ≡ watched_after b acts bounds → slice_get watched place ≡ Some w → ShowsBound v w.bound w.limit broken text → ((limit : ℕ) (heard : List reaction.Heard) → w.reaction ≡ view_of limit heard → broken ≡ broken_of limit heard) → next ≡ suc place
     → lines_by links v.journal (drop place watched) ≡ text ++ lines_by links v.journal (drop next watched)
 bound_part b acts v links bounds watched place next w broken text h same are at shows tells number =
-    let is = (bound_at b.links (λ bound. heard_of b bound acts) bounds place w (ap (λ (ws : List Watched). slice_get ws place) (sym are) ∙ at)).1 in
+    let is = (bound_at b.links (λ bound. heard_of b bound acts) bounds place w (ap (λ (ws : List Watched). slice_get ws place) (sym are) ∙ at)).2 in
     let late : broken ≡ w.reaction.broken = tells (limit_of b.links w.bound) (heard_of b w.bound acts) (ap (λ (z : Watched). z.reaction) is) ∙ sym (ap (λ (z : Watched). z.reaction.broken) is) in
     rw (same, number)
     (ap (lines_by b.links v.journal) (drop_at watched place w at)

@@ -4,5 +4,4 @@ pub mod Reporting
 pub mod Running
 pub mod Script
 pub mod ScriptLine
-pub mod Watching
 pub mod WorkedScripts

@@ -6,8 +6,7 @@ ghost use Rattle.fsoe_base.specs.declared.lengths.TheConstants.{MOST_DATA};
 ghost use Rattle.multi_master.specs.Standing.{app_view};
 ghost use Rattle.plant_model.specs.Pair.{is_tick};
 ghost use Rattle.plant_run.specs.Given.{named, terms_of};
-ghost use Rattle.plant_run.specs.Watching.{rest_in, rest_left};
-ghost use Rattle.plant_run.specs.Running.{RunCloses, RunStands};
+ghost use Rattle.plant_run.specs.Running.{RunCloses, RunStands, rest_in, rest_left};
 ghost use Rattle.plant_model.specs.PlantReport.{link_line};
 ghost use Rattle.plant_run.specs.Reporting.{plant_reporting};
 ghost use Rattle.plant_core.specs.Standing.{HasLink, ShowsPair, TellsOther, seen};
@@ -126,14 +125,14 @@ impl<'a, 'o, H: Application, C: Channel> Machine for Telling<'a, 'o, H, C> {
 
     ghost stands = { λ first v now h log text. let K = ⟦<KindOf<H> as Application>⟧ in let view = app_view K.rule K.holds K.guards in
         ((now.channel.ghost_name ≡ first.channel.ghost_name) × (now.plant.ghost_name ≡ first.plant.ghost_name)) × (now.conf ≡ first.conf)
-        × RunStands (terms_of view first.conf.now first.plant.now.master.app first.spare.now.items) (seen K.rule K.holds K.guards now.plant.now) now.watched.now.items (map (named view) now.spare.now.items) (C.told first.channel.now) (C.told now.channel.now) v.ticks h log text };
+        × RunStands (terms_of view first.conf.now first.plant.now.master.app first.spare.now.items) (C.told first.channel.now) (record { plant = seen K.rule K.holds K.guards now.plant.now; watched = now.watched.now.items; left = map (named view) now.spare.now.items; told = C.told now.channel.now }) v.ticks h log text };
 
     ghost waits = { λ v now. rest_in v.rest now.conf.now now.plant.now.journal now.watched.now.items };
 
     ghost parts = { λ v now. rest_left v.rest };
 
     ghost closes = { λ first now h log text ended. let K = ⟦<KindOf<H> as Application>⟧ in let view = app_view K.rule K.holds K.guards in
-        RunCloses (terms_of view first.conf.now first.plant.now.master.app first.spare.now.items) (seen K.rule K.holds K.guards now.plant.now) now.watched.now.items (map (named view) now.spare.now.items) (C.told first.channel.now) (C.told now.channel.now) h log text ended };
+        RunCloses (terms_of view first.conf.now first.plant.now.master.app first.spare.now.items) (C.told first.channel.now) (record { plant = seen K.rule K.holds K.guards now.plant.now; watched = now.watched.now.items; left = map (named view) now.spare.now.items; told = C.told now.channel.now }) h log text ended };
 
     fn laws() {}
 

@@ -1,10 +1,10 @@
 //! The bounds that a plant's run watches.
-ghost use Rattle.std.specs.Prelude.{◌≡◌, ◌≢◌, ◌≤◌, ◌+◌, ◌++◌, [], All, IfOk, length, option_map};
+ghost use Rattle.std.specs.Prelude.{◌≡◌, ◌≢◌, ◌≤◌, ◌+◌, ◌++◌, [], All, IfOk, length, option_copied};
 ghost use Rattle.std.specs.List.{AllZip};
 ghost use Rattle.plant_model.specs.BoundLines.{age_text, bit_text, broken_text, limit_of};
 ghost use Rattle.plant_model.specs.Pair.{link_at};
 ghost use Rattle.plant_core.specs.Standing.{seen};
-ghost use Rattle.plant_run.specs.Watching.{AreAged, HasRoom, HearsOne, ShowsBound, watched_by};
+ghost use Rattle.plant_run.specs.Running.{AreAged, HasRoom, HearsOne, ShowsBound, watched_by};
 
 use failsafe_io::{Application, Bit};
 use fsoe_base::{End, Memory};
@@ -14,28 +14,26 @@ use plant_core::Plant;
 use reaction_bound::Reaction;
 use std::alloc::Global;
 
-/// The watchdog of the master of this connection, if there is one.
-fn watchdog_at(links: &[LinkConf], link: u16) -> Option<u16>
-    ensures { result ≡ option_map (λ l. l.master.watchdog) (link_at links.now link) }
+/// The connection with this number, from 1, if there is one.
+fn link_at(links: &[LinkConf], link: u16) -> Option<&LinkConf>
+    ensures { option_copied result ≡ link_at links.now link }
 {
     if link == 0 {
         return None;
     }
-    match links.get(usize::from(link) - 1) {
-        Some(link) => Some(link.master.watchdog()),
-        None => None,
-    }
+    links.get(usize::from(link) - 1)
 }
 
 /// The limit of a bound in ticks: twice both master watchdogs, or 0 if one of the connections doesn't exist.
-#[tactic(auto, using(crate::proofs::Hearing::limit_both, crate::proofs::Hearing::limit_none, crate::proofs::Hearing::limit_less))]
 fn limit_of(links: &[LinkConf], bound: BoundSpec) -> u32
     ensures { result ≡ limit_of links.now bound }
 {
-    let estop = watchdog_at(links, bound.estop.link);
-    let drive = watchdog_at(links, bound.drive.link);
+    let estop = link_at(links, bound.estop.link);
+    let drive = link_at(links, bound.drive.link);
     match (estop, drive) {
-        (Some(estop), Some(drive)) => 2 * u32::from(estop) + 2 * u32::from(drive),
+        (Some(estop), Some(drive)) => {
+            2 * u32::from(estop.master.watchdog()) + 2 * u32::from(drive.master.watchdog())
+        }
         _ => 0,
     }
 }
@@ -62,11 +60,10 @@ pub(crate) fn watched_made(
     for i in 0..bounds.len() {
         let bound = bounds[i];
         let limit = limit_of(links, bound);
-        let reaction = Reaction::new(limit);
         let watched = Watched {
             bound,
             limit,
-            reaction,
+            reaction: Reaction::new(limit),
         };
         if made.push(watched).is_err() {
             return Err(Memory);

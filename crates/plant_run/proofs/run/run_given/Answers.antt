@@ -10,5 +10,5 @@ returns-clause-plant_stays g c = left_so _ _ _ _ _ _ c.run_over.ensures.leaves (
 
 pub returns-clause-ran : goal.returns-clause-ran
 returns-clause-ran g c =
-    ran_plant _ _ c.run_over.result _ _ _ _ _ _ _ c.run_over.ensures.ran c.run_over.ensures.leaves
+    ran_plant _ c.run_over.ensures.ran c.run_over.ensures.leaves
     (λ same. (ap (λ given. g.C.Channel.told given.channel.now) same, ap (λ given. given.plant.now.journal) same ∙ c.requires)) (λ h log text stands. (_, stands.1.2))

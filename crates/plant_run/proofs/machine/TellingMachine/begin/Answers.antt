@@ -10,5 +10,5 @@ pub returns-clause-stands : goal.returns-clause-stands
 returns-clause-stands g c = (
   (refl, refl),
   refl,
-  begun _ _ _ _ _ _ c.args.arg1.now c.in_ok-begin.ensures.starts c.in_ok-begin.ensures.fixed (rw (c.links.ensures.value, c.bounds.ensures.value) at c.in_ok-watched.ensures) c.hear.ensures c.in_ok-begin.ensures.same_lengths c.requires.kind,
+  begun c.in_ok-begin.ensures.starts c.in_ok-begin.ensures.fixed (rw (c.links.ensures.value, c.bounds.ensures.value) at c.in_ok-watched.ensures) c.hear.ensures c.in_ok-begin.ensures.same_lengths c.requires.kind (λ more. refl),
 )

@@ -4,9 +4,9 @@ use Rattle.plant_run.proofs.NextLine.{closed, other_ends}
 use Rattle.plant_run.proofs.machine.TellingMachine.close.Goals as goal
 
 pub returns-clause-ends : goal.returns-clause-ends
-returns-clause-ends g c = λ first h log lines stands. rw c.ended_with.ensures (other_ends _ _ _ _ _ _ _ _ _ _ c.other_of-other.result stands.2 c.other_of-other.ensures)
+returns-clause-ends g c = λ first h log lines stands. rw c.ended_with.ensures (other_ends stands.2 c.other_of-other.ensures)
 
 pub returns-clause-closes : goal.returns-clause-closes
 returns-clause-closes g c = λ first h log lines n stands.
-    closed _ _ _ _ _ _ c.args.self.now.ticks h log lines c.other_of-other.result _ _ _ stands.2 c.other_of-other.ensures
+    closed stands.2 c.other_of-other.ensures
     (c.push_other.ensures.text ∙ ap (λ (z : List ℕ). z ++ other_line c.other_of-other.result) c.write_count.ensures.text) (ap (λ conf. conf.now.links) stands.1) c.ended_with.ensures

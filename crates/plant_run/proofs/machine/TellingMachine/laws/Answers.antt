@@ -10,7 +10,7 @@ pub returns-clause-headless : goal.returns-clause-headless
 returns-clause-headless g c = λ handed number why. (Start ∷ [], refl, refl, refl, refl)
 
 pub returns-clause-so_far : goal.returns-clause-so_far
-returns-clause-so_far g c = λ first v now h log text stands. plant_so_far _ _ _ _ _ _ _ h log text stands.2
+returns-clause-so_far g c = λ first v now h log text stands. plant_so_far stands.2
 
 pub returns-clause-whole : goal.returns-clause-whole
-returns-clause-whole g c = λ first now h log text ended closes. plant_ends _ _ _ _ _ _ h log text ended closes
+returns-clause-whole g c = λ first now h log text ended closes. plant_ends closes

@@ -8,13 +8,13 @@ use Rattle.plant_run.proofs.NextLine.{app_stopped, goes_on, says_app, step_fits}
 use Rattle.plant_run.proofs.machine.TellingMachine.report.Goals as goal
 
 pub step-requires : goal.step-requires
-step-requires g c = record { fits = step_fits _ _ _ _ _ _ _ _ _ _ c.in-Step.event c.requires.1.stands.2 (rw c.in-Step.is at c.requires.1.said) }
+step-requires g c = record { fits = step_fits c.requires.1.stands.2 (rw c.in-Step.is at c.requires.1.said) }
 
 pub hear-requires : goal.hear-requires
-hear-requires g c = can_hear _ _ _ _ _ _ _ _ _ _ c.requires.1.stands.2 (omega (arith, c.requires.1.number_is, c.requires.1.few))
+hear-requires g c = can_hear c.requires.1.stands.2 (omega (arith, c.requires.1.number_is, c.requires.1.few))
 
 pub hear-requires-in-App : goal.hear-requires-in-App
-hear-requires-in-App g c = can_hear _ _ _ _ _ _ _ _ _ _ c.requires.1.stands.2 (omega (arith, c.requires.1.number_is, c.requires.1.few))
+hear-requires-in-App g c = can_hear c.requires.1.stands.2 (omega (arith, c.requires.1.number_is, c.requires.1.few))
 
 pub returns-then-tick-clause-takes_event : goal.returns-then-tick-clause-takes_event
 returns-then-tick-clause-takes_event g c =
@@ -23,7 +23,7 @@ returns-then-tick-clause-takes_event g c =
       takes = λ h log text number stands. (
         stands.0,
         stands.1,
-        goes_on _ _ _ _ _ _ _ _ _ _ _ _ h log text _ c.args.event.now (line.Step c.in-Step.event) _ c.in-Step.is stands.2 c.in-Ok.ensures.follows c.step.ensures.fixed (rw c.is_tick-tick.ensures at c.hear.ensures) (λ more. refl) (rw ticks refl)
+        goes_on c.in-Step.is stands.2 c.in-Ok.ensures.follows c.step.ensures.fixed (rw c.is_tick-tick.ensures at c.hear.ensures) (λ more. refl) (rw ticks refl)
             (rw ticks (ap₂ (λ text links. text ++ link_lines 1 links c.step.new.self.journal) c.write_count.ensures.text (ap (λ conf. conf.now.links) stands.1))),
       );
     }
@@ -35,7 +35,7 @@ returns-else-tick-clause-takes_event g c =
       takes = λ h log text number stands. (
         stands.0,
         stands.1,
-        goes_on _ _ _ _ _ _ _ _ _ _ _ _ h log text _ c.args.event.now (line.Step c.in-Step.event) _ c.in-Step.is stands.2 c.in-Ok.ensures.follows c.step.ensures.fixed (rw c.is_tick-tick.ensures at c.hear.ensures) (λ more. refl) (rw quiet (omega arith))
+        goes_on c.in-Step.is stands.2 c.in-Ok.ensures.follows c.step.ensures.fixed (rw c.is_tick-tick.ensures at c.hear.ensures) (λ more. refl) (rw quiet (omega arith))
             (rw quiet (ap (λ (z : List ℕ). z ++ []) c.clear.ensures)),
       );
     }
@@ -48,7 +48,7 @@ returns-in_ok-take_spare-in-App-clause-takes_event g c =
       takes = λ h log text number stands. (
         stands.0,
         stands.1,
-        goes_on _ _ _ _ _ _ _ _ _ _ _ _ h log text _ c.args.event.now (line.App c.bytes.result.now) _ (c.in-App.is ∙ ap line.App (sym c.bytes.ensures.value)) stands.2 (taken.2 _) c.take_spare.ensures.fixed c.hear-in-App.ensures
+        goes_on (c.in-App.is ∙ ap line.App (sym c.bytes.ensures.value)) stands.2 (taken.2 _) c.take_spare.ensures.fixed c.hear-in-App.ensures
             (says_app (app_view K.rule K.holds K.guards) c.bytes.result.now _ _ taken.0 taken.1) (omega arith) (ap (λ (z : List ℕ). z ++ []) c.clear.ensures),
       );
     }
@@ -59,4 +59,4 @@ returns-in_err-take_spare-in-App-clause-stopped g c =
     let K = ghosts g.row.H g.H.Application no_dict no_dict in
     rw (p.1, p.2)
     (λ first h log text stands.
-    app_stopped (app_view K.rule K.holds K.guards) _ _ _ _ _ _ _ h log text c.bytes.result.now c.args.event.now _ (c.in-App.is ∙ ap line.App (sym c.bytes.ensures.value)) stands.2 c.in_err-take_spare-in-App.ensures.none)
+    app_stopped (app_view K.rule K.holds K.guards) _ c.bytes.result.now c.args.event.now _ (c.in-App.is ∙ ap line.App (sym c.bytes.ensures.value)) stands.2 refl c.in_err-take_spare-in-App.ensures.none)
