@@ -37,9 +37,7 @@ pub(crate) fn begin_over<M: Machine, S: Source>(
     let Ok(mut header) = M::open(handed) else {
         return Err(Halt::Memory);
     };
-    if let Err(why) = read_header::<M::Format, S>(&mut header, reader, source) {
-        return Err(why);
-    }
+    read_header::<M::Format, S>(&mut header, reader, source)?;
     let grammar = M::Format::grammar(&header);
     match M::begin(&header, handed) {
         Ok(machine) => Ok((machine, grammar)),

@@ -162,9 +162,7 @@ impl InSession {
         ensures { Advances kit.now (now.Session self.old) seen.now.frame result (now.Session self.new) out.old out.new }
     {
         let from = self.upload.len();
-        if let Err(code) = self.upload.take(seen.frame.load(), kit.settings().rule()) {
-            return Err(code);
-        }
+        self.upload.take(seen.frame.load(), kit.settings().rule())?;
         let settings = kit.settings();
         let own_id = Payload::session(self.id, settings.profile());
         let piece = own_id.piece_from(from, settings.piece_len());
@@ -249,9 +247,7 @@ impl InConnection {
         requires passed { PassedIn kit.now.settings (now.Connection self.old) seen.now.frame seen.now.link }
         ensures { Advances kit.now (now.Connection self.old) seen.now.frame result (now.Connection self.new) out.old out.new }
     {
-        if let Err(code) = self.upload.take(seen.frame.load(), kit.settings().rule()) {
-            return Err(code);
-        }
+        self.upload.take(seen.frame.load(), kit.settings().rule())?;
         let load = self.upload.echo(kit.settings().own_len());
         self.session.take(&seen.frame, seen.link);
         self.session
@@ -336,9 +332,7 @@ impl InParameter {
         requires passed { PassedIn kit.now.settings (now.Parameter self.old) seen.now.frame seen.now.link }
         ensures { Advances kit.now (now.Parameter self.old) seen.now.frame result (now.Parameter self.new) out.old out.new }
     {
-        if let Err(code) = self.upload.take(seen.frame.load(), kit.settings().rule()) {
-            return Err(code);
-        }
+        self.upload.take(seen.frame.load(), kit.settings().rule())?;
         let load = self.upload.echo(kit.settings().own_len());
         self.session.take(&seen.frame, seen.link);
         self.session
