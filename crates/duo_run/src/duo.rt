@@ -97,7 +97,6 @@ impl Duo {
 
     /// Does one event, as `step` does, and makes no entry. What the end did and the frame that it sent are written to
     /// `answer`; the rest of the entry is read from the end.
-    #[tactic(auto, using(crate::proofs::Pair::Moved::master_proper, crate::proofs::Pair::Moved::slave_proper, crate::proofs::Pair::Stepped::master_advances, crate::proofs::Pair::Stepped::slave_advances, crate::proofs::Pair::Stepped::misses_by))]
     pub(crate) fn advance(&mut self, event: &Event, answer: &mut Answer) -> Result<(), StepFault>
         requires fits { Fits (length_of (lengths_of self.old)) (profile_of (profiles_of self.old)) event.now }
         requires fewer { steps_done self.old + 1 < 2 ^ 64 }

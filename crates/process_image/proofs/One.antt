@@ -1,6 +1,6 @@
 -- A call that is a move of one slot, or of none.
 use Rattle.process_image.proofs.Common.{All-head, All-tail, AllZip, AreNumbered, Core, Did, Follows, ImageEvent, ImagesView, IsSeatOf, IsSoundSeat, IsStepOf, Move, Place, Seat, SeatStep, after_steps, contents, if_named, input, move_in, nat_tests, sampled, with_bytes, with_sent}
-use Rattle.std.proofs.Common.{◌≡◌, ◌<◌, ℕ, zero, suc, ◌+◌, ◌==◌, List, [], ◌∷◌, map, slice_get, slice_set, All, Some, None, true, false, if◌then◌else◌, refl, sym, ap, subst, ◌∙◌, arith}
+use Rattle.std.proofs.Common.{◌≡◌, ◌≤◌, ℕ, zero, suc, ◌+◌, ◌==◌, List, [], ◌∷◌, map, slice_get, slice_set, All, Some, None, true, false, if◌then◌else◌, refl, sym, ap, subst, ◌∙◌, arith}
 use Rattle.param_load.specs.declared.entry.Move.TheVariants as move
 use Rattle.process_image.specs.declared.event.ImageEvent.TheVariants as event
 use Rattle.process_image.proofs.Following.{IsPart, stands_more}
@@ -20,13 +20,15 @@ still-part size si so calls call p seat h s none same = record {
   len_is = s.len_out_is;
 }
 
--- no slot moves
-still-parts : (size si so : ℕ) (calls : List ImageEvent) (call : ImageEvent) (places : List Place) (seats : List Seat) → AllZip (IsSeatOf size calls) places seats → All (IsSoundSeat si so) seats
-    → ((p : Place) → move_in size p calls call ≡ None) → Unsampled size calls call → AllZip (IsPart size calls call) places (map still seats)
-still-parts size si so calls call [] [] h s none same = tt
-still-parts size si so calls call (p ∷ places) (seat ∷ seats) h s none same =
-    (still-part size si so calls call p seat h.0 (All-head (IsSoundSeat si so) seat seats s) (none p) same, still-parts size si so calls call places seats h.1 (All-tail (IsSoundSeat si so) seat seats s) none same)
-still-parts size si so calls call _ _ h s none same = absurd h
+-- no slot of these numbers moves
+still-parts : (size si so n : ℕ) (calls : List ImageEvent) (call : ImageEvent) (places : List Place) (seats : List Seat) → AllZip (IsSeatOf size calls) places seats → All (IsSoundSeat si so) seats → AreNumbered n places
+    → ((p : Place) → n ≤ p.number → move_in size p calls call ≡ None) → Unsampled size calls call → AllZip (IsPart size calls call) places (map still seats)
+still-parts size si so n calls call [] [] h s numbers none same = tt
+still-parts size si so n calls call (p ∷ places) (seat ∷ seats) h s numbers none same = (
+  still-part size si so calls call p seat h.0 (All-head (IsSoundSeat si so) seat seats s) (none p (omega (arith, numbers.0))) same,
+  still-parts size si so (suc n) calls call places seats h.1 (All-tail (IsSoundSeat si so) seat seats s) numbers.1 (λ q late. none q (omega (arith, late))) same,
+)
+still-parts size si so n calls call _ _ h s numbers none same = absurd h
 
 still-new : (seats : List Seat) → map (λ x. x.new) (map still seats) ≡ seats
 still-new [] = refl
@@ -43,7 +45,7 @@ pub write_follows : (si so : ℕ) (old new : ImagesView) (at : ℕ) (bytes : Lis
 write_follows si so old new at bytes s seats now out = record {
   stands = λ plan calls h.
       stands_more plan old new calls (event.Write at bytes) (map still old.seats) h
-      (still-parts plan.size_in si so calls (event.Write at bytes) plan.places old.seats h.slots s (λ p. refl) refl)
+      (still-parts plan.size_in si so 1 calls (event.Write at bytes) plan.places old.seats h.slots s h.made.numbers (λ p some. refl) refl)
       (still-new old.seats ∙ sym seats) (now ∙ ap (with_bytes at bytes) h.input_is) (out ∙ still-out si so old.seats old.output s);
 }
 
@@ -63,15 +65,6 @@ unnamed slot p what n e h = let q : (slot == p.number) ≡ false = grind (arith,
 pub it : (slot : ℕ) (p : Place) (what : Move) → p.number ≡ slot → if_named slot p what ≡ Some what
 it slot p what e = let q : (slot == p.number) ≡ true = grind (arith, nat_tests) in ap (λ b. if b then Some what else None) q
 
-later-parts : (size si so n slot : ℕ) (what : Move) (calls : List ImageEvent) (call : ImageEvent) (places : List Place) (seats : List Seat) → AllZip (IsSeatOf size calls) places seats
-    → All (IsSoundSeat si so) seats → AreNumbered n places → slot < n → Names call slot what → Unsampled size calls call → AllZip (IsPart size calls call) places (map still seats)
-later-parts size si so n slot what calls call [] [] h s numbers late names same = tt
-later-parts size si so n slot what calls call (p ∷ places) (seat ∷ seats) h s numbers late names same = (
-  still-part size si so calls call p seat h.0 (All-head (IsSoundSeat si so) seat seats s) (names size p calls ∙ unnamed slot p what n numbers.0 (λ is. omega arith)) same,
-  later-parts size si so (suc n) slot what calls call places seats h.1 (All-tail (IsSoundSeat si so) seat seats s) numbers.1 (omega arith) names same,
-)
-later-parts size si so n slot what calls call _ _ h s numbers late names same = absurd h
-
 named-part : (size si so slot : ℕ) (what : Move) (calls : List ImageEvent) (call : ImageEvent) (p : Place) (x : SeatStep) → IsSeatOf size calls p x.old → IsSoundSeat si so x.old → p.number ≡ slot
     → IsStepOf what x → Names call slot what → Unsampled size calls call → IsPart size calls call p x
 named-part size si so slot what calls call p x h s n x-is names same = record {
@@ -89,7 +82,7 @@ one-parts size si so n k slot what calls call [] [] x h s numbers e at x-is name
 one-parts size si so n zero slot what calls call (p ∷ places) (seat ∷ seats) x h s numbers e at x-is names same =
     let i : seat ≡ x.old = cc in (
       named-part size si so slot what calls call p x (subst (IsSeatOf size calls p) i h.0) (subst (IsSoundSeat si so) i (All-head (IsSoundSeat si so) seat seats s)) (grind arith) x-is names same,
-      later-parts size si so (suc n) slot what calls call places seats h.1 (All-tail (IsSoundSeat si so) seat seats s) numbers.1 (omega arith) names same,
+      still-parts size si so (suc n) calls call places seats h.1 (All-tail (IsSoundSeat si so) seat seats s) numbers.1 (λ q late. names size q calls ∙ unnamed slot q what q.number refl (λ is. omega (arith, late, is, e))) same,
     )
 one-parts size si so n (suc k) slot what calls call (p ∷ places) (seat ∷ seats) x h s numbers e at x-is names same = (
   still-part size si so calls call p seat h.0 (All-head (IsSoundSeat si so) seat seats s) (names size p calls ∙ unnamed slot p what n numbers.0 (λ is. omega arith)) same,

@@ -1,8 +1,10 @@
 -- A run of images over the events of an input.
-use Rattle.process_image.proofs.Common.{All, All-cons, All-nil, AllZip, DoesEvent, Err, FitsImages, HasSlot, IfOk, ImageEvent, ImageHeading, ImagesView, IsEndOf, IsMadeOf, IsNew, IsPlanOf, IsPrefix, IsSeatOf, IsSlotOf, IsTrue, LineCause, Ok, Place, Plan, Refused, ReportsSoFar, Result, RunStands, RunView, Seat, Setup, Slot, SlotHeader, StandsFor, allows_id, append-nil, by_word, bytes_said, common_steps, deeds, each, end_at, end_terms, ended_at, event_in, event_lines, fields_of, id_at, image_format, image_line, image_reporting, image_said, known, last_lines, lines_of_events, map_ok, nat_le, next_field, no_field, number_16, number_32, numbered, one_field, places_from, plan_of, profile_of, report_of, reverse-append, sends, setup_is, setup_of, setups_of, slots_of, value_or, word_of}
+use Rattle.process_image.proofs.Common.{All, All-cons, All-nil, AllZip, DoesEvent, Err, FitsImages, HasSlot, IfOk, ImageEvent, ImageHeading, ImagesView, IsEndOf, IsMadeOf, IsNew, IsPlanOf, IsPrefix, IsSeatOf, IsSlotOf, IsTrue, LineCause, Ok, Place, Plan, Refused, ReportsSoFar, Result, RunStands, RunView, Seat, Setup, Slot, SlotHeader, StandsFor, allows_id, append-nil, bytes_said, common_steps, deeds, each, end_at, end_terms, ended_at, event_in, event_lines, fields_of, id_at, image_format, image_line, image_reporting, image_said, known, last_lines, lines_of_events, map_ok, nat_le, next_field, no_field, number_16, number_32, numbered, one_field, places_from, plan_of, profile_of, report_of, reverse-append, sends, setup_is, setup_of, setups_of, slots_of, value_or, word_of}
 use Rattle.schedule_file.specs.EventLine.{switch_of}
 use Rattle.std.proofs.Common.{◌≡◌, ◌+◌, ◌==◌, ℕ, zero, suc, List, [], ◌∷◌, ◌++◌, Bool, true, false, length, map, reverse, slice_get, Option, Some, None, IfSome, append_assoc, leb-true, eqb-true, refl, sym, ap, subst, ◌∙◌, arith}
 use Rattle.std.specs.Prelude.{◌<◌, if◌then◌else◌}
+use Rattle.process_image.specs.EventLine.{slot_and_field}
+use Rattle.schedule_file.proofs.Sound.{ok_if, worded}
 use Rattle.schedule_file.specs.declared.line_cause.LineCause.TheVariants as cause
 use Rattle.file_run.specs.Machine.{IsSaid}
 use Rattle.process_image.specs.declared.event.ImageEvent.TheVariants as event
@@ -64,11 +66,7 @@ abbrev OnStep : (ImageEvent → Type 0) → ImageLine → Type 0
 OnStep P (line.Step e) = P e
 OnStep P line.End = Unit {0}
 
--- a test of what a line says
-pub tested : {A : Type 0} (b : Bool) (x : A) (c : LineCause) (P : A → Type 0) → (b ≡ true → P x) → IfOk (if b then Ok x else Err c) P
-tested true x c P h = h refl
-tested false x c P h = tt
-
+-- a word that says one thing
 bare : (l : ImageLine) (r : Result (Unit {0}) LineCause) (P : ImageLine → Type 0) → P l → IfOk (map_ok (λ none. l) r) P
 bare l (Ok x) P h = h
 bare l (Err e) P h = tt
@@ -90,31 +88,27 @@ refused-id false P = tt
 id-fits : (size : ℕ) (ends : List SlotEnd) (v : ImagesView) (slot id : ℕ) (o : Option SlotEnd) → HaveEnds size ends v → numbered slot ends ≡ o → IfOk (id_at o slot id) (OnStep (FitsImages v))
 id-fits size ends v slot id None h e = refused-id (nat_le id 65535) (OnStep (FitsImages v))
 id-fits size ends v slot id (Some end) h e =
-    tested (allows_id end.profile id) (line.Step (event.Nonce slot id)) cause.Number (OnStep (FitsImages v)) (λ t. let a = h.ends_are slot end e in (a.0, id-allowed (numbered slot (setups_of v)) id end t a.1))
+    ok_if (allows_id end.profile id) (line.Step (event.Nonce slot id)) cause.Number (OnStep (FitsImages v)) (λ t. let a = h.ends_are slot end e in (a.0, id-allowed (numbered slot (setups_of v)) id end t a.1))
 
 said-fits : (size : ℕ) (ends : List SlotEnd) (v : ImagesView) (w : Option Word) (fields : List (List ℕ)) → HaveEnds size ends v → IfOk (image_said size ends w fields) (OnStep (FitsImages v))
 said-fits size ends v None fields h = tt
 said-fits size ends v (Some word.Write) fields h =
     each (next_field fields) _ _ (λ place. each (one_field place.1) _ _ (λ digits. each (number_16 place.0) _ _ (λ at. each (value_or cause.Hex (bytes_said 256 digits)) _ _
-    (λ bytes. tested (nat_le (at + length bytes) size) (line.Step (event.Write at bytes)) cause.Position (OnStep (FitsImages v)) (λ t. rw h.size_is (leb-true (at + length bytes) size t))))))
+    (λ bytes. ok_if (nat_le (at + length bytes) size) (line.Step (event.Write at bytes)) cause.Position (OnStep (FitsImages v)) (λ t. rw h.size_is (leb-true (at + length bytes) size t))))))
 said-fits size ends v (Some word.Sample) fields h = bare (line.Step event.Sample) (no_field fields) (OnStep (FitsImages v)) tt
 said-fits size ends v (Some word.Tick) fields h = bare (line.Step event.Tick) (no_field fields) (OnStep (FitsImages v)) tt
 said-fits size ends v (Some word.Put) fields h =
-    each (next_field fields) _ _ (λ first. each (one_field first.1) _ _ (λ digits. each (number_16 first.0) _ _ (λ slot. known (end_at slot ends) _ (λ end. numbered slot ends ≡ Some end) _ (found (numbered slot ends))
-    (λ end e. each (value_or cause.Hex (bytes_said 126 digits)) _ _ (λ bytes. tested (length bytes == end.sends) (line.Step (event.Put slot bytes)) cause.Length (OnStep (FitsImages v))
-    (λ t. let a = h.ends_are slot end e in (a.0, put-len (numbered slot (setups_of v)) (length bytes) end (eqb-true (length bytes) end.sends t) a.1)))))))
+    each (slot_and_field fields) _ _ (λ first. known (end_at first.0 ends) _ (λ end. numbered first.0 ends ≡ Some end) _ (found (numbered first.0 ends))
+    (λ end e. each (value_or cause.Hex (bytes_said 126 first.1)) _ _ (λ bytes. ok_if (length bytes == end.sends) (line.Step (event.Put first.0 bytes)) cause.Length (OnStep (FitsImages v))
+    (λ t. let a = h.ends_are first.0 end e in (a.0, put-len (numbered first.0 (setups_of v)) (length bytes) end (eqb-true (length bytes) end.sends t) a.1)))))
 said-fits size ends v (Some word.Hold) fields h =
-    each (next_field fields) _ _ (λ first. each (one_field first.1) _ _ (λ field. each (number_16 first.0) _ _ (λ slot. each (value_or cause.Number (switch_of field)) _ _
-    (λ failsafe. known (end_at slot ends) _ (λ end. numbered slot ends ≡ Some end) _ (found (numbered slot ends)) (λ end e. (h.ends_are slot end e).0)))))
+    each (slot_and_field fields) _ _ (λ first. each (value_or cause.Number (switch_of first.1)) _ _
+    (λ failsafe. known (end_at first.0 ends) _ (λ end. numbered first.0 ends ≡ Some end) _ (found (numbered first.0 ends)) (λ end e. (h.ends_are first.0 end e).0)))
 said-fits size ends v (Some word.Nonce) fields h =
-    each (next_field fields) _ _ (λ first. each (one_field first.1) _ _ (λ field. each (number_16 first.0) _ _ (λ slot. each (number_32 field) _ _ (λ id. id-fits size ends v slot id (numbered slot ends) h refl))))
+    each (slot_and_field fields) _ _ (λ first. each (number_32 first.1) _ _ (λ id. id-fits size ends v first.0 id (numbered first.0 ends) h refl))
 said-fits size ends v (Some word.Reset) fields h =
     each (one_field fields) _ _ (λ field. each (number_16 field) _ _ (λ slot. known (end_at slot ends) _ (λ end. numbered slot ends ≡ Some end) _ (found (numbered slot ends)) (λ end e. (h.ends_are slot end e).0)))
 said-fits size ends v (Some word.End) fields h = bare line.End (no_field fields) (OnStep (FitsImages v)) tt
-
-fields-fit : (size : ℕ) (ends : List SlotEnd) (v : ImagesView) (fields : List (List ℕ)) → HaveEnds size ends v → IfOk (by_word cause.Word (λ word. image_said size ends (word_of word)) fields) (OnStep (FitsImages v))
-fields-fit size ends v [] h = tt
-fields-fit size ends v (first ∷ fields) h = said-fits size ends v (word_of first) fields h
 
 step-fits : (P : ImageEvent → Type 0) (l : ImageLine) (e : ImageEvent) → event_in l ≡ Some e → OnStep P l → P e
 step-fits P l e h k = grind arith
@@ -149,7 +143,9 @@ run_fits v h log text e r said =
     let have : HaveEnds h.size_in (map end_terms (slots_of h)) v.images =
     record { size_is = r.size_in ∙ r.made.size_in_is; ends_are = λ slot end at. ends-numbered v.images h r.plan (reverse log) slot end r.made r.images at }
     in
-    let fits : IfOk (image_line h.size_in (map end_terms (slots_of h)) said.0) (OnStep (FitsImages v.images)) = fields-fit h.size_in (map end_terms (slots_of h)) v.images (fields_of said.0) have in
+    let fits : IfOk (image_line h.size_in (map end_terms (slots_of h)) said.0) (OnStep (FitsImages v.images)) =
+    worded cause.Word _ _ (λ first fields. said-fits h.size_in (map end_terms (slots_of h)) v.images (word_of first) fields have) (fields_of said.0)
+    in
     let one : OnStep (FitsImages v.images) said.1 = subst (λ (x : Result ImageLine LineCause). IfOk x (OnStep (FitsImages v.images))) said.2 fits in
     step-fits (FitsImages v.images) said.1 e said.3 one
 

@@ -1,14 +1,14 @@
 -- Each input of images has a report: a header that is whole says settings of each end.
-use Rattle.process_image.proofs.Common.{All-head, All-nil, All-push, All-tail, AllZip, AreNumbered, Err, IfOk, ImageEvent, ImageHeading, IsEndOf, IsImageReport, IsPlanOf, IsSlotOf, OfMaster, OfSlave, Ok, Place, Plan, Setup, SlotHeader, Sound, Stage, Stop, after_sound, by_word, bytes_eq, codes, each, either, end_of, fields_of, fits_images, headed, heading_is_whole, image_format, input_read, is_end_line, is_open, kind_after, known, line_taken, master_settings, may_end, nat_le, new_sound, next_field, node_heading_after, not, number_16, one_field, own_taken, report_of, size_line, size_taken, slave_settings, slot_begun, slot_line, slot_taken, slots_begun, slots_of, with_last}
+use Rattle.process_image.proofs.Common.{All-head, All-nil, All-push, All-tail, AllZip, AreNumbered, Err, IfOk, ImageEvent, ImageHeading, IsEndOf, IsImageReport, IsPlanOf, IsSlotOf, OfMaster, OfSlave, Ok, Place, Plan, Setup, SlotHeader, Sound, Stage, Stop, after_sound, bytes_eq, codes, each, either, end_of, fields_of, fits_images, headed, heading_is_whole, image_format, input_read, is_end_line, is_open, kind_after, known, line_taken, master_settings, may_end, new_sound, node_heading_after, not, own_taken, report_of, size_line, size_taken, slave_settings, slot_begun, slot_line, slot_taken, slots_begun, slots_of, with_last}
 use Rattle.fsoe_base.specs.declared.command.End.{End}
 use Rattle.file_run.specs.Report.{last_line}
 use Rattle.std.proofs.Common.{◌≡◌, ◌+◌, ℕ, suc, List, [], ◌∷◌, All, length, reverse, Option, Some, None, IfSome, refl}
-use Rattle.std.specs.Prelude.{if◌then◌else◌, ◌&&◌, ◌==◌}
+use Rattle.std.specs.Prelude.{if◌then◌else◌, ◌&&◌}
 use Rattle.fsoe_base.specs.declared.command.End.TheVariants as side
 use Rattle.schedule_file.specs.declared.header_kind.HeaderKind.TheVariants as kind
 use Rattle.schedule_file.specs.declared.line_cause.LineCause.TheVariants as cause
+use Rattle.schedule_file.proofs.Sound.{worded}
 use Rattle.process_image.specs.declared.header.Stage.TheVariants as stage
-use Rattle.process_image.proofs.Runs.{tested}
 
 -- the lines of a slot say values that settings may have
 abbrev IsSound : SlotHeader → Type 0
@@ -27,18 +27,13 @@ begun-all stage.Done before last h p = All-push IsSound before last h p
 begun-all _ before last h p = All-nil IsSound
 
 -- a header after one more line
-slot-sound : (n : ℕ) (fields : List (List ℕ)) → IfOk (slot_line n fields) IsSound
-slot-sound n fields =
-    each (next_field fields) _ IsSound (λ first. each (next_field first.1) _ IsSound (λ second. each (one_field second.1) _ IsSound (λ third. each (number_16 first.0) _ IsSound (λ k. each (number_16 second.0) _ IsSound
-    (λ at_in. each (number_16 third) _ IsSound (λ at_out. tested (k == n && nat_le k 64) (slot_begun at_in at_out) cause.Range IsSound (λ e. begun-sound at_in at_out)))))))
-
 size-taken : (h : ImageHeading) (fields : List (List ℕ)) → AreSound h → IfOk (size_taken h fields) AreSound
 size-taken h fields s = each (size_line fields) _ AreSound (λ sizes. s)
 
 slot-taken : (h : ImageHeading) (fields : List (List ℕ)) → AreSound h → IfOk (slot_taken h fields) AreSound
 slot-taken h fields s =
-    known (slot_line (length (slots_of h) + 1) fields) _ IsSound AreSound (slot-sound (length (slots_of h) + 1) fields)
-    (λ slot sound. either (is_open h.last) (Err cause.Range) (Ok (record h { stage = stage.Slots; before = slots_of h; last = slot })) AreSound tt (begun-all h.stage h.before h.last s.0 s.1, sound))
+    each (slot_line (length (slots_of h) + 1) fields) _ AreSound
+    (λ places. either (is_open h.last) (Err cause.Range) (Ok (record h { stage = stage.Slots; before = slots_of h; last = slot_begun places.0 places.1 })) AreSound tt (begun-all h.stage h.before h.last s.0 s.1, begun-sound places.0 places.1))
 
 with-last : (h : ImageHeading) (slot : SlotHeader) → AreSound h → IsSound slot → IfOk (with_last h slot) AreSound
 with-last h slot s sound =
@@ -55,10 +50,6 @@ line-taken stage.Title h text first fields s = either (bytes_eq first (codes "si
 line-taken stage.Size h text first fields s = either (bytes_eq first (codes "slot")) (slot_taken h fields) (Err cause.Header) AreSound (slot-taken h fields s) tt
 line-taken stage.Slots h text first fields s = either (bytes_eq first (codes "slot") && may_end h.last.own) (slot_taken h fields) (own_taken h text) AreSound (slot-taken h fields s) (own-taken h text s)
 line-taken _ h text first fields s = tt
-
-fields-taken : (h : ImageHeading) (text : List ℕ) (fields : List (List ℕ)) → AreSound h → IfOk (by_word cause.Header (line_taken h.stage h text) fields) AreSound
-fields-taken h text [] s = tt
-fields-taken h text (first ∷ fields) s = line-taken h.stage h text first fields s
 
 -- then there are slots as it says
 end-by : (s : SlotHeader) (e : End) → end_of s ≡ e → IsSound s → (t : Setup) × IsEndOf s t
@@ -84,4 +75,4 @@ report-by None events stop s = (last_line 0 stop, refl)
 report-by (Some h) events stop s = let plan = plan-of h s in (report_of plan.0 (reverse events) stop, (plan.0, plan.1, refl))
 
 pub some_report : (bytes : List ℕ) → (text : List ℕ) × IsImageReport (input_read image_format bytes).heading (input_read image_format bytes).events (input_read image_format bytes).stop text
-some_report bytes = report-by (input_read image_format bytes).heading (input_read image_format bytes).events (input_read image_format bytes).stop (headed image_format AreSound (All-nil IsSound, begun-sound 0 0) (λ h text s. fields-taken h text (fields_of text) s) bytes)
+some_report bytes = report-by (input_read image_format bytes).heading (input_read image_format bytes).events (input_read image_format bytes).stop (headed image_format AreSound (All-nil IsSound, begun-sound 0 0) (λ h text s. worded cause.Header (line_taken h.stage h text) AreSound (λ first fields. line-taken h.stage h text first fields s) (fields_of text)) bytes)

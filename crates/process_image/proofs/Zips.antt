@@ -12,14 +12,10 @@ pub is_there : {A : Type 0} (o : Option A) (P : A → Type 0) → IsSomeAnd o P 
 is_there None P h = absurd h
 is_there (Some x) P h = record { there = x; is = refl; holds = h }
 
--- what is at a place of the first list goes with what is at that place of the second
-at-place : {A B : Type 0} (R : A → B → Type 0) (xs : List A) (ys : List B) (k : ℕ) (y : B) → AllZip R xs ys → slice_get ys k ≡ Some y → There (slice_get xs k) (λ x. R x y)
-at-place R xs ys k y h e = is_there (slice_get xs k) (λ x. R x y) (rw e at (AllZip-right R xs ys h k))
-
--- and what is of a number, from 1
+-- what is of a number of the first list, from 1, goes with what is of that number of the second
 pub at_number : {A B : Type 0} (R : A → B → Type 0) (xs : List A) (ys : List B) (slot : ℕ) (y : B) → AllZip R xs ys → numbered slot ys ≡ Some y → There (numbered slot xs) (λ x. R x y)
 at_number R xs ys zero y h e = absurd (cc e)
-at_number R xs ys (suc k) y h e = at-place R xs ys k y h e
+at_number R xs ys (suc k) y h e = is_there (slice_get xs k) (λ x. R x y) (rw e at (AllZip-right R xs ys h k))
 
 -- all have a property still, where another stands at a place that has it
 pub all_set : {A : Type 0} (P : A → Type 0) (xs : List A) (k : ℕ) (y : A) → All P xs → P y → All P (slice_set xs k y)

@@ -1,6 +1,7 @@
 -- What a line says that stands after the header of images. The causes come in their order: the word, the number of
 -- fields, a number, a slot that doesn't exist, the hexadecimal bytes, a length, a position.
-use Rattle.std.specs.Prelude.{ℕ, ◌+◌, ◌==◌, nat_le, length, List, codes, Option, Some, None, Result, Ok, Err, if◌then◌else◌}
+use Rattle.std.specs.Prelude.{◌≡◌, ℕ, ◌+◌, ◌==◌, nat_le, length, List, codes, Option, Some, None, Result, Ok, Err, MatchResult, if◌then◌else◌}
+use denote.Ref.{Bor}
 use Rattle.std.specs.Str.{bytes_eq}
 use Rattle.fsoe_base.specs.Lengths.{most_data}
 use Rattle.param_load.specs.Profile.{allows_id}
@@ -57,25 +58,33 @@ write_line size fields = do
   place ← next_field fields
   write_behind size place.0 place.1
 
+-- the number of a slot, and the one field behind it
+abbrev pub slot_and_field : List (List ℕ) → Result (ℕ × List ℕ) LineCause
+slot_and_field fields = do
+  first ← next_field fields
+  field ← one_field first.1
+  slot ← number_16 first.0
+  Ok (slot, field)
+
+-- parts of a line that are the number and the field that are said
+abbrev pub IsSlotAndField : Result (ℕ × Bor (List ℕ)) LineCause → Result (ℕ × List ℕ) LineCause → Type 0
+IsSlotAndField result said = MatchResult result (λ it. said ≡ Ok (it.0, it.1.now)) (λ cause. said ≡ Err cause)
+
 -- safe data bytes, exactly as many as the end of the slot sends
 abbrev pub put_line : List SlotEnd → List (List ℕ) → Result ImageLine LineCause
 put_line ends fields = do
-  first ← next_field fields
-  digits ← one_field first.1
-  slot ← number_16 first.0
-  end ← end_at slot ends
-  bytes ← value_or cause.Hex (bytes_said most_data digits)
-  if length bytes == end.sends then Ok (line.Step (event.Put slot bytes)) else Err cause.Length
+  first ← slot_and_field fields
+  end ← end_at first.0 ends
+  bytes ← value_or cause.Hex (bytes_said most_data first.1)
+  if length bytes == end.sends then Ok (line.Step (event.Put first.0 bytes)) else Err cause.Length
 
 -- fail-safe data on or off
 abbrev pub hold_line : List SlotEnd → List (List ℕ) → Result ImageLine LineCause
 hold_line ends fields = do
-  first ← next_field fields
-  field ← one_field first.1
-  slot ← number_16 first.0
-  failsafe ← value_or cause.Number (switch_of field)
-  end ← end_at slot ends
-  Ok (line.Step (event.Hold slot failsafe))
+  first ← slot_and_field fields
+  failsafe ← value_or cause.Number (switch_of first.1)
+  end ← end_at first.0 ends
+  Ok (line.Step (event.Hold first.0 failsafe))
 
 -- a session id that the profile of the slot's end allows; of a slot that doesn't exist an id above 65,535 is no number,
 -- and any other finds no slot
@@ -86,11 +95,9 @@ id_at (Some end) slot id = if allows_id (end.profile) id then Ok (line.Step (eve
 -- a session id for the end of a slot
 abbrev pub nonce_line : List SlotEnd → List (List ℕ) → Result ImageLine LineCause
 nonce_line ends fields = do
-  first ← next_field fields
-  field ← one_field first.1
-  slot ← number_16 first.0
-  id ← number_32 field
-  id_at (numbered slot ends) slot id
+  first ← slot_and_field fields
+  id ← number_32 first.1
+  id_at (numbered first.0 ends) first.0 id
 
 -- the slot that resets itself
 abbrev pub reset_line : List SlotEnd → List (List ℕ) → Result ImageLine LineCause

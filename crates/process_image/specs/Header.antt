@@ -75,25 +75,28 @@ heading_spans s = record { at_in = s.at_in; len_in = delivered_len (own_length s
 abbrev pub is_size : ℕ → Bool
 is_size n = nat_le 1 n && nat_le n 4096
 
+-- two numbers
+abbrev pub two_numbers : List (List ℕ) → Result (ℕ × ℕ) LineCause
+two_numbers fields = do
+  first ← next_field fields
+  second ← one_field first.1
+  one ← number_16 first.0
+  other ← number_16 second
+  Ok (one, other)
+
 -- the sizes of both images
 abbrev pub size_line : List (List ℕ) → Result (ℕ × ℕ) LineCause
 size_line fields = do
-  first ← next_field fields
-  second ← one_field first.1
-  size_in ← number_16 first.0
-  size_out ← number_16 second
-  if is_size size_in && is_size size_out then Ok (size_in, size_out) else Err cause.Range
+  sizes ← two_numbers fields
+  if is_size sizes.0 && is_size sizes.1 then Ok sizes else Err cause.Range
 
--- the slot of a number, from 1 in their order to 64, and where its frames begin
-abbrev pub slot_line : ℕ → List (List ℕ) → Result SlotHeader LineCause
+-- the slot of a number, from 1 in their order to 64: where its frames begin in both images
+abbrev pub slot_line : ℕ → List (List ℕ) → Result (ℕ × ℕ) LineCause
 slot_line number fields = do
   first ← next_field fields
-  second ← next_field first.1
-  third ← one_field second.1
+  places ← two_numbers first.1
   n ← number_16 first.0
-  at_in ← number_16 second.0
-  at_out ← number_16 third
-  if n == number && nat_le n most_slots then Ok (slot_begun at_in at_out) else Err cause.Range
+  if n == number && nat_le n most_slots then Ok places else Err cause.Range
 
 -- a header after its `size` line
 abbrev pub size_taken : ImageHeading → List (List ℕ) → Result ImageHeading LineCause
@@ -108,8 +111,8 @@ is_open s = wants_profile s.own.place s.own.master s.own.slave
 -- a header after a `slot` line; where the end before has its `profile` line still to come, it is out of range
 abbrev pub slot_taken : ImageHeading → List (List ℕ) → Result ImageHeading LineCause
 slot_taken h fields = do
-  slot ← slot_line (length (slots_of h) + 1) fields
-  if is_open h.last then Err cause.Range else Ok (record h { stage = stage.Slots; before = slots_of h; last = slot })
+  places ← slot_line (length (slots_of h) + 1) fields
+  if is_open h.last then Err cause.Range else Ok (record h { stage = stage.Slots; before = slots_of h; last = slot_begun places.0 places.1 })
 
 -- the frames of a slot lie inside both images, and share no byte with a slot before
 abbrev pub fits_images : ImageHeading → SlotHeader → Bool
@@ -128,8 +131,8 @@ own_taken h text = do
   own ← node_heading_after h.last.own text
   with_last h (record h.last { own = own })
 
--- a header after a line, by its first field and those after it: after the title comes `size`, then the first `slot`, and
--- where the lines of a slot may end the next one
+-- a header after a line, by its first field and those after it: after the title comes `size`, then the first `slot`,
+-- and where the lines of a slot may end the next one
 abbrev pub line_taken : Stage → ImageHeading → List ℕ → List ℕ → List (List ℕ) → Result ImageHeading LineCause
 line_taken stage.Start h text first fields = if bytes_eq text (codes "fsoe 1 image") then Ok (record h { stage = stage.Title }) else Err cause.Header
 line_taken stage.Title h text first fields = if bytes_eq first (codes "size") then size_taken h fields else Err cause.Header

@@ -1,7 +1,7 @@
 //! Lines of events.
 ghost use Rattle.std.specs.Prelude.{◌≡◌};
 ghost use Rattle.schedule_file.specs.FieldsRead.{fields_after, Becomes};
-ghost use Rattle.process_image.specs.EventLine.{word_of, end_at, write_line, put_line, hold_line, nonce_line, reset_line, image_line};
+ghost use Rattle.process_image.specs.EventLine.{IsSlotAndField, word_of, end_at, slot_and_field, write_line, put_line, hold_line, nonce_line, reset_line, image_line};
 ghost use Rattle.process_image.specs.Places.{numbered};
 
 use crate::event::ImageEvent;
@@ -92,13 +92,20 @@ fn read_write(size: u16, fields: Option<&[u8]>, says: &mut Said) -> Result<(), L
     }
 }
 
+/// `<k>` and the one field behind it: the number of a slot, and that field.
+fn slot_and_field(fields: Option<&[u8]>) -> Result<(u16, &[u8]), LineCause>
+    ensures { IsSlotAndField result (slot_and_field (fields_after fields.entry)) }
+{
+    let (first, rest) = next_field(fields)?;
+    let field = one_field(rest)?;
+    Ok((number_16(first)?, field))
+}
+
 /// `<k> <hex>`: as many safe data bytes as the end of the slot sends.
 fn read_put(ends: &[SlotEnd], fields: Option<&[u8]>, says: &mut Said) -> Result<(), LineCause>
     ensures { Becomes result says.new (put_line ends.now (fields_after fields.entry)) }
 {
-    let (first, rest) = next_field(fields)?;
-    let digits = one_field(rest)?;
-    let slot = number_16(first)?;
+    let (slot, digits) = slot_and_field(fields)?;
     let end = end_at(slot, ends)?;
     let mut load = Image::new();
     read_bytes(digits, &mut load)?;
@@ -113,9 +120,7 @@ fn read_put(ends: &[SlotEnd], fields: Option<&[u8]>, says: &mut Said) -> Result<
 fn read_hold(ends: &[SlotEnd], fields: Option<&[u8]>, says: &mut Said) -> Result<(), LineCause>
     ensures { Becomes result says.new (hold_line ends.now (fields_after fields.entry)) }
 {
-    let (first, rest) = next_field(fields)?;
-    let field = one_field(rest)?;
-    let slot = number_16(first)?;
+    let (slot, field) = slot_and_field(fields)?;
     let failsafe = read_switch(field).ok_or(LineCause::Number)?;
     end_at(slot, ends)?;
     says.set(ImageEvent::Hold { slot, failsafe });
@@ -126,9 +131,7 @@ fn read_hold(ends: &[SlotEnd], fields: Option<&[u8]>, says: &mut Said) -> Result
 fn read_nonce(ends: &[SlotEnd], fields: Option<&[u8]>, says: &mut Said) -> Result<(), LineCause>
     ensures { Becomes result says.new (nonce_line ends.now (fields_after fields.entry)) }
 {
-    let (first, rest) = next_field(fields)?;
-    let field = one_field(rest)?;
-    let slot = number_16(first)?;
+    let (slot, field) = slot_and_field(fields)?;
     let id = number_32(field)?;
     match find_end(slot, ends) {
         Some(end) if end.profile.allows_id(id) => {

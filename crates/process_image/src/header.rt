@@ -4,7 +4,7 @@ ghost use Rattle.std.specs.List.{AllZip, list_any};
 ghost use Rattle.schedule_file.specs.FieldsRead.{fields_after, Becomes};
 ghost use Rattle.schedule_file.specs.NodeHeader.{may_end};
 ghost use Rattle.process_image.specs.Fault.{first_fault, plan_of, IsMadeOf};
-ghost use Rattle.process_image.specs.Header.{image_heading_new, image_heading_is_whole, image_heading_after, size_line, slot_line, slot_begun, size_taken, slot_taken, own_taken, slots_of, fits_images, heading_spans, end_of, is_size};
+ghost use Rattle.process_image.specs.Header.{image_heading_new, image_heading_is_whole, image_heading_after, size_line, slot_line, slot_begun, size_taken, slot_taken, two_numbers, own_taken, slots_of, fits_images, heading_spans, end_of, is_size};
 ghost use Rattle.process_image.specs.LinesLeft.{image_lines_left};
 ghost use Rattle.process_image.specs.Places.{overlap};
 ghost use Rattle.process_image.specs.Report.{end_terms};
@@ -88,7 +88,7 @@ impl SlotHeader {
     }
 
     /// The slot with a new end that is set to what its lines say.
-    #[tactic(auto, using(crate::proofs::Planned::made_master, crate::proofs::Planned::made_slave))]
+    #[tactic(auto, using(crate::proofs::Planned::made))]
     fn slot(&self) -> Slot
         ensures { IsMadeOf self.now result }
     {
@@ -180,15 +180,21 @@ fn is_size(n: u16) -> bool
     n >= 1 && n <= MOST_SIZE
 }
 
+/// Two numbers.
+fn read_two(fields: Option<&[u8]>) -> Result<(u16, u16), LineCause>
+    ensures { result ≡ two_numbers (fields_after fields.entry) }
+{
+    let (first, rest) = next_field(fields)?;
+    let second = one_field(rest)?;
+    Ok((number_16(first)?, number_16(second)?))
+}
+
 /// `<in> <out>`: the sizes of both images.
 fn read_size(fields: Option<&[u8]>) -> Result<(u16, u16), LineCause>
     ensures value { result ≡ size_line (fields_after fields.entry) }
     ensures most { IfOk result (λ sizes. sizes.1 ≤ MOST_SIZE) }
 {
-    let (first, rest) = next_field(fields)?;
-    let second = one_field(rest)?;
-    let size_in = number_16(first)?;
-    let size_out = number_16(second)?;
+    let (size_in, size_out) = read_two(fields)?;
     if is_size(size_in) && is_size(size_out) {
         Ok((size_in, size_out))
     } else {
@@ -196,20 +202,16 @@ fn read_size(fields: Option<&[u8]>) -> Result<(u16, u16), LineCause>
     }
 }
 
-/// `<k> <at_in> <at_out>`: the slot of this number.
-fn read_slot(number: u16, fields: Option<&[u8]>) -> Result<SlotHeader, LineCause>
+/// `<k> <at_in> <at_out>`: where the frames of the slot of this number begin.
+fn read_slot(number: u16, fields: Option<&[u8]>) -> Result<(u16, u16), LineCause>
     ensures value { result ≡ slot_line number (fields_after fields.entry) }
-    ensures begun { IfOk result (λ slot. slot ≡ slot_begun slot.at_in slot.at_out) }
     ensures number { OnOk result (number ≤ MOST_SLOTS) }
 {
     let (first, rest) = next_field(fields)?;
-    let (second, rest) = next_field(rest)?;
-    let third = one_field(rest)?;
+    let places = read_two(rest)?;
     let n = number_16(first)?;
-    let at_in = number_16(second)?;
-    let at_out = number_16(third)?;
     if n == number && usize::from(n) <= MOST_SLOTS {
-        Ok(SlotHeader::begun(at_in, at_out))
+        Ok(places)
     } else {
         Err(LineCause::Range)
     }
@@ -309,22 +311,21 @@ impl ImageHeader {
         ensures next { Becomes result self.new (slot_taken self.old (fields_after fields.entry)) }
         ensures fewer { OnOk result (image_lines_left self.new < image_lines_left self.old) }
     {
-        let slot = read_slot(self.count() + 1, fields)?;
+        let (at_in, at_out) = read_slot(self.count() + 1, fields)?;
         if self.last.own.wants_profile() {
             return Err(LineCause::Range);
         }
-        self.begin_slot(slot);
+        self.begin_slot(at_in, at_out);
         Ok(())
     }
 
-    /// Goes on with this slot.
-    fn begin_slot(&mut self, slot: SlotHeader)
+    /// Goes on with a slot whose frames begin here.
+    fn begin_slot(&mut self, at_in: u16, at_out: u16)
         requires room { length (slots_of self.old) < MOST_SLOTS }
         requires before { self.old.stage ≡ Stage.Slots → IsTrue (may_end self.old.last.own) }
-        requires begun { slot ≡ slot_begun slot.at_in slot.at_out }
-        ensures { self.new ≡ record self.old { stage = Stage.Slots; before = slots_of self.old; last = slot } }
+        ensures { self.new ≡ record self.old { stage = Stage.Slots; before = slots_of self.old; last = slot_begun at_in at_out } }
     {
-        let last = mem::replace(&mut self.last, slot);
+        let last = mem::replace(&mut self.last, SlotHeader::begun(at_in, at_out));
         match self.stage {
             Stage::Slots | Stage::Done => self.before.push_reserved(last),
             Stage::Start | Stage::Title | Stage::Size | Stage::Refused => self.before.clear(),

@@ -111,7 +111,6 @@ impl Seat {
 }
 
 /// Samples each slot, one after another, and writes what each end did whose contents were delivered.
-#[inline(never)]
 pub(crate) fn sample_all(
     seats: &mut [Seat],
     input: &[u8],

@@ -1,5 +1,5 @@
 -- A run that converts a pair file: what was read of it and what was written.
-use Rattle.duo_run.proofs.Common.{AppendedPart, AtEnd, Consumes, ConvertWrite, ConvertedAs, ConvertsReadLines, CountsFaults, Ended, Err, FindsTaken, HasNoNewline, Heading, IfSome, IfSome_then, InputCause, IsLine, IsPrefix, NoLine, None, Ok, Option, Outside, PairRead, RanConvert, SaysTheSame, Sent, Some, Writes, Wrote, WroteAll, append-nil, by_line, common_steps, converted, cut_part, ended_at_stop, first_line, grew_written, halts_after, input_cause, input_of, left_to_take, length-append, length_of, line_of_end, line_taken, lines_of, lines_whole, most_held, pair_line, piece_part, prepend_known, profile_of, read_none, refused_at, refused_line, rose_since, said_after, sent_flushed, sent_none, sent_piece, taken_by, text_part, took_line, took_none}
+use Rattle.duo_run.proofs.Common.{AppendedPart, AtEnd, Consumes, ConvertWrite, ConvertedAs, ConvertsReadLines, CountsFaults, Ended, Err, FindsTaken, HasNoNewline, Heading, IfSome, IfSome_then, InputCause, IsLine, IsPrefix, LineCause, LineTaken, NoLine, None, Ok, Option, Outside, PairRead, RanConvert, Result, SaysTheSame, ScheduleLine, Sent, Some, Writes, Wrote, WroteAll, append-nil, by_line, common_steps, converted, cut_part, ended_at_stop, event_taken, first_line, grew_written, halts_after, input_cause, input_of, left_to_take, length-append, length_of, line_of_end, line_taken, lines_of, lines_whole, most_held, pair_line, piece_part, prepend_known, profile_of, read_none, refused_at, refused_line, rose_since, said_after, sent_flushed, sent_none, sent_piece, taken_by, text_part, took_line, took_none}
 use Rattle.fsoe_base.specs.declared.lengths.Lengths.{Lengths}
 use Rattle.param_load.specs.declared.profile.Profiles.{Profiles}
 use Rattle.std.proofs.Common.{◌≡◌, ℕ, ◌+◌, ◌*◌, ◌≤◌, ◌<◌, Bool, true, false, List, [], ◌∷◌, ◌++◌, length, refl, ap, ◌∙◌, sym, subst, append_assoc, inl, inr, arith, rules}
@@ -243,3 +243,10 @@ next_refused number r old new line why is goes e = by_line old new line (λ line
 pub said_as : (lengths : Lengths) (profiles : Profiles) (h : Heading) (text : List ℕ) → lengths.master ≡ h.lengths.master → lengths.slave ≡ h.lengths.slave → profiles.master ≡ h.master.profile → profiles.slave ≡ h.slave.profile
     → said_after kind.Pair h text ≡ pair_line (length_of lengths) (profile_of profiles) text
 said_as lengths profiles h text k l m n = search rules
+
+-- so the line is taken
+pub taken_as : (lengths : Lengths) (profiles : Profiles) (h : Heading) (events : ℕ) (r : PairRead) (line : List ℕ) (says : Result ScheduleLine LineCause) (taken : Result LineTaken InputCause) → record { heading = h; events = events } ≡ r
+    → lengths.master ≡ h.lengths.master → lengths.slave ≡ h.lengths.slave → profiles.master ≡ h.master.profile → profiles.slave ≡ h.slave.profile → pair_line (length_of lengths) (profile_of profiles) line ≡ says
+    → event_taken (record { heading = h; events = events }) line says ≡ taken → event_taken r line (said_after kind.Pair r.heading line) ≡ taken
+taken_as lengths profiles h events r line says taken view k l m n is e =
+    subst (λ (r : PairRead). event_taken r line (said_after kind.Pair r.heading line) ≡ taken) view (ap (event_taken (record { heading = h; events = events }) line) (said_as lengths profiles h line k l m n ∙ is) ∙ e)

@@ -1,8 +1,10 @@
 -- Line by line, what a pair file is converted to says the same of the only pair.
 use Rattle.duo_run.proofs.Common.{Event, Heading, LineCause, Ok, PairsHeading, PairsStage, Result, by_word, bytes_eq, codes, fields_of, fields_taken, heading_after, heading_is_whole, heading_profile, is_start, last_taken, may_end, only_pair, own_length, pair_taken, pairs_heading_after, pairs_line, pairs_line_taken, pairs_of, pairs_said_after, said_after, stage_after, title_taken}
 use Rattle.schedule_file.specs.Fields.{◌>>=◌}
-use Rattle.std.proofs.Common.{◌≡◌, ℕ, Bool, false, List, [], ◌∷◌, ◌++◌, map, refl, ap, ◌∙◌, sym, arith, rules}
+use Rattle.std.proofs.Common.{◌≡◌, ℕ, Bool, false, List, [], ◌∷◌, ◌++◌, map, refl, ap, ◌∙◌, sym, subst, arith, rules}
+use Rattle.std.proofs.lemmas.Fmt.{decimal_digit}
 use Rattle.std.specs.Prelude.{◌&&◌, if◌then◌else◌}
+use Rattle.schedule_file.proofs.PairsRead.{numbered_said}
 use Rattle.schedule_file.specs.declared.event.ScheduleLine.TheVariants as said
 use Rattle.schedule_file.specs.declared.header_kind.HeaderKind.TheVariants as kind
 use Rattle.schedule_file.specs.declared.line_cause.LineCause.TheVariants as cause
@@ -34,7 +36,10 @@ only_pairs : (h : Heading) → pairs_of (only_pair h) ≡ h ∷ []
 only_pairs h = grind arith
 
 pub event_line_same : (h : Heading) (line : List ℕ) (event : Event) → said_after kind.Pair h line ≡ Ok (said.Step event) → pairs_said_after (only_pair h) (codes "1 " ++ line) ≡ Ok (pairs_said.One 1 event)
-event_line_same h line event k = search rules
+event_line_same h line event k =
+    ap (λ (hs : List Heading). pairs_line (map own_length hs) (map heading_profile hs) (codes "1 " ++ line)) (only_pairs h)
+    ∙ subst (λ (digits : List ℕ). pairs_line (own_length h ∷ []) (heading_profile h ∷ []) (digits ++ 32 ∷ line) ≡ Ok (pairs_said.One 1 event)) (decimal_digit 1 (omega arith))
+    (numbered_said (own_length h ∷ []) (heading_profile h ∷ []) 1 (own_length h) (heading_profile h) line event (omega arith) refl refl k)
 
 pub last_line_same : (h : Heading) → pairs_said_after (only_pair h) (codes "end") ≡ Ok pairs_said.End
 last_line_same h = ap (λ (hs : List Heading). pairs_line (map own_length hs) (map heading_profile hs) (codes "end")) (only_pairs h)

@@ -1,6 +1,11 @@
 -- What holds of a pair after so many events of a number.
 use Rattle.duo_run.proofs.Common.{Advances, CountsEntry, Did, DuoStands, DuoView, End, Entry, Err, Event, IsOk, Misses, NextEntry, Ok, OnErr, Result, ShowsLast, State, Summary, end_of_event, entries_of, entry_at, event_at, lengths_of, made_lengths, made_master, made_profiles, made_slave, profiles_of, steps_done, summary_of}
-use Rattle.std.proofs.Common.{◌≡◌, ℕ, suc, ◌+◌, List, ◌∷◌, Some, None, sym, ap, ◌∙◌, arith, rules, add-one}
+use Rattle.std.proofs.Common.{◌≡◌, ◌<◌, ℕ, suc, ◌+◌, ◌^◌, Bool, List, ◌∷◌, length, Some, None, sym, ap, ◌∙◌, arith, rules, add-one}
+use Rattle.std.proofs.lemmas.List.Sums.{count_by-le-length}
+use Rattle.std.specs.Prelude.{count_by}
+use Rattle.fsoe_base.specs.declared.command.End.TheVariants as end_name
+use Rattle.duo_run.specs.Duo.{HasRoom}
+use Rattle.duo_run.specs.Summary.{counts_of}
 use Rattle.schedule_file.specs.Maker.{MakerView, IsMaker, Makes}
 use Rattle.duo_run.proofs.Numbers.WholeRuns.{Goes, entry_goes, entries_more, is_whole}
 
@@ -12,6 +17,19 @@ pub record AfterEvents (number count : ℕ) (maker : MakerView) (duo : DuoView) 
   pub profiles : profiles_of duo ≡ made_profiles
   pub steps : steps_done duo ≡ count
   pub tells : summary ≡ summary_of (entries_of number count)
+
+-- each count can go up by one
+counted_less : (p : Entry → Bool) (w : List Entry) → length w + 1 < 2 ^ 64 → count_by p w + 1 < 2 ^ 64
+counted_less p w h = let few = count_by-le-length p w in omega (arith, few, h)
+
+has_room : (which : End) (w : List Entry) → length w + 1 < 2 ^ 64 → HasRoom (counts_of which w)
+has_room which w h = record { taken = counted_less _ w h; resets = counted_less _ w h; drops = counted_less _ w h }
+
+pub room_after : (number count : ℕ) (maker : MakerView) (duo : DuoView) (summary : Summary) → AfterEvents number count maker duo summary → count + 1 < 2 ^ 64 → HasRoom summary.master × HasRoom summary.slave
+room_after number count maker duo summary after less =
+    let w : List Entry = entries_of number count in
+    let few : length w + 1 < 2 ^ 64 = let long = (is_whole number count).each in omega (arith, long, less) in
+    rw after.tells (has_room end_name.Master w few, has_room end_name.Slave w few)
 
 -- no event names a frame that wasn't sent
 pub never_misses : (number count : ℕ) (maker next : MakerView) (duo : DuoView) (summary : Summary) (event : Event)

@@ -1,6 +1,6 @@
 -- A pair does over its events what a world says, and reports it.
-use Rattle.duo_run.proofs.Common.{Advances, AreSetTo, AtEnd, Did, DuoStands, DuoView, End, Ended, EndsReport, EndsUnmet, EndsWhole, Entry, Event, Fits, Heading, Input, MasterSettings, MayCome, Misses, NextEntry, NoFrame, None, Option, Profile, Refused, ReplayReports, ReplayStands, ReportsSoFar, ShowsLast, SlaveSettings, Some, State, Stop, TakesEvent, codes, decimal, end_of_event, ended_at, ended_with, entry_at, entry_line, entry_lines, events_line, first_other, heading_profile, input_stopped, last_lines, length-append, length_of, length_push, lengths_of, number_of_first, other_line, own_length, pair_event_fits, profile_of, profiles_of, refused_line, replay_reporting, run_stop, schedule_format, told_line, world, world_missed, world_next}
-use Rattle.std.proofs.Common.{◌≡◌, ℕ, ◌+◌, true, List, [], ◌∷◌, ◌++◌, length, refl, arith, ap, ◌∙◌, sym, subst, append_assoc, rules}
+use Rattle.duo_run.proofs.Common.{Advances, AreSetTo, AtEnd, Did, DuoStands, DuoView, End, Ended, EndsReport, EndsUnmet, EndsWhole, Entry, Event, Fits, Heading, Input, MasterSettings, MayCome, Misses, NextEntry, NoFrame, None, Option, Profile, Refused, ReplayReports, ReplayStands, ReportsSoFar, ShowsLast, SlaveSettings, Some, State, Stop, TakesEvent, codes, decimal, end_of_event, ended_at, ended_with, entry_at, entry_line, entry_lines, events_line, first_other, heading_profile, input_stopped, last_lines, length-append, length_of, length_push, lengths_of, number_of_first, other_line, own_length, pair_event_fits, profile_of, profiles_of, refused_line, replay_reporting, run_stop, schedule_format, steps_done, told_line, world, world_missed, world_next}
+use Rattle.std.proofs.Common.{◌≡◌, ◌<◌, ℕ, ◌+◌, ◌^◌, true, List, [], ◌∷◌, ◌++◌, length, refl, arith, ap, ◌∙◌, sym, subst, append_assoc, rules}
 use Rattle.schedule_file.specs.declared.header_kind.HeaderKind.TheVariants as kind
 use Rattle.duo_run.proofs.Pair.EntryLines.{lines_begin}
 
@@ -23,6 +23,12 @@ pub pair_fits : (v : DuoView) (event : Event) (number : ℕ) → MayCome (Replay
 pair_fits v event number may =
     let k = may.stands in
     fits_set may.heading k.ms k.ss v k.entries event k.set k.stands (pair_event_fits may.heading may.said.0 may.said.1 event may.said.2 may.said.3)
+
+-- and its step can be counted
+pub pair_counted : (v : DuoView) (event : Event) (number : ℕ) → MayCome (ReplayStands v) (schedule_format kind.Pair) event number → steps_done v + 1 < 2 ^ 64
+pair_counted v event number may =
+    let counted : steps_done v ≡ length may.stands.entries = ap (λ m. m.noted) may.stands.stands.monitor in
+    omega (arith, counted, may.stands.whole, may.number_is, may.few)
 
 told_whole : (v : DuoView) (h : Heading) (log : List Event) (text : List ℕ) (k : ReplayStands v h log text) → length (world k.ms k.ss log) ≡ length log
 told_whole v h log text k = ap (length {A = Entry}) (sym k.is_world) ∙ k.whole

@@ -1,11 +1,12 @@
 -- Each header of several pairs that is whole says settings of both ends of each.
-use Rattle.duo_run.proofs.Common.{All-head, All-nil, All-push, All-tail, AllZip, ArePairs, Err, Heading, IfOk, IsPairOf, Ok, Pair, PairsHeading, PairsStage, Sound, after_sound, by_word, bytes_eq, codes, each, fields_of, heading_after, known, last_taken, master_settings, may_end, new_sound, next_pair, pair_begun, pair_taken, pairs_begun, pairs_format, pairs_input, pairs_line_taken, pairs_of, slave_settings}
+use Rattle.duo_run.proofs.Common.{All-head, All-nil, All-push, All-tail, AllZip, ArePairs, Err, Heading, IfOk, IsPairOf, Ok, Pair, PairsHeading, PairsStage, Sound, after_sound, bytes_eq, codes, each, fields_of, heading_after, known, last_taken, master_settings, may_end, new_sound, next_pair, pair_begun, pair_taken, pairs_begun, pairs_format, pairs_input, pairs_line_taken, pairs_of, slave_settings}
 use Rattle.std.proofs.Common.{◌+◌, ℕ, List, [], ◌∷◌, All, length, Option, Some, None, IfSome, refl}
 use Rattle.std.specs.Prelude.{◌&&◌}
 use Rattle.schedule_file.specs.declared.header_kind.HeaderKind.TheVariants as kind
 use Rattle.schedule_file.specs.declared.line_cause.LineCause.TheVariants as cause
 use Rattle.schedule_file.specs.declared.pairs_header.PairsStage.TheVariants as stage
 use Rattle.schedule_file.proofs.Headed.{either, headed}
+use Rattle.schedule_file.proofs.Sound.{worded}
 
 -- the lines of each pair say values that settings may have
 abbrev AreSound : PairsHeading → Type 0
@@ -32,10 +33,6 @@ line-sound stage.Title h text first fields s = either (bytes_eq first (codes "pa
 line-sound stage.Pairs h text first fields s = either (bytes_eq first (codes "pair") && may_end h.last) (pair_taken h fields) (last_taken h text) AreSound (pair-sound h fields s) (last-sound h text s)
 line-sound _ h text first fields s = tt
 
-fields-sound : (h : PairsHeading) (text : List ℕ) (fields : List (List ℕ)) → AreSound h → IfOk (by_word cause.Header (pairs_line_taken h.stage h text) fields) AreSound
-fields-sound h text [] s = tt
-fields-sound h text (first ∷ fields) s = line-sound h.stage h text first fields s
-
 -- then there are pairs as it says
 pairs-are : (hs : List Heading) → All Sound hs → (pairs : List Pair) × AllZip IsPairOf hs pairs
 pairs-are [] sound = ([], tt)
@@ -52,4 +49,4 @@ pairs-by None s = ([], refl)
 pairs-by (Some h) s = pairs-are (pairs_of h) (pairs-sound h.stage h.before h.last s.0 s.1)
 
 pub some_pairs : (bytes : List ℕ) → (pairs : List Pair) × ArePairs (pairs_input bytes).heading pairs
-some_pairs bytes = pairs-by (pairs_input bytes).heading (headed pairs_format AreSound (All-nil Sound, begun-sound) (λ h text s. fields-sound h text (fields_of text) s) bytes)
+some_pairs bytes = pairs-by (pairs_input bytes).heading (headed pairs_format AreSound (All-nil Sound, begun-sound) (λ h text s. worded cause.Header (pairs_line_taken h.stage h text) AreSound (λ first fields. line-sound h.stage h text first fields s) (fields_of text)) bytes)

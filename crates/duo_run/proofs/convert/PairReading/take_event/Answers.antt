@@ -1,14 +1,24 @@
-use Rattle.duo_run.proofs.Common.{Err, Line, PairRead, event_taken, said_after}
-use Rattle.std.proofs.Common.{◌≡◌, ap, subst, ◌∙◌}
-use Rattle.schedule_file.specs.declared.header_kind.HeaderKind.TheVariants as kind
-use Rattle.duo_run.proofs.Conversion.Converting.{said_as}
+use Rattle.duo_run.proofs.Common.{Ok}
+use Rattle.std.proofs.Common.{ap, refl, ◌∙◌}
+use Rattle.duo_run.proofs.Conversion.Converting.{taken_as}
 use Rattle.duo_run.proofs.convert.PairReading.take_event.Goals as goal
 
 pub returns-in-Err-clause-takes : goal.returns-in-Err-clause-takes
 returns-in-Err-clause-takes c =
     let lengths = c.lengths-lengths in
     let profiles = c.profiles-profiles in
-    let line = c.args.line.now in
-    let says = said_as lengths.result profiles.result c.self.inside.header line lengths.ensures.master lengths.ensures.slave profiles.ensures.master profiles.ensures.slave ∙ c.in-Err.ensures.value in
-    subst (λ (r : PairRead). event_taken r line (said_after kind.Pair r.heading line) ≡ Err (Line c.in-Err.cause)) c.self.view_is
-    (ap (event_taken (record { heading = c.self.inside.header; events = c.self.inside.events }) line) says)
+    taken_as lengths.result profiles.result c.self.inside.header c.self.inside.events _ c.args.line.now _ _ c.self.view_is lengths.ensures.master lengths.ensures.slave profiles.ensures.master profiles.ensures.slave c.in-Err.ensures.value refl
+
+pub returns-in-Step-clause-takes : goal.returns-in-Step-clause-takes
+returns-in-Step-clause-takes c =
+    let lengths = c.lengths-lengths in
+    let profiles = c.profiles-profiles in
+    taken_as lengths.result profiles.result c.self.inside.header c.self.inside.events _ c.args.line.now _ _ c.self.view_is lengths.ensures.master lengths.ensures.slave profiles.ensures.master profiles.ensures.slave (c.in_default.ensures.value ∙ ap Ok c.in-Step.is)
+    (rw c.write_event_line.ensures)
+
+pub returns-in-End-clause-takes : goal.returns-in-End-clause-takes
+returns-in-End-clause-takes c =
+    let lengths = c.lengths-lengths in
+    let profiles = c.profiles-profiles in
+    taken_as lengths.result profiles.result c.self.inside.header c.self.inside.events _ c.args.line.now _ _ c.self.view_is lengths.ensures.master lengths.ensures.slave profiles.ensures.master profiles.ensures.slave (c.in_default.ensures.value ∙ ap Ok c.in-End.is)
+    (rw c.write_last_line.ensures)

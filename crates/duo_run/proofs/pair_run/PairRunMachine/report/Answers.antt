@@ -1,10 +1,13 @@
 use Rattle.duo_run.proofs.Common.{append-nil, codes, decimal, told_line}
 use Rattle.std.proofs.Common.{◌≡◌, ◌++◌, rules}
-use Rattle.duo_run.proofs.Pair.Replaying.{pair_fits, pair_goes_on, pair_unsent}
+use Rattle.duo_run.proofs.Pair.Replaying.{pair_counted, pair_fits, pair_goes_on, pair_unsent}
 use Rattle.duo_run.proofs.pair_run.PairRunMachine.report.Goals as goal
 
 pub advance-requires-clause-fits : goal.advance-requires-clause-fits
 advance-requires-clause-fits c = pair_fits c.args.self.now.duo c.args.event.now c.args.number c.requires.1
+
+pub advance-requires-clause-fewer : goal.advance-requires-clause-fewer
+advance-requires-clause-fewer c = pair_counted c.args.self.now.duo c.args.event.now c.args.number c.requires.1
 
 pub returns-in-Ok-clause-takes_event : goal.returns-in-Ok-clause-takes_event
 returns-in-Ok-clause-takes_event c = λ first.
