@@ -157,8 +157,8 @@ slave_goes old new act s n what first before after at c uses = record {
       (rw (c.links, c.journal) grown) (uses b);
 }
 
--- so is an event of the script that has this happen to a slave: its connection exists, it is proper for the slave there,
--- and no tick
+-- so is an event of the script that has this happen to a slave: its connection exists, it is proper for the slave
+-- there, and no tick
 pub record SlaveMoves (vs : List LinkView) (e : PlantEvent) (n : ℕ) (what : Move) : Type 0 where
   pub act : (b : Beginning) → IsAtSlave b (Happen (Event e)) (step.Script e) n what
   pub kept : IsSome (lengths_at (lengths_kept vs) n)

@@ -100,8 +100,8 @@ impl Link {
         }
     }
 
-    /// Lets this event of the script happen at the slave of this connection, and notes it. Writes what it did and the frame that it
-    /// sent, which is pushed.
+    /// Lets this event of the script happen at the slave of this connection, and notes it. Writes what it did and the
+    /// frame that it sent, which is pushed.
     #[tactic(auto, using(crate::proofs::Linked::slave_acts))]
     pub(crate) fn happen<C: Channel>(
         &mut self,

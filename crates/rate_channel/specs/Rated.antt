@@ -17,8 +17,8 @@ pub record RateView : Type 0 where
 abbrev pub told_of : RateView → Told
 told_of v = record { holds = None; empties = v.empties; pushed = None; given = None }
 
--- the parcels after a push, by a word's rest by 10,000: the parcel is lost; or it is appended with one bit turned, twice,
--- or once
+-- the parcels after a push, by a word's rest by 10,000: the parcel is lost; or it is appended with one bit turned,
+-- twice, or once
 abbrev pub pushed : Rates → ℕ → Parcel → List Parcel → List Parcel
 pushed rates word parcel ring =
     let rest = word % 10000 in
