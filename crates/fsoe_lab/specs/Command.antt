@@ -1,6 +1,5 @@
 -- The words that name the command of the program, and what it does.
 use Rattle.std.specs.Prelude.{ℕ, ◌+◌, nat_le, List, [], ◌∷◌, codes, Option, Some, None, if◌then◌else◌}
-use Rattle.std.specs.Str.{bytes_eq}
 use Rattle.fsoe_io.specs.declared.status.Ended.{Ended}
 use Rattle.fsoe_io.specs.declared.status.Status.TheVariants as status
 use Rattle.file_run.specs.Outside.{Outside}
@@ -10,7 +9,7 @@ use Rattle.plant_file.specs.Plant.{RanFile, WroteLine}
 use Rattle.plant_file.specs.declared.noted.Wanted.{Wanted}
 use Rattle.plant_file.specs.declared.noted.Wanted.TheVariants as wanted
 use Rattle.rate_channel.specs.declared.rate_channel.Rates.{Rates}
-use Rattle.schedule_file.specs.Field.{number_said}
+use Rattle.schedule_file.specs.Field.{number_said, word_in}
 use Rattle.fsoe_lab.specs.declared.command.Trial.{Trial}
 
 -- numbers that are at most 10,000 together
@@ -27,10 +26,7 @@ rates_said (lose ∷ alter ∷ repeat ∷ late ∷ []) =
 rates_said words = None
 
 abbrev pub wanted_by : List ℕ → Option Wanted
-wanted_by word =
-    if bytes_eq word (codes "journal") then Some wanted.Journal
-    else if bytes_eq word (codes "rates") then Some wanted.Report
-    else None
+wanted_by = word_in ((codes "journal", wanted.Journal) ∷ (codes "rates", wanted.Report) ∷ [])
 
 abbrev pub trial_of : Option Wanted → Option Rates → Option Trial
 trial_of (Some wanted) (Some rates) = Some (record { wanted = wanted; rates = rates })

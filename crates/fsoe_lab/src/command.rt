@@ -1,10 +1,10 @@
 //! The arguments that name a plant.
 ghost use Rattle.std.specs.Prelude.{◌≡◌, ◌≤◌, IfSome, map, string_bytes};
-ghost use Rattle.fsoe_lab.specs.Command.{file_named, rates_of, rates_said, trial_said, wanted_by};
+ghost use Rattle.fsoe_lab.specs.Command.{file_named, rates_of, rates_said, trial_said};
 
 use plant_file::Wanted;
 use rate_channel::Rates;
-use schedule_file::read_number;
+use schedule_file::{find_word, read_number};
 
 /// A plant that the program must run.
 #[derive(Clone, Copy)]
@@ -15,18 +15,8 @@ pub struct Trial {
     pub rates: Rates,
 }
 
-/// Whether an argument asks for the journal or the report.
-fn wanted_by(word: &str) -> Option<Wanted>
-    ensures { result ≡ wanted_by word.now }
-{
-    if word == "journal" {
-        Some(Wanted::Journal)
-    } else if word == "rates" {
-        Some(Wanted::Report)
-    } else {
-        None
-    }
-}
+/// What an argument asks for: the journal or the report.
+const WANTED: [(&[u8], Wanted); 2] = [(b"journal", Wanted::Journal), (b"rates", Wanted::Report)];
 
 /// The rates of four numbers, which are at most 10,000 together.
 fn rates_of(
@@ -78,7 +68,7 @@ pub fn trial_said(words: &[String]) -> Option<Trial>
 {
     match words {
         [word, _, rates @ ..] => Some(Trial {
-            wanted: wanted_by(word.as_str())?,
+            wanted: find_word(&WANTED, word.as_bytes())?,
             rates: rates_said(rates)?,
         }),
         _ => None,

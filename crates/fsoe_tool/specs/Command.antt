@@ -3,26 +3,20 @@ use Rattle.std.specs.Prelude.{ℕ, ◌-◌, ◌^◌, ◌==◌, List, [], ◌∷�
 use Rattle.std.specs.declared.option.Option.{Option}
 use Rattle.std.specs.Str.{bytes_eq}
 use Rattle.fsoe_base.specs.declared.command.End.TheVariants as side
-use Rattle.schedule_file.specs.Field.{number_said}
+use Rattle.schedule_file.specs.Field.{number_said, word_in}
 use Rattle.schedule_file.specs.Limits.{max_events}
 use Rattle.fsoe_tool.specs.declared.command.Command.{Command}
 use Rattle.fsoe_tool.specs.declared.command.Command.TheVariants as command
 
 -- the command of one word
 abbrev pub command_alone : List ℕ → Option Command
-command_alone word =
-    if bytes_eq word (codes "replay") then Some command.Replay
-    else if bytes_eq word (codes "image") then Some command.Image
-    else if bytes_eq word (codes "diagnose") then Some command.Diagnose
-    else if bytes_eq word (codes "convert") then Some command.Convert
-    else None
+command_alone = word_in (
+    (codes "replay", command.Replay) ∷ (codes "image", command.Image) ∷ (codes "diagnose", command.Diagnose)
+    ∷ (codes "convert", command.Convert) ∷ [])
 
 -- the node at the end that a word names
 abbrev pub node_at : List ℕ → Option Command
-node_at word =
-    if bytes_eq word (codes "master") then Some (command.Node side.Master)
-    else if bytes_eq word (codes "slave") then Some (command.Node side.Slave)
-    else None
+node_at = word_in ((codes "master", command.Node side.Master) ∷ (codes "slave", command.Node side.Slave) ∷ [])
 
 -- the schedule of this number, for so many events, from 1 on
 abbrev pub bulk_of : Option ℕ → Option ℕ → Option Command

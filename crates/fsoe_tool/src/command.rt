@@ -1,10 +1,10 @@
 //! The arguments that name a command.
 ghost use Rattle.std.specs.Prelude.{◌≡◌, ◌-◌, ◌^◌, map, string_bytes};
 ghost use Rattle.schedule_file.specs.Field.{number_said};
-ghost use Rattle.fsoe_tool.specs.Command.{bulk_of, command_alone, command_said, file_named, node_at};
+ghost use Rattle.fsoe_tool.specs.Command.{bulk_of, command_said, file_named};
 
 use fsoe_base::End;
-use schedule_file::{MAX_EVENTS, read_number};
+use schedule_file::{MAX_EVENTS, find_word, read_number};
 
 /// What the program must do.
 #[derive(Clone, Copy)]
@@ -25,35 +25,19 @@ pub enum Command {
     Plant,
 }
 
-/// The command of one argument.
-fn command_alone(word: &str) -> Option<Command>
-    ensures { result ≡ command_alone word.now }
-{
-    if word == "replay" {
-        Some(Command::Replay)
-    } else if word == "image" {
-        Some(Command::Image)
-    } else if word == "diagnose" {
-        Some(Command::Diagnose)
-    } else if word == "convert" {
-        Some(Command::Convert)
-    } else {
-        None
-    }
-}
+/// The commands of one argument.
+const ALONE: [(&[u8], Command); 4] = [
+    (b"replay", Command::Replay),
+    (b"image", Command::Image),
+    (b"diagnose", Command::Diagnose),
+    (b"convert", Command::Convert),
+];
 
-/// The node at the end that an argument names.
-fn node_at(word: &str) -> Option<Command>
-    ensures { result ≡ node_at word.now }
-{
-    if word == "master" {
-        Some(Command::Node(End::Master))
-    } else if word == "slave" {
-        Some(Command::Node(End::Slave))
-    } else {
-        None
-    }
-}
+/// The nodes that an argument names by their end.
+const NODES: [(&[u8], Command); 2] = [
+    (b"master", Command::Node(End::Master)),
+    (b"slave", Command::Node(End::Slave)),
+];
 
 /// The schedule of a seed and its number of events, by two arguments.
 fn bulk_of(number: &str, events: &str) -> Option<Command>
@@ -75,10 +59,10 @@ pub fn command_said(words: &[String]) -> Option<Command>
     ensures { result ≡ command_said (map string_bytes words.now) }
 {
     match words {
-        [word] => command_alone(word.as_str()),
+        [word] => find_word(&ALONE, word.as_bytes()),
         [first, word] => {
             if first.as_str() == "node" {
-                node_at(word.as_str())
+                find_word(&NODES, word.as_bytes())
             } else if first.as_str() == "plant" {
                 Some(Command::Plant)
             } else {

@@ -2,7 +2,6 @@
 use Rattle.std.specs.Prelude.{ℕ, ℤ, pos, negsuc, Bool, ◌==◌, nat_le, ◌&&◌, codes, length, List, [], ◌∷◌, Option, Some, None, Result, Ok, Err, is_some, option_map, option_and_then, if◌then◌else◌}
 use Rattle.std.specs.List.{filter_map, list_all, slice_split}
 use Rattle.std.specs.Option.{option_or}
-use Rattle.std.specs.Str.{bytes_eq}
 use Rattle.hex.specs.Hex.{decode_of}
 use Rattle.hex.specs.declared.error.FromHexError.{FromHexError}
 use Rattle.toml.specs.Data.{Data, Items, no_items, item, Members, as_str, as_integer, as_array, as_table}
@@ -14,7 +13,7 @@ use Rattle.fb_net.specs.declared.wire.Wire.{Wire}
 use Rattle.fb_net.specs.declared.wire.Wire.TheVariants as wire
 use Rattle.param_load.specs.declared.app_rule.AppRule.{AppRule}
 use Rattle.param_load.specs.declared.app_rule.AppRule.TheVariants as rule
-use Rattle.schedule_file.specs.Field.{number_said}
+use Rattle.schedule_file.specs.Field.{number_said, word_in}
 use Rattle.plant_conf.specs.declared.key.Key.{Key}
 use Rattle.plant_conf.specs.declared.fault.ConfFault.{ConfFault}
 use Rattle.plant_conf.specs.declared.fault.ConfFault.TheVariants as fault
@@ -58,28 +57,17 @@ hex_bytes most = formed as_str (λ t. at_most most (decode_of t))
 
 -- what a rule says of application parameters: any of as many bytes as these, or exactly these
 abbrev pub rule_said : List ℕ → List ℕ → Option AppRule
-rule_said app t =
-    if bytes_eq t (codes "any") then Some (rule.Any (length app))
-    else if bytes_eq t (codes "exact") then Some (rule.Exact app)
-    else None
+rule_said app = word_in ((codes "any", rule.Any (length app)) ∷ (codes "exact", rule.Exact app) ∷ [])
 
 abbrev pub app_rule : List ℕ → Form AppRule
 app_rule app = formed as_str (rule_said app)
 
 -- the kinds of blocks
 abbrev pub kind_said : List ℕ → Option BlockKind
-kind_said t =
-    if bytes_eq t (codes "const0") then Some kind.Const0
-    else if bytes_eq t (codes "const1") then Some kind.Const1
-    else if bytes_eq t (codes "and") then Some kind.And
-    else if bytes_eq t (codes "or") then Some kind.Or
-    else if bytes_eq t (codes "latch") then Some kind.Latch
-    else if bytes_eq t (codes "estop") then Some kind.Estop
-    else if bytes_eq t (codes "twohand") then Some kind.TwoHand
-    else if bytes_eq t (codes "ondelay") then Some kind.OnDelay
-    else if bytes_eq t (codes "offdelay") then Some kind.OffDelay
-    else if bytes_eq t (codes "feedback") then Some kind.Feedback
-    else None
+kind_said = word_in (
+    (codes "const0", kind.Const0) ∷ (codes "const1", kind.Const1) ∷ (codes "and", kind.And) ∷ (codes "or", kind.Or)
+    ∷ (codes "latch", kind.Latch) ∷ (codes "estop", kind.Estop) ∷ (codes "twohand", kind.TwoHand)
+    ∷ (codes "ondelay", kind.OnDelay) ∷ (codes "offdelay", kind.OffDelay) ∷ (codes "feedback", kind.Feedback) ∷ [])
 
 abbrev pub block_kind : Form BlockKind
 block_kind = formed as_str kind_said

@@ -1,14 +1,13 @@
 -- What a line of a plant's script says that stands after its first line. The causes come in their order: the word, the
 -- number of fields, a number, the connection, the hexadecimal bytes, a length.
-use Rattle.std.specs.Prelude.{ℕ, ◌==◌, length, Bool, List, codes, Option, Some, None, Result, Ok, Err, if◌then◌else◌}
-use Rattle.std.specs.Str.{bytes_eq}
+use Rattle.std.specs.Prelude.{ℕ, ◌==◌, length, Bool, List, [], ◌∷◌, codes, Option, Some, None, Result, Ok, Err, if◌then◌else◌}
 use Rattle.fsoe_base.specs.LengthsOf.{length_of}
 use Rattle.fsoe_base.specs.declared.command.End.{End}
 use Rattle.fsoe_base.specs.declared.command.End.TheVariants as side
 use Rattle.fsoe_base.specs.declared.lengths.Lengths.{Lengths}
 use Rattle.fsoe_base.specs.Lengths.{most_data}
 use Rattle.schedule_file.specs.EventLine.{switch_of}
-use Rattle.schedule_file.specs.Field.{fields_of, bytes_said}
+use Rattle.schedule_file.specs.Field.{fields_of, bytes_said, word_in}
 use Rattle.schedule_file.specs.Fields.{◌>>=◌, map_ok, value_or, by_word, next_field, no_field, one_field, number_16}
 use Rattle.schedule_file.specs.declared.line_cause.LineCause.{LineCause}
 use Rattle.schedule_file.specs.declared.line_cause.LineCause.TheVariants as cause
@@ -21,23 +20,13 @@ use Rattle.plant_model.specs.Fits.{lengths_at}
 
 -- the word of an event or of an application, or `end`
 abbrev pub plant_word_of : List ℕ → Option PlantWord
-plant_word_of text =
-    if bytes_eq text (codes "t") then Some word.Tick
-    else if bytes_eq text (codes "p") then Some word.Put
-    else if bytes_eq text (codes "h") then Some word.Hold
-    else if bytes_eq text (codes "z") then Some word.Local
-    else if bytes_eq text (codes "n") then Some word.Nonce
-    else if bytes_eq text (codes "cut") then Some word.Cut
-    else if bytes_eq text (codes "app") then Some word.App
-    else if bytes_eq text (codes "end") then Some word.End
-    else None
+plant_word_of = word_in (
+    (codes "t", word.Tick) ∷ (codes "p", word.Put) ∷ (codes "h", word.Hold) ∷ (codes "z", word.Local)
+    ∷ (codes "n", word.Nonce) ∷ (codes "cut", word.Cut) ∷ (codes "app", word.App) ∷ (codes "end", word.End) ∷ [])
 
 -- the end that a letter names
 abbrev pub end_of_letter : List ℕ → Option End
-end_of_letter text =
-    if bytes_eq text (codes "m") then Some side.Master
-    else if bytes_eq text (codes "s") then Some side.Slave
-    else None
+end_of_letter = word_in ((codes "m", side.Master) ∷ (codes "s", side.Slave) ∷ [])
 
 -- the lengths of a connection that exists
 abbrev pub existing : List Lengths → ℕ → Result Lengths LineCause

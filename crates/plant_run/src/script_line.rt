@@ -2,7 +2,7 @@
 ghost use Rattle.std.specs.Prelude.{◌≡◌, ◌≤◌, length, IfOk};
 ghost use Rattle.schedule_file.specs.declared.line_buf.TheConstants.{MAX_LINE};
 ghost use Rattle.schedule_file.specs.FieldsRead.{fields_after};
-ghost use Rattle.plant_run.specs.ScriptLine.{plant_word_of, end_of_letter, existing, put_line, link_and_switch, local_line, nonce_line, plant_line};
+ghost use Rattle.plant_run.specs.ScriptLine.{existing, put_line, link_and_switch, local_line, nonce_line, plant_line};
 ghost use Rattle.plant_run.specs.Running.{LineFits};
 
 use fsoe_base::{End, Image, Lengths, MOST_DATA};
@@ -37,25 +37,8 @@ const WORDS: [(&[u8], PlantWord); 8] = [
     (b"end", PlantWord::End),
 ];
 
-/// The word that begins a line.
-fn read_plant_word(text: &[u8]) -> Option<PlantWord>
-    ensures { result ≡ plant_word_of text.now }
-{
-    find_word(&WORDS, text)
-}
-
-/// The end that a letter names.
-fn read_end_letter(text: &[u8]) -> Option<End>
-    ensures { result ≡ end_of_letter text.now }
-{
-    if text == b"m".as_slice() {
-        Some(End::Master)
-    } else if text == b"s".as_slice() {
-        Some(End::Slave)
-    } else {
-        None
-    }
-}
+/// The letters of ends.
+const LETTERS: [(&[u8], End); 2] = [(b"m", End::Master), (b"s", End::Slave)];
 
 /// The lengths of the connection with this number, from 1. `NoLink` where there is none.
 fn existing(lengths: &[Lengths], link: u16) -> Result<Lengths, LineCause>
@@ -120,7 +103,7 @@ fn read_nonce(fields: Option<&[u8]>, lengths: &[Lengths]) -> Result<PlantLine, L
     let (letter, rest) = next_field(rest)?;
     let digits = one_field(rest)?;
     let link = number_16(link)?;
-    let end = read_end_letter(letter).ok_or(LineCause::Number)?;
+    let end = find_word(&LETTERS, letter).ok_or(LineCause::Number)?;
     let id = number_16(digits)?;
     existing(lengths, link)?;
     Ok(PlantLine::Step(PlantEvent::Nonce { link, end, id }))
@@ -139,7 +122,7 @@ pub fn read_plant_event(line: &[u8], lengths: &[Lengths]) -> Result<PlantLine, L
     ensures fits { IfOk result (LineFits lengths.now) }
 {
     let (first, fields) = cut(line);
-    match read_plant_word(first) {
+    match find_word(&WORDS, first) {
         Some(PlantWord::Tick) => {
             no_field(fields)?;
             Ok(PlantLine::Step(PlantEvent::Tick))

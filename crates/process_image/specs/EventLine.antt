@@ -1,12 +1,11 @@
 -- What a line says that stands after the header of images. The causes come in their order: the word, the number of
 -- fields, a number, a slot that doesn't exist, the hexadecimal bytes, a length, a position.
-use Rattle.std.specs.Prelude.{◌≡◌, ℕ, ◌+◌, ◌==◌, nat_le, length, List, codes, Option, Some, None, Result, Ok, Err, MatchResult, if◌then◌else◌}
+use Rattle.std.specs.Prelude.{◌≡◌, ℕ, ◌+◌, ◌==◌, nat_le, length, List, [], ◌∷◌, codes, Option, Some, None, Result, Ok, Err, MatchResult, if◌then◌else◌}
 use denote.Ref.{Bor}
-use Rattle.std.specs.Str.{bytes_eq}
 use Rattle.fsoe_base.specs.Lengths.{most_data}
 use Rattle.param_load.specs.Profile.{allows_id}
 use Rattle.schedule_file.specs.EventLine.{switch_of}
-use Rattle.schedule_file.specs.Field.{bytes_said, fields_of}
+use Rattle.schedule_file.specs.Field.{bytes_said, fields_of, word_in}
 use Rattle.schedule_file.specs.Fields.{◌>>=◌, map_ok, value_or, by_word, next_field, no_field, one_field, number_16, number_32}
 use Rattle.schedule_file.specs.declared.line_cause.LineCause.{LineCause}
 use Rattle.schedule_file.specs.declared.line_cause.LineCause.TheVariants as cause
@@ -20,16 +19,9 @@ use Rattle.process_image.specs.declared.event_line.Word.TheVariants as word
 
 -- the word of an event, or `end`
 abbrev pub word_of : List ℕ → Option Word
-word_of text =
-    if bytes_eq text (codes "w") then Some word.Write
-    else if bytes_eq text (codes "s") then Some word.Sample
-    else if bytes_eq text (codes "t") then Some word.Tick
-    else if bytes_eq text (codes "p") then Some word.Put
-    else if bytes_eq text (codes "h") then Some word.Hold
-    else if bytes_eq text (codes "n") then Some word.Nonce
-    else if bytes_eq text (codes "z") then Some word.Reset
-    else if bytes_eq text (codes "end") then Some word.End
-    else None
+word_of = word_in (
+    (codes "w", word.Write) ∷ (codes "s", word.Sample) ∷ (codes "t", word.Tick) ∷ (codes "p", word.Put)
+    ∷ (codes "h", word.Hold) ∷ (codes "n", word.Nonce) ∷ (codes "z", word.Reset) ∷ (codes "end", word.End) ∷ [])
 
 -- the end of the slot of this number
 abbrev pub end_at : ℕ → List SlotEnd → Result SlotEnd LineCause

@@ -1,7 +1,7 @@
 //! Lines of events.
 ghost use Rattle.std.specs.Prelude.{◌≡◌};
 ghost use Rattle.schedule_file.specs.FieldsRead.{fields_after, Becomes};
-ghost use Rattle.process_image.specs.EventLine.{IsSlotAndField, word_of, end_at, slot_and_field, write_line, put_line, hold_line, nonce_line, reset_line, image_line};
+ghost use Rattle.process_image.specs.EventLine.{IsSlotAndField, end_at, slot_and_field, write_line, put_line, hold_line, nonce_line, reset_line, image_line};
 ghost use Rattle.process_image.specs.Places.{numbered};
 
 use crate::event::ImageEvent;
@@ -54,13 +54,6 @@ impl Default for SlotEnd {
             profile: Profile::One,
         }
     }
-}
-
-/// The word that begins a line.
-fn read_word(text: &[u8]) -> Option<Word>
-    ensures { result ≡ word_of text.now }
-{
-    find_word(&WORDS, text)
 }
 
 /// The end of the slot of this number, where there is one.
@@ -169,7 +162,7 @@ pub(crate) fn read_image_line(
     ensures { Becomes result says.new (image_line size ends.now line.now) }
 {
     let (first, fields) = cut(line);
-    match read_word(first) {
+    match find_word(&WORDS, first) {
         Some(Word::Write) => read_write(size, fields, says),
         Some(Word::Sample) => {
             no_field(fields)?;

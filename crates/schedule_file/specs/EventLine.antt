@@ -7,7 +7,7 @@ use Rattle.fsoe_base.specs.declared.command.End.{End}
 use Rattle.fsoe_base.specs.declared.command.End.TheVariants as side
 use Rattle.param_load.specs.Profile.{allows_id}
 use Rattle.param_load.specs.declared.profile.Profile.{Profile}
-use Rattle.schedule_file.specs.Field.{number_said, bytes_said}
+use Rattle.schedule_file.specs.Field.{word_in, number_said, bytes_said}
 use Rattle.schedule_file.specs.Fields.{◌>>=◌, map_ok, value_or, next_field, no_field, one_field, number_16, number_32, one_hex_field}
 use Rattle.schedule_file.specs.Limits.{max_back}
 use Rattle.schedule_file.specs.declared.event.Event.{Event}
@@ -21,10 +21,7 @@ use Rattle.schedule_file.specs.declared.line_cause.LineCause.TheVariants as caus
 
 -- off or on
 abbrev pub switch_of : List ℕ → Option Bool
-switch_of text =
-    if bytes_eq text (codes "0") then Some false
-    else if bytes_eq text (codes "1") then Some true
-    else None
+switch_of = word_in ((codes "0", false) ∷ (codes "1", true) ∷ [])
 
 -- a number that is not 0
 abbrev pub not_zero : Option ℕ → Option ℕ

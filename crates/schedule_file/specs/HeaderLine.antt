@@ -1,9 +1,10 @@
 -- What a line of a header says, from its second line on. The causes come in their order: the number of
 -- fields, a number, the hexadecimal bytes, a length, a range.
-use Rattle.std.specs.Prelude.{ℕ, ◌==◌, ◌&&◌, ◌||◌, nat_le, length, List, codes, Result, Ok, Err, if◌then◌else◌}
+use Rattle.std.specs.Prelude.{ℕ, ◌==◌, ◌&&◌, ◌||◌, nat_le, length, List, [], ◌∷◌, codes, Result, Ok, Err, if◌then◌else◌}
 use Rattle.std.specs.Str.{bytes_eq}
 use Rattle.fsoe_base.specs.Lengths.{is_length}
-use Rattle.schedule_file.specs.Fields.{◌>>=◌, map_ok, next_field, no_field, one_field, number_16, number_32, one_hex_field}
+use Rattle.schedule_file.specs.Field.{word_in}
+use Rattle.schedule_file.specs.Fields.{◌>>=◌, map_ok, value_or, next_field, no_field, one_field, number_16, number_32, one_hex_field}
 use Rattle.schedule_file.specs.Limits.{max_app, max_hex}
 use Rattle.schedule_file.specs.declared.header_line.HeaderLine.{HeaderLine}
 use Rattle.schedule_file.specs.declared.header_line.HeaderLine.TheVariants as says
@@ -74,9 +75,7 @@ any_line fields = do
 abbrev pub listed_line : List ℕ → List (List ℕ) → Result RuleLine LineCause
 listed_line form fields = do
   none ← no_field fields
-  if bytes_eq form (codes "exact") then Ok rule.Exact
-      else if bytes_eq form (codes "ranges") then Ok rule.Ranges
-      else Err cause.Range
+  value_or cause.Range (word_in ((codes "exact", rule.Exact) ∷ (codes "ranges", rule.Ranges) ∷ []) form)
 
 -- the first field of a rule says its form, and so how many fields there are
 abbrev pub rule_line : List (List ℕ) → Result RuleLine LineCause

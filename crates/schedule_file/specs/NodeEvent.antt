@@ -1,10 +1,9 @@
 -- What a line says that stands after the header of a node.
-use Rattle.std.specs.Prelude.{List, ℕ, codes, Option, Some, None, Result, if◌then◌else◌}
-use Rattle.std.specs.Str.{bytes_eq}
+use Rattle.std.specs.Prelude.{List, [], ◌∷◌, ℕ, codes, Option, Result}
 use Rattle.fsoe_base.specs.declared.command.End.{End}
 use Rattle.param_load.specs.declared.profile.Profile.{Profile}
 use Rattle.schedule_file.specs.EventLine.{event_said, line_said}
-use Rattle.schedule_file.specs.Field.{fields_of}
+use Rattle.schedule_file.specs.Field.{fields_of, word_in}
 use Rattle.schedule_file.specs.Fields.{◌>>=◌, by_word, value_or}
 use Rattle.schedule_file.specs.declared.event.ScheduleLine.{ScheduleLine}
 use Rattle.schedule_file.specs.declared.event_line.EventWord.{EventWord}
@@ -14,14 +13,9 @@ use Rattle.schedule_file.specs.declared.line_cause.LineCause.TheVariants as caus
 
 -- the word of an event at a node
 abbrev pub node_word_of : List ℕ → Option EventWord
-node_word_of text =
-    if bytes_eq text (codes "t") then Some word.Tick
-    else if bytes_eq text (codes "d") then Some word.Raw
-    else if bytes_eq text (codes "p") then Some word.Put
-    else if bytes_eq text (codes "h") then Some word.Hold
-    else if bytes_eq text (codes "n") then Some word.Nonce
-    else if bytes_eq text (codes "z") then Some word.Local
-    else None
+node_word_of = word_in (
+    (codes "t", word.Tick) ∷ (codes "d", word.Raw) ∷ (codes "p", word.Put) ∷ (codes "h", word.Hold)
+    ∷ (codes "n", word.Nonce) ∷ (codes "z", word.Local) ∷ [])
 
 -- what the fields of a line say that begins so to the node at this end, which sends so many safe data bytes. No word
 -- names a frame of its peer

@@ -1,11 +1,10 @@
 -- What a line says that stands after the header of a pair.
-use Rattle.std.specs.Prelude.{List, ℕ, codes, Option, Some, None, Result, if◌then◌else◌}
-use Rattle.std.specs.Str.{bytes_eq}
+use Rattle.std.specs.Prelude.{List, [], ◌∷◌, ℕ, codes, Option, Result}
 use Rattle.fsoe_base.specs.declared.command.End.{End}
 use Rattle.fsoe_base.specs.declared.command.End.TheVariants as side
 use Rattle.param_load.specs.declared.profile.Profile.{Profile}
 use Rattle.schedule_file.specs.EventLine.{delivered_len, event_said, line_said}
-use Rattle.schedule_file.specs.Field.{fields_of}
+use Rattle.schedule_file.specs.Field.{fields_of, word_in}
 use Rattle.schedule_file.specs.Fields.{◌>>=◌, by_word, value_or}
 use Rattle.schedule_file.specs.declared.event.Event.{Event}
 use Rattle.schedule_file.specs.declared.event.ScheduleLine.{ScheduleLine}
@@ -16,24 +15,15 @@ use Rattle.schedule_file.specs.declared.line_cause.LineCause.TheVariants as caus
 
 -- the word of an event with the letter of its end
 abbrev pub pair_word_of : List ℕ → Option (EventWord × End)
-pair_word_of text =
-    if bytes_eq text (codes "dm") then Some (word.Deliver, side.Master)
-    else if bytes_eq text (codes "ds") then Some (word.Deliver, side.Slave)
-    else if bytes_eq text (codes "am") then Some (word.Altered, side.Master)
-    else if bytes_eq text (codes "as") then Some (word.Altered, side.Slave)
-    else if bytes_eq text (codes "rm") then Some (word.Raw, side.Master)
-    else if bytes_eq text (codes "rs") then Some (word.Raw, side.Slave)
-    else if bytes_eq text (codes "tm") then Some (word.Tick, side.Master)
-    else if bytes_eq text (codes "ts") then Some (word.Tick, side.Slave)
-    else if bytes_eq text (codes "pm") then Some (word.Put, side.Master)
-    else if bytes_eq text (codes "ps") then Some (word.Put, side.Slave)
-    else if bytes_eq text (codes "hm") then Some (word.Hold, side.Master)
-    else if bytes_eq text (codes "hs") then Some (word.Hold, side.Slave)
-    else if bytes_eq text (codes "nm") then Some (word.Nonce, side.Master)
-    else if bytes_eq text (codes "ns") then Some (word.Nonce, side.Slave)
-    else if bytes_eq text (codes "zm") then Some (word.Local, side.Master)
-    else if bytes_eq text (codes "zs") then Some (word.Local, side.Slave)
-    else None
+pair_word_of = word_in (
+    (codes "dm", (word.Deliver, side.Master)) ∷ (codes "ds", (word.Deliver, side.Slave))
+    ∷ (codes "am", (word.Altered, side.Master)) ∷ (codes "as", (word.Altered, side.Slave))
+    ∷ (codes "rm", (word.Raw, side.Master)) ∷ (codes "rs", (word.Raw, side.Slave))
+    ∷ (codes "tm", (word.Tick, side.Master)) ∷ (codes "ts", (word.Tick, side.Slave))
+    ∷ (codes "pm", (word.Put, side.Master)) ∷ (codes "ps", (word.Put, side.Slave))
+    ∷ (codes "hm", (word.Hold, side.Master)) ∷ (codes "hs", (word.Hold, side.Slave))
+    ∷ (codes "nm", (word.Nonce, side.Master)) ∷ (codes "ns", (word.Nonce, side.Slave))
+    ∷ (codes "zm", (word.Local, side.Master)) ∷ (codes "zs", (word.Local, side.Slave)) ∷ [])
 
 -- what a word says of an event with its fields, where the ends send so many safe data bytes and have these profiles
 abbrev pub pair_event : (End → ℕ) → (End → Profile) → EventWord × End → List (List ℕ) → Result Event LineCause

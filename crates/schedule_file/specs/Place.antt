@@ -1,7 +1,7 @@
 -- Which lines of a header may follow which.
-use Rattle.std.specs.Prelude.{ℕ, Bool, true, false, not, List, codes, Option, Some, None, Result, Ok, Err, if◌then◌else◌}
-use Rattle.std.specs.Str.{bytes_eq}
+use Rattle.std.specs.Prelude.{ℕ, Bool, true, false, not, List, [], ◌∷◌, codes, Option, Some, None, Result, Ok, Err, if◌then◌else◌}
 use Rattle.fsoe_base.specs.declared.command.End.TheVariants as side
+use Rattle.schedule_file.specs.Field.{word_in}
 use Rattle.schedule_file.specs.HeaderKind.{has_end}
 use Rattle.schedule_file.specs.declared.header_kind.HeaderKind.{HeaderKind}
 use Rattle.schedule_file.specs.declared.line_cause.LineCause.{LineCause}
@@ -13,17 +13,10 @@ use Rattle.schedule_file.specs.declared.place.Word.TheVariants as word
 
 -- the word that begins a line of a header
 abbrev pub header_word_of : List ℕ → Option Word
-header_word_of text =
-    if bytes_eq text (codes "lengths") then Some word.Lengths
-    else if bytes_eq text (codes "master") then Some word.Master
-    else if bytes_eq text (codes "profile") then Some word.Profile
-    else if bytes_eq text (codes "app") then Some word.App
-    else if bytes_eq text (codes "slave") then Some word.Slave
-    else if bytes_eq text (codes "rule") then Some word.Rule
-    else if bytes_eq text (codes "bytes") then Some word.Bytes
-    else if bytes_eq text (codes "range") then Some word.Range
-    else if bytes_eq text (codes "go") then Some word.Go
-    else None
+header_word_of = word_in (
+    (codes "lengths", word.Lengths) ∷ (codes "master", word.Master) ∷ (codes "profile", word.Profile)
+    ∷ (codes "app", word.App) ∷ (codes "slave", word.Slave) ∷ (codes "rule", word.Rule)
+    ∷ (codes "bytes", word.Bytes) ∷ (codes "range", word.Range) ∷ (codes "go", word.Go) ∷ [])
 
 -- no line is read
 abbrev pub is_start : Place → Bool
