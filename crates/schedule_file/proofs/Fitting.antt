@@ -31,9 +31,9 @@ event_fits sends profiles word.Altered at fields =
 event_fits sends profiles _ at fields = grind (arith, nat_tests, reference_within, hex_within)
 
 -- what a word says to a node fits its end
-node_fits : (end : End) (count : ℕ) (profile : Profile) (first : List ℕ) (fields : List (List ℕ))
-    → IfOk (value_or cause.Word (node_word_of first) >>= λ word. event_said count 0 profile word end fields) (FitsEnd end count profile)
-node_fits end count profile first fields = grind (arith, nat_tests, hex_within)
+node_fits : (end : End) (sends : End → ℕ) (profile : Profile) (first : List ℕ) (fields : List (List ℕ))
+    → IfOk (value_or cause.Word (node_word_of first) >>= λ word. event_said sends profile (word, end) fields) (FitsEnd end (sends end) profile)
+node_fits end sends profile first fields = grind (arith, nat_tests, hex_within)
 
 -- what a line says fits, where its event does
 line_fits : (first : List ℕ) (fields : List (List ℕ)) (event : Result Event LineCause) (P : Event → Type 0) → IfOk event P → IfOk (line_said first fields event) (OnStep P)
@@ -43,8 +43,8 @@ pub pair_line_fits : (sends : End → ℕ) (profiles : End → Profile) (text : 
 pair_line_fits sends profiles text =
     worded cause.Word (pair_said sends profiles) _ (λ first fields. line_fits first fields _ _ (each (value_or cause.Word (pair_word_of first)) _ _ (λ word. event_fits sends profiles word.0 word.1 fields))) (fields_of text)
 
-pub node_line_fits : (end : End) (count : ℕ) (profile : Profile) (text : List ℕ) → IfOk (node_line end count profile text) (OnStep (FitsEnd end count profile))
-node_line_fits end count profile text = worded cause.Word (node_said end count profile) _ (λ first fields. line_fits first fields _ _ (node_fits end count profile first fields)) (fields_of text)
+pub node_line_fits : (end : End) (sends : End → ℕ) (profile : Profile) (text : List ℕ) → IfOk (node_line end sends profile text) (OnStep (FitsEnd end (sends end) profile))
+node_line_fits end sends profile text = worded cause.Word (node_said end sends profile) _ (λ first fields. line_fits first fields _ _ (node_fits end sends profile first fields)) (fields_of text)
 
 -- an event that a line says fits
 on_event : (P : Event → Type 0) (r : Result ScheduleLine LineCause) → IfOk r (OnStep P) → (said : ScheduleLine) (event : Event) → r ≡ Ok said → event_of said ≡ Some event → P event
@@ -54,7 +54,7 @@ pub pair_event_fits : (h : Heading) (text : List ℕ) (said : ScheduleLine) (eve
 pair_event_fits h text = on_event (Fits (own_length h) (heading_profile h)) _ (pair_line_fits (own_length h) (heading_profile h) text)
 
 pub node_event_fits : (end : End) (h : Heading) (text : List ℕ) (said : ScheduleLine) (event : Event) → said_after (Node end) h text ≡ Ok said → event_of said ≡ Some event → FitsEnd end (own_length h end) (heading_profile h end) event
-node_event_fits end h text = on_event (FitsEnd end (own_length h end) (heading_profile h end)) _ (node_line_fits end (own_length h end) (heading_profile h end) text)
+node_event_fits end h text = on_event (FitsEnd end (own_length h end) (heading_profile h end)) _ (node_line_fits end (own_length h) (heading_profile h end) text)
 
 first_is : {L E : Type 0} (event_of : L → Option E) (P : E → Type 0) (r : Result L LineCause) (said : List (Result L LineCause)) → ((line : L) (event : E) → r ≡ Ok line → event_of line ≡ Some event → P event)
     → All P (steps event_of said) → All P (steps event_of (r ∷ said))

@@ -85,17 +85,17 @@ nonce_line at profile fields = do
   id ← number_32 field
   if allows_id profile id then Ok (event.Nonce at id) else Err cause.Number
 
--- what a word says of an event at an end with its fields: this end sends so many safe data bytes, gets frames of so many
--- bytes from its peer, and has this profile
-abbrev pub event_said : ℕ → ℕ → Profile → EventWord → End → List (List ℕ) → Result Event LineCause
-event_said count delivered profile word.Deliver at fields = deliver_line at fields
-event_said count delivered profile word.Altered at fields = altered_line at delivered fields
-event_said count delivered profile word.Raw at fields = raw_line at fields
-event_said count delivered profile word.Tick at fields = bare_line (event.Tick at) fields
-event_said count delivered profile word.Put at fields = put_line at count fields
-event_said count delivered profile word.Hold at fields = hold_line at fields
-event_said count delivered profile word.Nonce at fields = nonce_line at profile fields
-event_said count delivered profile word.Local at fields = bare_line (event.Local at) fields
+-- what a word says of an event at an end with its fields: the ends send so many safe data bytes, and this one has this
+-- profile
+abbrev pub event_said : (End → ℕ) → Profile → EventWord × End → List (List ℕ) → Result Event LineCause
+event_said sends profile (word.Deliver, at) fields = deliver_line at fields
+event_said sends profile (word.Altered, at) fields = altered_line at (delivered_len sends at) fields
+event_said sends profile (word.Raw, at) fields = raw_line at fields
+event_said sends profile (word.Tick, at) fields = bare_line (event.Tick at) fields
+event_said sends profile (word.Put, at) fields = put_line at (sends at) fields
+event_said sends profile (word.Hold, at) fields = hold_line at fields
+event_said sends profile (word.Nonce, at) fields = nonce_line at profile fields
+event_said sends profile (word.Local, at) fields = bare_line (event.Local at) fields
 
 -- what a line says that begins so: the word `end` is that of no event
 abbrev pub line_said : List ℕ → List (List ℕ) → Result Event LineCause → Result ScheduleLine LineCause

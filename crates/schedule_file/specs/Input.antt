@@ -173,7 +173,7 @@ heading_profile h side.Slave = h.slave.profile
 -- what a line says after a header of this kind, where the ends send so many safe data bytes and have these profiles
 abbrev pub said_by : HeaderKind → (End → ℕ) → (End → Profile) → List ℕ → Result ScheduleLine LineCause
 said_by Pair sends profiles text = pair_line sends profiles text
-said_by (Node end) sends profiles text = node_line end (sends end) (profiles end) text
+said_by (Node end) sends profiles text = node_line end sends (profiles end) text
 
 -- what a line after a header says
 abbrev pub said_after : HeaderKind → Heading → List ℕ → Result ScheduleLine LineCause

@@ -17,11 +17,10 @@ node_word_of = word_in (
     (codes "t", word.Tick) ∷ (codes "d", word.Raw) ∷ (codes "p", word.Put) ∷ (codes "h", word.Hold)
     ∷ (codes "n", word.Nonce) ∷ (codes "z", word.Local) ∷ [])
 
--- what the fields of a line say that begins so to the node at this end, which sends so many safe data bytes. No word
--- names a frame of its peer
-abbrev pub node_said : End → ℕ → Profile → List ℕ → List (List ℕ) → Result ScheduleLine LineCause
-node_said end count profile first fields = line_said first fields (value_or cause.Word (node_word_of first) >>= λ word. event_said count 0 profile word end fields)
+-- what the fields of a line say that begins so to the node at this end, which has this profile
+abbrev pub node_said : End → (End → ℕ) → Profile → List ℕ → List (List ℕ) → Result ScheduleLine LineCause
+node_said end sends profile first fields = line_said first fields (value_or cause.Word (node_word_of first) >>= λ word. event_said sends profile (word, end) fields)
 
 -- what a line says to this node
-abbrev pub node_line : End → ℕ → Profile → List ℕ → Result ScheduleLine LineCause
-node_line end count profile text = by_word cause.Word (node_said end count profile) (fields_of text)
+abbrev pub node_line : End → (End → ℕ) → Profile → List ℕ → Result ScheduleLine LineCause
+node_line end sends profile text = by_word cause.Word (node_said end sends profile) (fields_of text)

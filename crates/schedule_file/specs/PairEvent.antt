@@ -3,7 +3,7 @@ use Rattle.std.specs.Prelude.{List, [], ◌∷◌, ℕ, codes, Option, Result}
 use Rattle.fsoe_base.specs.declared.command.End.{End}
 use Rattle.fsoe_base.specs.declared.command.End.TheVariants as side
 use Rattle.param_load.specs.declared.profile.Profile.{Profile}
-use Rattle.schedule_file.specs.EventLine.{delivered_len, event_said, line_said}
+use Rattle.schedule_file.specs.EventLine.{event_said, line_said}
 use Rattle.schedule_file.specs.Field.{fields_of, word_in}
 use Rattle.schedule_file.specs.Fields.{◌>>=◌, by_word, value_or}
 use Rattle.schedule_file.specs.declared.event.Event.{Event}
@@ -27,7 +27,7 @@ pair_word_of = word_in (
 
 -- what a word says of an event with its fields, where the ends send so many safe data bytes and have these profiles
 abbrev pub pair_event : (End → ℕ) → (End → Profile) → EventWord × End → List (List ℕ) → Result Event LineCause
-pair_event sends profiles word fields = event_said (sends word.1) (delivered_len sends word.1) (profiles word.1) word.0 word.1 fields
+pair_event sends profiles word fields = event_said sends (profiles word.1) word fields
 
 -- what the fields of a line say that begins so
 abbrev pub pair_said : (End → ℕ) → (End → Profile) → List ℕ → List (List ℕ) → Result ScheduleLine LineCause

@@ -39,7 +39,7 @@ refused_for found (Err other) = first_cause found other
 -- what a word says with its fields to a pair that isn't there. Its ends have profile One. Lengths don't matter, since
 -- the causes that come of them count after that of the pair
 abbrev pub unlinked : EventWord × End → List (List ℕ) → Result Event LineCause
-unlinked word fields = event_said 0 0 profile.One word.0 word.1 fields
+unlinked word fields = event_said (λ _. 1) profile.One word fields
 
 -- what a word says with its fields to a pair, where both are found what its ends send and their profiles
 abbrev pub said_to : ℕ → Option (End → ℕ) → Option (End → Profile) → EventWord × End → List (List ℕ) → Result PairsLine LineCause

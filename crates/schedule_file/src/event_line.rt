@@ -65,14 +65,13 @@ fn read_mask(text: &[u8]) -> Option<u8>
 }
 
 /// The number of bytes of a frame that is delivered to this end, which its peer sent.
-pub fn delivered_len(to: End, lengths: &Lengths) -> u8
+fn delivered_len(to: End, lengths: &Lengths) -> usize
     ensures { result ≡ delivered_len (length_of lengths.now) to }
 {
-    let len = match to {
+    match to {
         End::Master => lengths.frame_len(End::Slave),
         End::Slave => lengths.frame_len(End::Master),
-    };
-    len as u8
+    }
 }
 
 /// `-<back>`: a frame that the peer sent.
@@ -91,11 +90,11 @@ fn read_deliver(to: End, fields: Option<&[u8]>, event: &mut Event) -> Result<(),
 #[inline(never)]
 fn read_altered(
     to: End,
-    delivered: u8,
+    lengths: &Lengths,
     fields: Option<&[u8]>,
     event: &mut Event,
 ) -> Result<(), LineCause>
-    ensures value { Becomes result event.new (altered_line to delivered (fields_after fields.entry)) }
+    ensures value { Becomes result event.new (altered_line to (delivered_len (length_of lengths.now) to) (fields_after fields.entry)) }
     ensures unwritten { OnErr result (event.new ≡ event.old) }
 {
     let (reference, rest) = next_field(fields)?;
@@ -104,7 +103,7 @@ fn read_altered(
     let pos = number_16(place)?;
     let back = read_reference(reference).ok_or(LineCause::Reference)?;
     let mask = read_mask(digits).ok_or(LineCause::Hex)?;
-    if pos >= u16::from(delivered) {
+    if usize::from(pos) >= delivered_len(to, lengths) {
         return Err(LineCause::Position);
     }
     *event = Event::Altered {
@@ -148,16 +147,16 @@ fn read_first_raw(to: End, fields: Option<&[u8]>, event: &mut Event) -> Result<(
 #[inline(never)]
 fn read_put(
     at: End,
-    count: usize,
+    lengths: &Lengths,
     fields: Option<&[u8]>,
     event: &mut Event,
 ) -> Result<(), LineCause>
-    ensures value { Becomes result event.new (put_line at count (fields_after fields.entry)) }
+    ensures value { Becomes result event.new (put_line at (length_of lengths.now at) (fields_after fields.entry)) }
     ensures unwritten { OnErr result (event.new ≡ event.old) }
 {
     let mut load = Image::new();
     bytes_field(fields, &mut load)?;
-    if load.len() != count {
+    if load.len() != lengths.of(at) {
         return Err(LineCause::Length);
     }
     *event = Event::Put { at, load };
@@ -207,22 +206,20 @@ pub fn read_end(fields: Option<&[u8]>, says: &mut ScheduleLine) -> Result<(), Li
 }
 
 /// What a word says of an event at an end with its fields, written over what a line said, which is as it was after an
-/// error. The end sends `count` safe data bytes, gets frames of `delivered` bytes from its peer, and has this profile.
+/// error. The end has this profile.
 pub fn read_said(
-    word: EventWord,
-    at: End,
+    word: (EventWord, End),
     fields: Option<&[u8]>,
-    count: usize,
-    delivered: u8,
+    lengths: &Lengths,
     profile: Profile,
     says: &mut ScheduleLine,
 ) -> Result<(), LineCause>
-    ensures value { Becomes result says.new (map_ok ScheduleLine.Step (event_said count delivered profile word at (fields_after fields.entry))) }
+    ensures value { Becomes result says.new (map_ok ScheduleLine.Step (event_said (length_of lengths.now) profile word (fields_after fields.entry))) }
     ensures unwritten { OnErr result (says.new ≡ says.old) }
 {
     match says {
-        ScheduleLine::Step(event) => read_step(word, at, fields, count, delivered, profile, event),
-        ScheduleLine::End => read_first(word, at, fields, count, delivered, profile, says),
+        ScheduleLine::Step(event) => read_step(word, fields, lengths, profile, event),
+        ScheduleLine::End => read_first(word, fields, lengths, profile, says),
     }
 }
 
@@ -230,19 +227,17 @@ pub fn read_said(
 /// event, stands by itself.
 #[inline(never)]
 fn read_first(
-    word: EventWord,
-    at: End,
+    word: (EventWord, End),
     fields: Option<&[u8]>,
-    count: usize,
-    delivered: u8,
+    lengths: &Lengths,
     profile: Profile,
     says: &mut ScheduleLine,
 ) -> Result<(), LineCause>
-    ensures value { Becomes result says.new (map_ok ScheduleLine.Step (event_said count delivered profile word at (fields_after fields.entry))) }
+    ensures value { Becomes result says.new (map_ok ScheduleLine.Step (event_said (length_of lengths.now) profile word (fields_after fields.entry))) }
     ensures unwritten { OnErr result (says.new ≡ says.old) }
 {
-    let mut event = Event::Tick { at };
-    read_step(word, at, fields, count, delivered, profile, &mut event)?;
+    let mut event = Event::Tick { at: word.1 };
+    read_step(word, fields, lengths, profile, &mut event)?;
     *says = ScheduleLine::Step(event);
     Ok(())
 }
@@ -251,20 +246,19 @@ fn read_first(
 /// kind blanks a frame's room.
 #[inline(always)]
 pub fn read_step(
-    word: EventWord,
-    at: End,
+    word: (EventWord, End),
     fields: Option<&[u8]>,
-    count: usize,
-    delivered: u8,
+    lengths: &Lengths,
     profile: Profile,
     event: &mut Event,
 ) -> Result<(), LineCause>
-    ensures value { Becomes result event.new (event_said count delivered profile word at (fields_after fields.entry)) }
+    ensures value { Becomes result event.new (event_said (length_of lengths.now) profile word (fields_after fields.entry)) }
     ensures unwritten { OnErr result (event.new ≡ event.old) }
 {
+    let (word, at) = word;
     match word {
         EventWord::Deliver => read_deliver(at, fields, event),
-        EventWord::Altered => read_altered(at, delivered, fields, event),
+        EventWord::Altered => read_altered(at, lengths, fields, event),
         EventWord::Raw => read_raw(at, fields, event),
         EventWord::Tick => {
             no_field(fields)?;
@@ -274,7 +268,7 @@ pub fn read_step(
             }
             Ok(())
         }
-        EventWord::Put => read_put(at, count, fields, event),
+        EventWord::Put => read_put(at, lengths, fields, event),
         EventWord::Hold => read_hold(at, fields, event),
         EventWord::Nonce => read_nonce(at, profile, fields, event),
         EventWord::Local => {

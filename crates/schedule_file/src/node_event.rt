@@ -33,7 +33,7 @@ pub fn read_node_event(
     lengths: &Lengths,
     profile: Profile,
 ) -> Result<ScheduleLine, LineCause>
-    ensures value { result ≡ node_line end (length_of lengths.now end) profile line.now }
+    ensures value { result ≡ node_line end (length_of lengths.now) profile line.now }
     ensures fits { IfOk result (LineFits end lengths.now profile) }
 {
     let mut says = ScheduleLine::End;
@@ -49,7 +49,7 @@ pub fn read_node_event_into(
     profile: Profile,
     says: &mut ScheduleLine,
 ) -> Result<(), LineCause>
-    ensures value { Becomes result says.new (node_line end (length_of lengths.now end) profile line.now) }
+    ensures value { Becomes result says.new (node_line end (length_of lengths.now) profile line.now) }
     ensures fits { OnOk result (LineFits end lengths.now profile says.new) }
     ensures unwritten { OnErr result (says.new ≡ says.old) }
 {
@@ -58,5 +58,5 @@ pub fn read_node_event_into(
         return read_end(fields, says);
     }
     let word = find_word(&WORDS, first).ok_or(LineCause::Word)?;
-    read_said(word, end, fields, lengths.of(end), 0, profile, says)
+    read_said((word, end), fields, lengths, profile, says)
 }

@@ -6,7 +6,7 @@ ghost use Rattle.schedule_file.specs.FieldsRead.{Becomes};
 ghost use Rattle.schedule_file.specs.PairEvent.{pair_word_of, pair_line};
 
 use crate::event::ScheduleLine;
-use crate::event_line::{EventWord, delivered_len, read_end, read_said};
+use crate::event_line::{EventWord, read_end, read_said};
 use crate::field::{cut, find_word};
 use crate::line_cause::LineCause;
 use fsoe_base::{End, Lengths};
@@ -84,9 +84,7 @@ pub fn read_event_into(
     if first == b"end".as_slice() {
         return read_end(fields, says);
     }
-    let (word, at) = read_pair_word(first).ok_or(LineCause::Word)?;
-    let count = lengths.of(at);
-    let delivered = delivered_len(at, lengths);
-    let profile = profile_of(profiles, at);
-    read_said(word, at, fields, count, delivered, profile, says)
+    let word = read_pair_word(first).ok_or(LineCause::Word)?;
+    let profile = profile_of(profiles, word.1);
+    read_said(word, fields, lengths, profile, says)
 }

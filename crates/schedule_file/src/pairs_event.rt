@@ -45,9 +45,9 @@ fn first_cause(a: LineCause, b: LineCause) -> LineCause
 fn refused_for(found: LineCause, word: (EventWord, End), fields: Option<&[u8]>) -> LineCause
     ensures { result ≡ refused_for found (unlinked word (fields_after fields.entry)) }
 {
-    let (word, at) = word;
-    let mut event = Event::Tick { at };
-    match read_step(word, at, fields, 0, 0, Profile::One, &mut event) {
+    let lengths = Lengths::new(1, 1).unwrap();
+    let mut event = Event::Tick { at: word.1 };
+    match read_step(word, fields, &lengths, Profile::One, &mut event) {
         Ok(()) => found,
         Err(other) => first_cause(found, other),
     }

@@ -9,7 +9,7 @@ ghost use Rattle.schedule_file.specs.PairsEvent.{common_line};
 ghost use Rattle.schedule_file.specs.PairsLine.{pairs_event_of};
 
 use crate::event::Event;
-use crate::event_line::{EventWord, delivered_len, read_step};
+use crate::event_line::{EventWord, read_step};
 use crate::field::no_field;
 use crate::line_cause::LineCause;
 use crate::pair_event::profile_of;
@@ -124,21 +124,18 @@ impl PairsSaid {
         ensures value { Becomes result self.new (map_ok (PairsLine.One pair) (pair_event (length_of lengths.now) (profile_of profiles.now) word (fields_after fields.entry))) }
         ensures unwritten { OnErr result (self.new ≡ self.old) }
     {
-        let (word, at) = word;
-        let count = lengths.of(at);
-        let delivered = delivered_len(at, lengths);
-        let profile = profile_of(profiles, at);
+        let profile = profile_of(profiles, word.1);
         match &mut self.event {
             PairsEvent::One {
                 pair: last_pair,
                 event,
             } => {
-                read_step(word, at, fields, count, delivered, profile, event)?;
+                read_step(word, fields, lengths, profile, event)?;
                 *last_pair = pair;
             }
             PairsEvent::Tick => {
-                let mut event = Event::Tick { at };
-                read_step(word, at, fields, count, delivered, profile, &mut event)?;
+                let mut event = Event::Tick { at: word.1 };
+                read_step(word, fields, lengths, profile, &mut event)?;
                 self.event = PairsEvent::One { pair, event };
             }
         }
