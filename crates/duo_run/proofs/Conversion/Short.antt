@@ -8,7 +8,7 @@ use Rattle.std.proofs.lemmas.Fmt.{decimal-digits_value, length-decimal-le}
 use Rattle.std.proofs.lemmas.List.Splits.{join_with_byte-slice_split}
 use Rattle.std.proofs.lemmas.Slice.Eq.{bytes_eq-Decides}
 use Rattle.std.proofs.lemmas.Str.Parse.{numerals_by_value, tells_all_ascii_digits}
-use Rattle.schedule_file.specs.EventLine.{delivered_len, event_said, line_said, not_zero, reference_of}
+use Rattle.schedule_file.specs.EventLine.{event_said, line_said, not_zero, reference_of}
 use Rattle.schedule_file.specs.declared.event_line.EventWord.{EventWord}
 use Rattle.schedule_file.specs.declared.line_cause.LineCause.TheVariants as cause
 use Rattle.std.proofs.lemmas.Result.{IfOk-weaker}
@@ -62,8 +62,8 @@ one_short : {B : Type 0} (fields : List (List ℕ)) (f : List ℕ → Result B L
 one_short fields f h = grind arith
 
 -- what a word says with its fields
-said_short : (count delivered : ℕ) (profile : Profile) (word : EventWord) (at : End) (fields : List (List ℕ)) → IfOk (event_said count delivered profile word at fields) (λ _. total fields ≤ 512)
-said_short count delivered profile word at fields = search (rules, one_short, reference_short, number_short, hex_short, codes, bytes_eq-Decides)
+said_short : (sends : End → ℕ) (profile : Profile) (word : EventWord × End) (fields : List (List ℕ)) → IfOk (event_said sends profile word fields) (λ _. total fields ≤ 512)
+said_short sends profile word fields = search (rules, one_short, reference_short, number_short, hex_short, codes, bytes_eq-Decides)
 
 word_short : (text : List ℕ) (said : EventWord × End) → pair_word_of text ≡ Some said → length text ≤ 3
 word_short text said h = search rules
@@ -72,7 +72,7 @@ event_short : (sends : End → ℕ) (profiles : End → Profile) (first : List �
     → IfOk (value_or cause.Word w >>= λ word. pair_event sends profiles word fields) (λ _. (length first ≤ 3) × (total fields ≤ 512))
 event_short sends profiles first fields None e = tt
 event_short sends profiles first fields (Some word) e =
-    IfOk-weaker (pair_event sends profiles word fields) _ _ (λ _ few. (word_short first word e, few)) (said_short (sends word.1) (delivered_len sends word.1) (profiles word.1) word.0 word.1 fields)
+    IfOk-weaker (pair_event sends profiles word fields) _ _ (λ _ few. (word_short first word e, few)) (said_short sends (profiles word.1) word fields)
 
 -- `end` is short, too
 end_short : (first : List ℕ) (fields : List (List ℕ)) (event : Result Event LineCause) (says : ScheduleLine) → IfOk event (λ _. (length first ≤ 3) × (total fields ≤ 512)) → line_said first fields event ≡ Ok says
