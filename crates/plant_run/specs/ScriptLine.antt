@@ -6,9 +6,9 @@ use Rattle.fsoe_base.specs.declared.command.End.{End}
 use Rattle.fsoe_base.specs.declared.command.End.TheVariants as side
 use Rattle.fsoe_base.specs.declared.lengths.Lengths.{Lengths}
 use Rattle.fsoe_base.specs.Lengths.{most_data}
-use Rattle.schedule_file.specs.EventLine.{switch_of}
+use Rattle.schedule_file.specs.EventLine.{switch_of, bare_line}
 use Rattle.schedule_file.specs.Field.{fields_of, bytes_said, word_in}
-use Rattle.schedule_file.specs.Fields.{◌>>=◌, map_ok, value_or, by_word, next_field, no_field, one_field, number_16}
+use Rattle.schedule_file.specs.Fields.{◌>>=◌, map_ok, value_or, by_word, next_field, one_field, number_16}
 use Rattle.schedule_file.specs.declared.line_cause.LineCause.{LineCause}
 use Rattle.schedule_file.specs.declared.line_cause.LineCause.TheVariants as cause
 use Rattle.plant_model.specs.declared.event.PlantEvent.TheVariants as event
@@ -75,14 +75,14 @@ nonce_line lengths fields = do
 -- what a word says with its fields, where the connections have these lengths
 abbrev pub plant_said : List Lengths → Option PlantWord → List (List ℕ) → Result PlantLine LineCause
 plant_said lengths None fields = Err cause.Word
-plant_said lengths (Some word.Tick) fields = map_ok (λ none. line.Step event.Tick) (no_field fields)
+plant_said lengths (Some word.Tick) fields = bare_line (line.Step event.Tick) fields
 plant_said lengths (Some word.Put) fields = put_line lengths fields
 plant_said lengths (Some word.Hold) fields = map_ok (λ said. line.Step (event.Hold said.0 said.1)) (link_and_switch lengths fields)
 plant_said lengths (Some word.Local) fields = local_line lengths fields
 plant_said lengths (Some word.Nonce) fields = nonce_line lengths fields
 plant_said lengths (Some word.Cut) fields = map_ok (λ said. line.Step (event.Cut said.0 said.1)) (link_and_switch lengths fields)
 plant_said lengths (Some word.App) fields = map_ok line.App (one_field fields)
-plant_said lengths (Some word.End) fields = map_ok (λ none. line.End) (no_field fields)
+plant_said lengths (Some word.End) fields = bare_line line.End fields
 
 -- what a line says in the script of a plant whose connections have these lengths
 abbrev pub plant_line : List Lengths → List ℕ → Result PlantLine LineCause

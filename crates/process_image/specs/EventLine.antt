@@ -4,9 +4,9 @@ use Rattle.std.specs.Prelude.{◌≡◌, ℕ, ◌+◌, ◌==◌, nat_le, length,
 use denote.Ref.{Bor}
 use Rattle.fsoe_base.specs.Lengths.{most_data}
 use Rattle.param_load.specs.Profile.{allows_id}
-use Rattle.schedule_file.specs.EventLine.{switch_of}
+use Rattle.schedule_file.specs.EventLine.{switch_of, bare_line}
 use Rattle.schedule_file.specs.Field.{bytes_said, fields_of, word_in}
-use Rattle.schedule_file.specs.Fields.{◌>>=◌, map_ok, value_or, by_word, next_field, no_field, one_field, number_16, number_32}
+use Rattle.schedule_file.specs.Fields.{◌>>=◌, value_or, by_word, next_field, one_field, number_16, number_32}
 use Rattle.schedule_file.specs.declared.line_cause.LineCause.{LineCause}
 use Rattle.schedule_file.specs.declared.line_cause.LineCause.TheVariants as cause
 use Rattle.process_image.specs.Places.{numbered}
@@ -26,10 +26,6 @@ word_of = word_in (
 -- the end of the slot of this number
 abbrev pub end_at : ℕ → List SlotEnd → Result SlotEnd LineCause
 end_at slot ends = value_or cause.NoLink (numbered slot ends)
-
--- a word says this by itself
-abbrev pub bare_line : ImageLine → List (List ℕ) → Result ImageLine LineCause
-bare_line says fields = map_ok (λ none. says) (no_field fields)
 
 -- bytes from a place on, which lie inside an input image of this size
 abbrev pub written_at : ℕ → List ℕ → ℕ → Result ImageLine LineCause

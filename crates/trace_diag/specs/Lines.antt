@@ -7,6 +7,7 @@ use Rattle.std.specs.Str.{bytes_eq}
 use Rattle.fsoe_base.specs.declared.command.End.{End}
 use Rattle.fsoe_base.specs.declared.command.End.TheVariants as end_name
 use Rattle.fsoe_base.specs.Lengths.{most_frame}
+use Rattle.schedule_file.specs.EventLine.{bare_line}
 use Rattle.schedule_file.specs.Field.{fields_of}
 use Rattle.schedule_file.specs.Fields.{map_ok, by_word, no_field, one_hex_field}
 use Rattle.schedule_file.specs.HeaderLine.{lengths_line}
@@ -63,7 +64,7 @@ abbrev pub trace_said : List ℕ → List (List ℕ) → Result TraceLine LineCa
 trace_said word fields =
     if bytes_eq word (codes "m") then frame_line end_name.Master fields
     else if bytes_eq word (codes "s") then frame_line end_name.Slave fields
-    else if bytes_eq word (codes "end") then map_ok (λ none. says.Last) (no_field fields)
+    else if bytes_eq word (codes "end") then bare_line says.Last fields
     else Err cause.Word
 
 -- what a line of a trace says after the header
