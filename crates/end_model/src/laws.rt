@@ -30,7 +30,7 @@ ghost use Rattle.end_model.specs.Codes.{IsOwnReset};
 ghost use Rattle.end_model.specs.WorkedRuns.{FirstTick, MasterHandshake, MasterStepsNumber, MasterIsReset, SlaveHandshake, SlaveExpires, SlaveGoesOn, SlaveRefusesOldFrame, SlaveResetItself, WrongAddress, WrongWatchdog, WrongParameters, LongSessionIds, MasterOfOtherProfile, QuietInReset, QuietAtItsLimit, SlaveTestsInOrder, MasterTestsInOrder, IdSetLater, OutlastsReset, SlaveExpiresInParameter, SlaveExpiresInSession, SlaveTestsConnection, MasterContents, OldFrames};
 
 /// Worked runs of a master: each line of its report, with its state, its outputs and the frame that it sent.
-#[tactic(auto, using(crate::proofs::WorkedRuns::first_tick, crate::proofs::WorkedRuns::master_handshake, crate::proofs::WorkedRuns::master_steps_number, crate::proofs::WorkedRuns::master_is_reset))]
+#[tactic(auto, using(crate::proofs::WorkedRuns::master_runs))]
 pub fn worked_master_runs()
     ensures first_tick { FirstTick }
     ensures handshake { MasterHandshake }
@@ -39,7 +39,7 @@ pub fn worked_master_runs()
 {}
 
 /// Worked runs of a slave, in the same way.
-#[tactic(auto, using(crate::proofs::WorkedRuns::slave_handshake, crate::proofs::WorkedRuns::slave_expires, crate::proofs::WorkedRuns::slave_goes_on, crate::proofs::WorkedRuns::slave_refuses_old_frame, crate::proofs::WorkedRuns::slave_reset_itself, crate::proofs::WorkedRuns::quiet_in_reset, crate::proofs::WorkedRuns::quiet_at_its_limit, crate::proofs::WorkedRuns::long_session_ids, crate::proofs::WorkedRuns::id_set_later, crate::proofs::WorkedRuns::outlasts_reset, crate::proofs::WorkedRuns::slave_expires_in_parameter, crate::proofs::WorkedRuns::slave_expires_in_session))]
+#[tactic(auto, using(crate::proofs::WorkedRuns::slave_runs))]
 pub fn worked_slave_runs()
     ensures handshake { SlaveHandshake }
     ensures expires { SlaveExpires }
@@ -56,7 +56,7 @@ pub fn worked_slave_runs()
 {}
 
 /// Worked runs of a slave that ends a handshake, in the same way.
-#[tactic(auto, using(crate::proofs::WorkedRuns::wrong_address, crate::proofs::WorkedRuns::wrong_watchdog, crate::proofs::WorkedRuns::wrong_parameters, crate::proofs::WorkedRuns::other_profile))]
+#[tactic(auto, using(crate::proofs::WorkedRuns::refusals))]
 pub fn worked_refusals()
     ensures wrong_address { WrongAddress }
     ensures wrong_watchdog { WrongWatchdog }
@@ -67,7 +67,7 @@ pub fn worked_refusals()
 /// Frames that fail several tests, at a slave and at a master in Data: the first of the tests decides. The connection
 /// ids that a slave refuses in a handshake, and the contents that a master refuses. Old frames, which both ends take
 /// again with their session ids as they were, and refuse with fresh ones.
-#[tactic(auto, using(crate::proofs::WorkedRuns::slave_tests_in_order, crate::proofs::WorkedRuns::master_tests_in_order, crate::proofs::WorkedRuns::slave_tests_connection, crate::proofs::WorkedRuns::master_contents, crate::proofs::WorkedRuns::old_frames))]
+#[tactic(auto, using(crate::proofs::WorkedRuns::verdicts))]
 pub fn worked_verdicts()
     ensures slave { SlaveTestsInOrder }
     ensures master { MasterTestsInOrder }

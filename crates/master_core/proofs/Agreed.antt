@@ -43,12 +43,9 @@ agrees ms e (move.Put load) s proper = record { view = λ r. refl; did = refl; s
 agrees ms e (move.Hold failsafe) s proper = record { view = λ r. refl; did = refl; sent = refl; sound = record { in_state = s.in_state; offer_len = s.offer_len; young = s.young } }
 agrees ms e (move.Nonce id) s proper = record { view = λ r. refl; did = refl; sent = refl; sound = record { in_state = s.in_state; offer_len = s.offer_len; young = s.young } }
 
-fresh-age : (w : ℕ) → 0 < w → w - 1 < w
-fresh-age w h = omega arith
-
 -- every run is sound
 pub run-sound : (ms : MasterSettings) (e : List Deed) → IsRun (OfMaster ms) e → Sound ms e
-run-sound ms [] r = record { in_state = refl; offer_len = length-replicate ms.lengths.master 0; young = fresh-age ms.watchdog ms.some_watchdog }
+run-sound ms [] r = record { in_state = refl; offer_len = length-replicate ms.lengths.master 0; young = let some : 0 < ms.watchdog = ms.some_watchdog in omega arith }
 run-sound ms (x ∷ e) r =
     let a : Agrees ms e x.what (did_on (OfMaster ms) e x.what) (after (view_of ms e) x.what) = agrees ms e x.what (run-sound ms e r.1) r.0.proper in
     subst (λ (x : Deed). Sound ms (x ∷ e)) (sym r.0.stepped) a.sound

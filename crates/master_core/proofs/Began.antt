@@ -1,6 +1,6 @@
 -- A Reset frame that is taken: in state Reset it begins a session.
 use Rattle.master_core.proofs.Common.{Chain, Code, Command, Deed, MasterSettings, Notes, OfMaster, Outcome, Setup, State, accepts, answered_by, begins, begun, bytes_of, chain_at, chain_sent, code, command_byte, deed_of, dropped, drops, filled, first_of, frame_of, frame_sent, fresh, is_empty, is_there, makes_due, newest_crc, nonce, notes_of, on_reset_frame, option_or, own_link, padded, piece_from, piece_len, piece_own, read_back, receives, seal, sends, session_payload, since, state_of, taken, taken_crc, takes_frame, there, view_in}
-use Rattle.std.proofs.Common.{◌≡◌, ℕ, ◌-◌, ◌*◌, ◌==◌, Bool, true, false, List, ◌∷◌, length, Option, Some, None, unwrap_or, if◌then◌else◌, refl, sym, ap, subst, ◌∙◌, rules}
+use Rattle.std.proofs.Common.{◌≡◌, ℕ, ◌-◌, ◌*◌, ◌==◌, Bool, true, false, List, ◌∷◌, length, Some, unwrap_or, if◌then◌else◌, refl, sym, ap, subst, ◌∙◌, rules}
 use Rattle.fsoe_base.specs.declared.command.Command.TheVariants as command
 use Rattle.fsoe_base.specs.declared.command.State.TheVariants as state
 use Rattle.fsoe_base.specs.declared.did.Cause.TheVariants as cause
@@ -33,15 +33,12 @@ first_load ms e = padded (piece_from (session_payload (nonce (OfMaster ms) e) ms
 abbrev begun_outcome : MasterSettings → List Deed → List ℕ → Outcome
 begun_outcome ms e bytes = answered_by (begins (view_in state.Reset ms e) (code 0) (came ms bytes))
 
-first-id : (o : Option ℕ) (n : ℕ) → o ≡ None → option_or o (Some n) ≡ Some n
-first-id o n h = ap (λ (o : Option ℕ). option_or o (Some n)) h
-
 begins-after : (ms : MasterSettings) (e : List Deed) (bytes : List ℕ) → notes_of ms e ≡ no_notes ms → Arrived ms bytes → Sound ms e → After ms e bytes command.Reset (begun_outcome ms e bytes).sent (begun_outcome ms e bytes).master
 begins-after ms e bytes h a s =
     let c : ℕ = piece_len (OfMaster ms) in
     let full : length (first_load ms e) ≡ ms.lengths.master = filled (session_payload (nonce (OfMaster ms) e) ms.profile) c ms.lengths.master (piece_own (OfMaster ms)) in
     let none : (notes_of ms e).chain ≡ fresh = ap (λ (n : Notes). n.chain) h in
-    let id_is : option_or (notes_of ms e).id (Some (nonce (OfMaster ms) e)) ≡ Some (nonce (OfMaster ms) e) = first-id _ _ (ap (λ (n : Notes). n.id) h) in
+    let id_is : option_or (notes_of ms e).id (Some (nonce (OfMaster ms) e)) ≡ Some (nonce (OfMaster ms) e) = ap (λ (n : Notes). option_or n.id (Some (nonce (OfMaster ms) e))) h in
     let sent_is : frame_sent fresh 0 command.Session (first_load ms e) ≡ seal (OfMaster ms) (since e) 0 command.Session (first_load ms e) = sym (sealed-fresh (OfMaster ms) (since e) 0 command.Session (first_load ms e) none) in
     record {
       view = λ r. same_master _ _ _ _ _ _ _ refl

@@ -1,5 +1,5 @@
 -- What the tests of a frame and the readers ask of the phase of a master, and how it goes on.
-use Rattle.std.specs.Prelude.{ℕ, Bool, true, false, List, [], replicate, Option, Some, None, Result, Ok, Err}
+use Rattle.std.specs.Prelude.{ℕ, Bool, true, false, List, [], replicate, Option, Some, None, Result, Err}
 use Rattle.fsoe_base.specs.declared.command.Code.{Code}
 use Rattle.fsoe_base.specs.declared.command.Command.{Command}
 use Rattle.fsoe_base.specs.declared.command.Command.TheVariants as command
@@ -14,14 +14,15 @@ use Rattle.seq_chain.specs.Opened.{session_fault}
 use Rattle.seq_chain.specs.SessionFrame.{SessionFrameView}
 use Rattle.param_load.specs.declared.master_settings.MasterSettings.{MasterSettings}
 use Rattle.param_load.specs.declared.terms.Terms.{Terms}
+use Rattle.param_load.specs.Download.{outcome}
 use Rattle.end_model.specs.Setup.{OfMaster, sends, receives}
 use Rattle.end_model.specs.Readiness.{master_allows}
 use Rattle.end_model.specs.Verdict.{has_conn}
 use Rattle.master_core.specs.declared.phase.Phase.{Phase}
 use Rattle.master_core.specs.declared.phase.Phase.TheVariants as phase
 use Rattle.master_core.specs.declared.states.Due.{Due}
-use Rattle.master_core.specs.Kit.{KitView}
-use Rattle.master_core.specs.States.{first_exchange, piece_sent, piece_frame, session_next, connection_next, parameter_next, data_next, data_sent, data_frame, ExchangeUnder, DataUnder}
+use Rattle.master_core.specs.Kit.{KitView, connection_download, parameter_download}
+use Rattle.master_core.specs.States.{first_exchange, piece_sent, piece_frame, answered, with_download, first_data, next_by, data_next, data_sent, data_frame, ExchangeUnder, DataUnder}
 
 -- a phase was made under these settings
 abbrev pub IsUnder : MasterSettings → Phase → Type 0
@@ -73,16 +74,11 @@ fault settings p f = session_fault (allows p f.command) (has_conn (OfMaster sett
 
 -- the phase after a frame that passed the tests, before the frame that follows it is sent
 abbrev pub next_phase : KitView → Phase → SessionFrameView → Result Phase Code
-next_phase kit (phase.Session s) f = session_next kit s f
-next_phase kit (phase.Connection s) f = connection_next kit s f
-next_phase kit (phase.Parameter s) f = parameter_next kit s f
+next_phase kit (phase.Session x) f = next_by (outcome x.download f.frame.load) (phase.Session (answered x f)) (phase.Connection (with_download (answered x f) (connection_download kit.settings)))
+next_phase kit (phase.Connection x) f = next_by (outcome x.download f.frame.load) (phase.Connection (answered x f)) (phase.Parameter (with_download (answered x f) (parameter_download kit.settings)))
+next_phase kit (phase.Parameter x) f = next_by (outcome x.download f.frame.load) (phase.Parameter (answered x f)) (phase.Data (first_data kit (answered x f)))
 next_phase kit (phase.Data s) f = data_next s f
 next_phase kit _ f = Err command_not_allowed
-
--- a phase that went on in place
-abbrev pub placed : Result (Unit {0}) Code → Phase → Result Phase Code
-placed (Ok done) p = Ok p
-placed (Err x) p = Err x
 
 -- the phase after the frame that is due was sent
 abbrev pub sent_phase : KitView → Phase → Phase

@@ -9,7 +9,7 @@ use Rattle.seq_chain.specs.SessionFrame.{SessionFrameView}
 use Rattle.param_load.specs.declared.master_settings.MasterSettings.{MasterSettings}
 use Rattle.param_load.specs.declared.upload.Progress.{Progress}
 use Rattle.param_load.specs.declared.upload.Progress.TheVariants as progress
-use Rattle.param_load.specs.Download.{advanced, is_whole, outcome, piece_in_turn, terms_of}
+use Rattle.param_load.specs.Download.{advanced, is_whole, piece_in_turn, terms_of}
 use Rattle.param_load.specs.DownloadView.{DownloadView}
 use Rattle.param_load.specs.Payload.{padded}
 use Rattle.fsoe_base.specs.Data.{data_holds}
@@ -21,7 +21,7 @@ use Rattle.master_core.specs.declared.states.InData.{InData}
 use Rattle.master_core.specs.declared.states.InReset.{InReset}
 use Rattle.master_core.specs.declared.phase.Phase.{Phase}
 use Rattle.master_core.specs.declared.phase.Phase.TheVariants as phase
-use Rattle.master_core.specs.Kit.{KitView, session_download, connection_download, parameter_download}
+use Rattle.master_core.specs.Kit.{KitView, session_download}
 
 -- state Reset, which has nothing of a session
 abbrev pub no_session : InReset
@@ -61,30 +61,6 @@ next_by (Err x) more whole = Err x
 next_by (Ok progress.More) more whole = Ok more
 next_by (Ok progress.Whole) more whole = Ok whole
 
--- in this way Session goes on, or Connection begins
-abbrev pub session_by : Result Progress Code → KitView → Exchange → Result Phase Code
-session_by r kit e = next_by r (phase.Session e) (phase.Connection (with_download e (connection_download kit.settings)))
-
--- what an answer in Session leads to
-abbrev pub session_next : KitView → Exchange → SessionFrameView → Result Phase Code
-session_next kit x f = session_by (outcome x.download f.frame.load) kit (answered x f)
-
--- in this way Connection goes on, or Parameter begins
-abbrev pub connection_by : Result Progress Code → KitView → Exchange → Result Phase Code
-connection_by r kit e = next_by r (phase.Connection e) (phase.Parameter (with_download e (parameter_download kit.settings)))
-
--- what an answer in Connection leads to
-abbrev pub connection_next : KitView → Exchange → SessionFrameView → Result Phase Code
-connection_next kit x f = connection_by (outcome x.download f.frame.load) kit (answered x f)
-
--- in this way Parameter goes on, or Data begins
-abbrev pub parameter_by : Result Progress Code → KitView → Exchange → Result Phase Code
-parameter_by r kit e = next_by r (phase.Parameter e) (phase.Data (first_data kit e))
-
--- what an answer in Parameter leads to
-abbrev pub parameter_next : KitView → Exchange → SessionFrameView → Result Phase Code
-parameter_next kit x f = parameter_by (outcome x.download f.frame.load) kit (answered x f)
-
 -- state Data after a data frame of the slave
 abbrev pub data_answered : InData → SessionFrameView → InData
 data_answered s f = record s { session = session_taken s.session f; outputs = outputs_of f.command f.frame.load }
@@ -92,11 +68,6 @@ data_answered s f = record s { session = session_taken s.session f; outputs = ou
 -- what a data frame of the slave leads to: state Data goes on, and FailSafeData with other data than zeros has code 07h
 abbrev pub data_next : InData → SessionFrameView → Result Phase Code
 data_next s f = if data_holds f.command f.frame.load then Ok (phase.Data (data_answered s f)) else Err wrong_data
-
--- a state that went on in place
-abbrev pub in_place : Result (Unit {0}) Code → InData → Result Phase Code
-in_place (Ok done) s = Ok (phase.Data s)
-in_place (Err x) s = Err x
 
 -- state Data after a data frame is sent
 abbrev pub data_sent : KitView → InData → InData

@@ -9,7 +9,7 @@ use std::marker::Model;
 /// alone.
 #[derive(Drop)]
 pub(crate) struct Kit {
-    settings: MasterSettings,
+    pub(crate) settings: MasterSettings,
     pub(crate) offer: Offer,
     pub(crate) nonce: u32,
 }
@@ -25,9 +25,6 @@ impl Model for Kit {
 }
 
 impl Kit {
-    ghost use Rattle.std.specs.Prelude.{◌≡◌, IsTrue, length};
-    ghost use Rattle.param_load.specs.Profile.{allows_id};
-    ghost use Rattle.end_model.specs.Setup.{OfMaster, sends};
     ghost use Rattle.master_core.specs.Kit.{first_kit};
 
     pub(crate) fn new(settings: MasterSettings) -> Kit
@@ -40,26 +37,5 @@ impl Kit {
             offer,
             nonce,
         }
-    }
-
-    pub(crate) fn settings(&self) -> &MasterSettings
-        ensures { result.now ≡ self.now.settings }
-    {
-        &self.settings
-    }
-
-    pub(crate) fn nonce(&self) -> u32
-        ensures value { result ≡ self.now.nonce }
-        ensures allowed { IsTrue (allows_id self.now.settings.profile result) }
-    {
-        self.nonce
-    }
-
-    /// What the master sends in state Data.
-    pub(crate) fn offer(&self) -> &Offer
-        ensures value { result.now ≡ self.now.offer }
-        ensures len { length result.now.load ≡ sends (OfMaster self.now.settings) }
-    {
-        &self.offer
     }
 }

@@ -10,7 +10,7 @@ use failsafe_io::Watchdog;
 use fsoe_base::{Cause, Code, Command, Did, Dropped, FrameBuf, Image, MOST_DATA, State, Took};
 use fsoe_frame::FrameView;
 use param_load::{MasterSettings, Terms};
-use seq_chain::{Link, Opened, SessionFrame, open, reset_frame};
+use seq_chain::{Link, Opened, SessionFrame, UnreadFrame, open, reset_frame};
 use std::marker::Model;
 
 /// The master of a connection. It has no clock and no communication interface: the caller passes in frames and ticks,
@@ -54,9 +54,9 @@ impl Master {
     ghost use Rattle.fsoe_base.specs.declared.did.Cause.TheVariants as cause;
     ghost use Rattle.param_load.specs.Profile.{allows_id};
     ghost use Rattle.failsafe_io.specs.Timer.{started};
-    ghost use Rattle.master_core.specs.Master.{accepted_of, outcome_of, ends, refuses, on_reset_view, settles, accepted, replies, falls, on_frame, tick_of};
+    ghost use Rattle.master_core.specs.Master.{accepted_of, outcome_of, ends, refuses, on_reset_view, on_session, settles, accepted, replies, falls, on_frame, tick_of};
     ghost use Rattle.master_core.specs.Now.{is_due, reply};
-    ghost use Rattle.master_core.specs.Phase.{chain_of, next_phase};
+    ghost use Rattle.master_core.specs.Phase.{chain_of, fault, next_phase};
     ghost use Rattle.param_load.specs.declared.entry.Move.TheVariants as event;
     ghost use Rattle.seq_chain.specs.Session.{HasPassed};
     ghost use Rattle.end_model.specs.Setup.{OfMaster, sends, receives};
@@ -87,7 +87,7 @@ impl Master {
         ensures { self.new ≡ record self.old { state = record self.old.state { due = Some (record { code = code }) }; timer = started self.old.kit.settings.watchdog } }
     {
         self.due = Some(Due { code });
-        let limit = self.kit.settings().watchdog();
+        let limit = self.kit.settings.watchdog();
         self.watchdog.restart(limit);
     }
 
@@ -165,23 +165,32 @@ impl Master {
     {
         let repeats = self.phase.is_repeat(frame);
         // The frame is read where it was opened, and its data where they are told, so that neither is moved.
-        let opened = open(frame, self.kit.settings().peer_len(), repeats);
-        let unread = match &opened {
+        let opened = open(frame, self.kit.settings.peer_len(), repeats);
+        match &opened {
             Opened::Drop(why) => {
                 did.clear();
                 did.dropped = Some(*why);
-                return;
             }
-            Opened::Refuse(code) => return self.refuse(*code, did),
-            Opened::ResetFrame(code, view) => return self.acknowledge(*code, view, did),
-            Opened::OfSession(unread) => unread,
-        };
+            Opened::Refuse(code) => self.refuse(*code, did),
+            Opened::ResetFrame(code, view) => self.acknowledge(*code, view, did),
+            Opened::OfSession(unread) => self.receive_session(unread, did),
+        }
+    }
+
+    /// Tests a frame of a session and takes it, or drops it, or leaves the session.
+    #[inline(always)]
+    fn receive_session(&mut self, unread: &UnreadFrame<'_>, did: &mut Did)
+        requires { length unread.now.frame.load ≡ receives (OfMaster self.old.kit.settings) }
+        ensures accepted { accepted_of self.new did.new ≡ on_session self.old unread.now (fault self.old.kit.settings self.old.state.phase unread.now) }
+        ensures kit { self.new.kit ≡ self.old.kit }
+        ensures unsent { did.new.sent ≡ false }
+    {
         unread.took_into(did);
         let Some(took) = &did.took else {
             unreachable!();
         };
         let seen = SessionFrame::new(unread, &took.load);
-        let link = match self.phase.test(self.kit.settings(), &seen) {
+        let link = match self.phase.test(&self.kit.settings, &seen) {
             Err(code) => return self.refuse(code, did),
             Ok(link) => link,
         };
@@ -298,9 +307,7 @@ impl Master {
     #[cold]
     #[inline(never)]
     fn fall(&mut self, why: Cause, code: Code, did: &mut Did, out: &mut FrameBuf)
-        ensures master { self.new ≡ (falls self.old why code).master }
-        ensures did { did.new ≡ (falls self.old why code).did }
-        ensures sent { out.new ≡ (falls self.old why code).sent }
+        ensures { outcome_of self.new did.new out.new ≡ falls self.old why code }
     {
         self.end(false, why, code, did);
         did.sent = true;
@@ -310,9 +317,7 @@ impl Master {
     /// Counts a tick.
     fn count(&mut self, did: &mut Did, out: &mut FrameBuf)
         requires { is_due self.old.state ≡ false }
-        ensures master { self.new ≡ (tick_of self.old).master }
-        ensures did { did.new ≡ (tick_of self.old).did }
-        ensures sent { out.new ≡ (tick_of self.old).sent }
+        ensures outcome { outcome_of self.new did.new out.new ≡ tick_of self.old }
         ensures kit { self.new.kit ≡ self.old.kit }
         ensures done { is_due self.new.state ≡ false }
     {
@@ -322,7 +327,7 @@ impl Master {
             return;
         }
         if self.phase.is_reset() {
-            reset_frame(Code::LOCAL_RESET, self.kit.settings().own_len(), out);
+            reset_frame(Code::LOCAL_RESET, self.kit.settings.own_len(), out);
             did.clear();
             did.sent = true;
             return;
@@ -413,7 +418,7 @@ impl Master {
     pub fn settings(&self) -> &MasterSettings
         ensures { result.now ≡ self.now.kit.settings }
     {
-        self.kit.settings()
+        &self.kit.settings
     }
 
     /// Returns the state: the phase of the last frame sent in this session, or Reset if there is no session. A frame
@@ -464,7 +469,7 @@ impl Master {
         ensures shown_due { ShowsDue self.now result.now model.offer }
         ensures len { length result.now ≡ sends (OfMaster self.now.kit.settings) }
     {
-        self.kit.offer().bytes()
+        self.kit.offer.bytes()
     }
 
     /// Whether zeros are sent in place of the offer.
@@ -473,6 +478,6 @@ impl Master {
         ensures shown { Shows self.now result (λ s e. model.held e) }
         ensures shown_due { ShowsDue self.now result (λ s e. model.held e) }
     {
-        self.kit.offer().held()
+        self.kit.offer.held()
     }
 }

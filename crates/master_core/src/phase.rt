@@ -35,8 +35,8 @@ fn has_conn(settings: &MasterSettings, command: Command, field: u16) -> bool
 }
 
 impl Phase {
-    ghost use Rattle.std.specs.Prelude.{◌≡◌, ◌≤◌, length, IsTrue, None, Some, is_some, IfOk, option_copied};
-    ghost use Rattle.std.specs.Result.{result_err};
+    ghost use Rattle.std.specs.Prelude.{◌≡◌, ◌≢◌, ◌≤◌, length, IsTrue, None, Some, Ok, is_some, IfOk, option_copied};
+    ghost use Rattle.std.specs.Result.{result_and, result_err};
     ghost use Rattle.fsoe_frame.specs.Parts.{bytes_of};
     ghost use Rattle.seq_chain.specs.Session.{tested, HasPassed};
     ghost use Rattle.fsoe_base.specs.declared.command.State.TheVariants as state;
@@ -47,7 +47,7 @@ impl Phase {
     ghost use Rattle.master_core.specs.States.{with_download, first_data};
     ghost use Rattle.seq_chain.specs.Opened.{is_repeat};
     ghost use Rattle.end_model.specs.Setup.{OfMaster, receives};
-    ghost use Rattle.master_core.specs.Phase.{IsUnder, state_of, is_reset, session_of, chain_of, kept_in, allows, fault, next_phase, placed, sent_phase, due_frame, outputs_in, terms_in};
+    ghost use Rattle.master_core.specs.Phase.{IsUnder, state_of, is_reset, session_of, chain_of, kept_in, allows, fault, next_phase, sent_phase, due_frame, outputs_in, terms_in};
 
     pub(crate) fn state(&self) -> State
         ensures { result ≡ state_of self.now }
@@ -126,7 +126,7 @@ impl Phase {
     ) -> Result<(), Code>
         requires under { IsUnder kit.now.settings self.old }
         requires passed { HasPassed (receives (OfMaster kit.now.settings)) (chain_of self.old) seen.now link }
-        ensures next { placed result self.new ≡ next_phase kit.now self.old seen.now }
+        ensures next { result_and result (Ok self.new) ≡ next_phase kit.now self.old seen.now }
         ensures under { IsUnder kit.now.settings self.new }
     {
         let Phase::Data(state) = self else {
@@ -190,12 +190,13 @@ impl Phase {
         *self = Phase::Data(state.to_data(kit));
     }
 
-    /// The same, apart from state Data, so that a data frame doesn't bear the cost of a change of phase.
+    /// The same outside state Data, so that a data frame doesn't bear the cost of a change of phase.
     #[inline(never)]
     fn shake_hands(&mut self, seen: &SessionFrame<'_>, link: Link, kit: &Kit) -> Result<(), Code>
+        requires handshake { state_of self.old ≢ state.Data }
         requires under { IsUnder kit.now.settings self.old }
         requires passed { HasPassed (receives (OfMaster kit.now.settings)) (chain_of self.old) seen.now link }
-        ensures next { placed result self.new ≡ next_phase kit.now self.old seen.now }
+        ensures next { result_and result (Ok self.new) ≡ next_phase kit.now self.old seen.now }
         ensures under { IsUnder kit.now.settings self.new }
     {
         match self {
@@ -212,7 +213,7 @@ impl Phase {
                 Progress::More => {}
                 Progress::Whole => self.begin_data(kit),
             },
-            Phase::Data(state) => state.take(seen, link, kit)?,
+            Phase::Data(_) => unreachable!(),
         }
         Ok(())
     }
@@ -256,7 +257,7 @@ impl Phase {
     {
         match self {
             Phase::Data(state) => state.outputs.bytes(),
-            _ => zeros(kit.settings().peer_len()),
+            _ => zeros(kit.settings.peer_len()),
         }
     }
 }
@@ -272,9 +273,9 @@ impl Due {
         ensures sent { out.new ≡ due_frame self kit.now phase.old }
         ensures under { IsUnder kit.now.settings phase.new }
     {
-        let conn = kit.settings().conn();
+        let conn = kit.settings.conn();
         match phase {
-            Phase::Reset(_) => reset_frame(self.code, kit.settings().own_len(), out),
+            Phase::Reset(_) => reset_frame(self.code, kit.settings.own_len(), out),
             Phase::Begin(_) => phase.begin_session(kit, out),
             Phase::Session(state) => state.exchange.send(Command::Session, 0, kit, out),
             Phase::Connection(state) => state.exchange.send(Command::Connection, conn, kit, out),

@@ -1,12 +1,14 @@
 //! The five states of a master. Only the transitions of this crate make a state, which owns what it needs. A state
 //! takes an answer that passed its tests, with the values that the chain stores of it, or returns the code of the
 //! contents test that fails. Then it sends the next frame.
-ghost use Rattle.std.specs.Prelude.{◌≡◌, OnOk, OnErr};
+ghost use Rattle.std.specs.Prelude.{◌≡◌, Ok, OnOk, OnErr};
+ghost use Rattle.std.specs.Result.{result_and};
 ghost use Rattle.param_load.specs.Download.{outcome};
 ghost use Rattle.seq_chain.specs.Session.{HasPassed};
 ghost use Rattle.end_model.specs.Setup.{OfMaster, receives};
+ghost use Rattle.master_core.specs.declared.phase.Phase.TheVariants as phase;
 ghost use Rattle.master_core.specs.Kit.{connection_download, parameter_download};
-ghost use Rattle.master_core.specs.States.{piece_sent, piece_frame, first_exchange, answered, with_download, first_data, data_next, in_place, data_sent, data_frame, ExchangeUnder, DataUnder};
+ghost use Rattle.master_core.specs.States.{piece_sent, piece_frame, first_exchange, answered, with_download, first_data, data_next, data_sent, data_frame, ExchangeUnder, DataUnder};
 
 use crate::kit::Kit;
 use failsafe_io::{Outputs, data_holds};
@@ -110,7 +112,7 @@ impl Exchange {
         ensures exchange { self.new ≡ piece_sent command conn kit.now self.old }
         ensures sent { out.new ≡ piece_frame command conn kit.now self.old }
     {
-        let load = self.download.load(kit.settings().own_len());
+        let load = self.download.load(kit.settings.own_len());
         self.session.seal(command, conn, load.bytes(), out);
     }
 }
@@ -122,8 +124,8 @@ impl InSession {
         ensures next { result ≡ first_exchange kit.now last }
         ensures under { ExchangeUnder kit.now.settings result }
     {
-        let settings = kit.settings();
-        let payload = Payload::session(kit.nonce(), settings.profile());
+        let settings = &kit.settings;
+        let payload = Payload::session(kit.nonce, settings.profile());
         InSession {
             exchange: Exchange {
                 session: Session::after(last),
@@ -137,7 +139,7 @@ impl InSession {
         ensures next { result ≡ with_download self.old (connection_download kit.now.settings) }
         ensures under { ExchangeUnder kit.now.settings result }
     {
-        let settings = kit.settings();
+        let settings = &kit.settings;
         let session = mem::replace(&mut self.exchange.session, Session::new());
         let payload = Payload::connection(settings.conn(), settings.address());
         let download = Download::new(payload, settings.piece_len(), true);
@@ -153,7 +155,7 @@ impl InConnection {
         ensures next { result ≡ with_download self.old (parameter_download kit.now.settings) }
         ensures under { ExchangeUnder kit.now.settings result }
     {
-        let settings = kit.settings();
+        let settings = &kit.settings;
         let session = mem::replace(&mut self.exchange.session, Session::new());
         let parameters = Payload::parameter(
             settings.watchdog(),
@@ -175,8 +177,8 @@ impl InParameter {
     {
         InData {
             session: mem::replace(&mut self.exchange.session, Session::new()),
-            terms: kit.settings().terms(),
-            outputs: Outputs::new(kit.settings().peer_len()),
+            terms: kit.settings.terms(),
+            outputs: Outputs::new(kit.settings.peer_len()),
         }
     }
 }
@@ -193,7 +195,7 @@ impl InData {
     ) -> Result<(), Code>
         requires under { DataUnder kit.now.settings self.old }
         requires passed { HasPassed (receives (OfMaster kit.now.settings)) self.old.session.chain seen.now link }
-        ensures next { in_place result self.new ≡ data_next self.old seen.now }
+        ensures next { result_and result (Ok (phase.Data self.new)) ≡ data_next self.old seen.now }
         ensures kept { OnErr result (self.new ≡ self.old) }
         ensures under { DataUnder kit.now.settings self.new }
     {
@@ -212,7 +214,7 @@ impl InData {
         ensures sent { out.new ≡ data_frame kit.now self.old }
         ensures under { DataUnder kit.now.settings self.new }
     {
-        let offer = kit.offer();
+        let offer = &kit.offer;
         self.session
             .seal(offer.command(), self.terms.conn, offer.load(), out);
     }

@@ -1,5 +1,5 @@
 -- A data frame that passed the tests: what the machine does is what looking back gives.
-use Rattle.slave_core.proofs.Common.{AreBytes, Chain, Command, Deed, IsRun, OfSlave, Outcome, SlaveSettings, SlaveView, State, answered, ap₃, as_now, begun, bytes_of, chain_after, code, command_byte, deed_of, held, is_process, is_reset, is_there, judged_contents, keeps, kit_of, length-replicate, no_session, notes_of, number_at, offer, on_verdict, phase_of, session_of, settles, since, slave_conn, slave_limit, state_of, takes_frame, taking, there, view_in, view_of, whole, with_data}
+use Rattle.slave_core.proofs.Common.{AreBytes, Chain, Command, Deed, IsRun, OfSlave, Outcome, SlaveSettings, SlaveView, State, answered, ap₃, begun, bytes_of, chain_after, code, command_byte, deed_of, held, is_process, is_reset, is_there, judged_contents, keeps, kit_of, length-replicate, no_session, notes_of, number_at, offer, on_verdict, phase_of, session_of, settles, since, slave_conn, slave_limit, state_of, takes_frame, taking, there, view_in, view_of, whole, with_data}
 use Rattle.std.proofs.Common.{◌≡◌, ◌==◌, ℕ, ◌<◌, List, ◌∷◌, length, replicate, Bool, true, false, Some, None, Ok, Err, if◌then◌else◌, refl, sym, ap, subst, ◌∙◌, arith, rules}
 use Rattle.fsoe_base.specs.declared.command.Command.TheVariants as command
 use Rattle.fsoe_base.specs.declared.command.State.TheVariants as state
@@ -83,11 +83,11 @@ abbrev pub data_settles : Bool → State → SlaveSettings → List Deed → Lis
 data_settles b p ss e bytes c =
     settles (view_in p ss e) (seen ss bytes c)
     (data_answer ss e bytes c (data_command (kit_of ss e).offer) (data_load (kit_of ss e).offer))
-    (as_now now.Data (if b then Ok (record {
+    (if b then Ok (now.Data (record {
       session = answered (session_of (notes_of ss e)) (seen ss bytes c) (conn_of ss e) (data_command (kit_of ss e).offer) (data_load (kit_of ss e).offer);
       terms = (notes_of ss e).terms;
       outputs = outputs_of c (came ss bytes).load;
-    }) else Err (no_session, code 0x07)))
+    })) else Err (no_session, code 0x07))
 
 -- a data frame is taken
 taken-agrees : (p : State) (ss : SlaveSettings) (e : List Deed) (bytes : List ℕ) (c : Command) → IsDataFrame ss bytes c → Ready ss e bytes

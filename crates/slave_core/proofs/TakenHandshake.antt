@@ -1,5 +1,5 @@
 -- A frame of a handshake that passed the tests: what the machine does is what looking back gives.
-use Rattle.slave_core.proofs.Common.{Chain, Code, Deed, InConnection, InParameter, InSession, IsRun, Notes, OfSlave, Outcome, SlaveSettings, State, UploadView, advanced, ap₃, as_now, begun, chain_after, conn_id, connection_reply, connection_taking, contents, deed_of, filled, has_command, id_len, id_piece, is_there, judged_contents, keeps, kit_of, nonce, notes_of, number_at, on_verdict, option_or, or_reset, outcome_by, padded, parameter_reply, parameter_taking, parameters, piece_from, piece_len, piece_own, rule_len, session_of, session_payload, session_reply, session_taking, settles, since, slave-run, slave_conn, slave_limit, state_of, takes_frame, there, upload_of, view_in, whole, whole_parameters}
+use Rattle.slave_core.proofs.Common.{Chain, Code, Deed, InConnection, InParameter, InSession, IsRun, Notes, OfSlave, Outcome, SlaveSettings, State, UploadView, advanced, ap₃, begun, chain_after, conn_id, connection_taking, contents, deed_of, filled, has_command, id_len, id_piece, is_there, judged_contents, keeps, kit_of, nonce, notes_of, number_at, on_verdict, option_or, or_reset, outcome_by, padded, parameter_taking, parameters, piece_from, piece_len, piece_own, rule_len, session_of, session_payload, reply_in, session_taking, settles, since, slave-run, slave_conn, slave_limit, state_of, takes_frame, there, upload_of, view_in, whole, whole_parameters}
 use Rattle.std.proofs.Common.{Bool, List, None, Option, Some, [], ap, ap₂, arith, drop, if◌then◌else◌, length, nat_le, refl, rules, sym, take, true, unwrap_or, ℕ, ◌*◌, ◌++◌, ◌+◌, ◌-◌, ◌<◌, ◌∙◌, ◌∷◌, ◌≡◌, ◌≤◌}
 use Rattle.fsoe_base.specs.declared.command.Command.TheVariants as command
 use Rattle.fsoe_base.specs.declared.command.State.TheVariants as state
@@ -47,8 +47,8 @@ session_at ss n i = record { session = session_of n; id = i; upload = session_up
 abbrev pub session_settles : Option Code → State → SlaveSettings → List Deed → List ℕ → Notes → ℕ → Outcome
 session_settles w p ss e bytes n i =
     settles (view_in p ss e) (seen ss bytes command.Session)
-    (session_reply (kit_of ss e) (session_at ss n i) (seen ss bytes command.Session))
-    (as_now now.Session (or_reset (outcome_by w (advanced (session_upload_at ss n.session) (came ss bytes).load)) (session_taking (kit_of ss e) (session_at ss n i) (seen ss bytes command.Session))))
+    (reply_in (kit_of ss e) (now.Session (session_at ss n i)) (seen ss bytes command.Session))
+    (or_reset (outcome_by w (advanced (session_upload_at ss n.session) (came ss bytes).load)) (now.Session (session_taking (kit_of ss e) (session_at ss n i) (seen ss bytes command.Session))))
 
 pub session-agrees : (w : Option Code) (p : State) (ss : SlaveSettings) (e : List Deed) (bytes : List ℕ) (i : ℕ) → state_of (OfSlave ss) e ≡ p → Sound ss e
     → Opening ss (count_of e) (notes_of ss e) (nonce (OfSlave ss) e) i → Arrived ss bytes command.Session
@@ -91,8 +91,8 @@ connection_at ss e conn joined = record { session = session_of (notes_of ss e); 
 abbrev pub connection_settles : Option Code → State → SlaveSettings → List Deed → List ℕ → ℕ → List ℕ → Outcome
 connection_settles w p ss e bytes conn joined =
     settles (view_in p ss e) (seen ss bytes command.Connection)
-    (connection_reply (kit_of ss e) (connection_at ss e conn joined) (seen ss bytes command.Connection))
-    (as_now now.Connection (or_reset (outcome_by w (advanced (connection_upload_at ss conn joined) (came ss bytes).load)) (connection_taking (kit_of ss e) (connection_at ss e conn joined) (seen ss bytes command.Connection))))
+    (reply_in (kit_of ss e) (now.Connection (connection_at ss e conn joined)) (seen ss bytes command.Connection))
+    (or_reset (outcome_by w (advanced (connection_upload_at ss conn joined) (came ss bytes).load)) (now.Connection (connection_taking (kit_of ss e) (connection_at ss e conn joined) (seen ss bytes command.Connection))))
 
 -- what is noted before a Connection frame with this connection id
 pub record Joining (ss : SlaveSettings) (e : List Deed) (conn : ℕ) : Type 0 where
@@ -139,14 +139,14 @@ parameter_upload_at ss joined = upload_of ss (expected.Parameter ss.most (rule_l
 
 -- the state of whose upload these bytes were joined
 abbrev pub parameter_at : SlaveSettings → List Deed → List ℕ → InParameter
-parameter_at ss e joined = record { session = session_of (notes_of ss e); conn = unwrap_or (notes_of ss e).conn 0; address = ss.address; upload = parameter_upload_at ss joined }
+parameter_at ss e joined = record { session = session_of (notes_of ss e); conn = unwrap_or (notes_of ss e).conn 0; upload = parameter_upload_at ss joined }
 
 -- the machine at a Parameter frame whose contents fail, or not
 abbrev pub parameter_settles : Option Code → State → SlaveSettings → List Deed → List ℕ → List ℕ → Outcome
 parameter_settles w p ss e bytes joined =
     settles (view_in p ss e) (seen ss bytes command.Parameter)
-    (parameter_reply (kit_of ss e) (parameter_at ss e joined) (seen ss bytes command.Parameter))
-    (as_now now.Parameter (or_reset (outcome_by w (advanced (parameter_upload_at ss joined) (came ss bytes).load)) (parameter_taking (kit_of ss e) (parameter_at ss e joined) (seen ss bytes command.Parameter))))
+    (reply_in (kit_of ss e) (now.Parameter (parameter_at ss e joined)) (seen ss bytes command.Parameter))
+    (or_reset (outcome_by w (advanced (parameter_upload_at ss joined) (came ss bytes).load)) (now.Parameter (parameter_taking (kit_of ss e) (parameter_at ss e joined) (seen ss bytes command.Parameter))))
 
 pub parameter-agrees : (w : Option Code) (p : State) (ss : SlaveSettings) (e : List Deed) (bytes : List ℕ) → state_of (OfSlave ss) e ≡ p → Sound ss e → OfParameters ss (notes_of ss e) → Arrived ss bytes command.Parameter
     → IsRun (OfSlave ss) (deed_of (OfSlave ss) e (move.Deliver bytes) (on_verdict p (OfSlave ss) (judged_contents command.Parameter (came ss bytes).load w)) ∷ e)
@@ -167,7 +167,7 @@ parameter-agrees None p ss e bytes at s j a run =
     let young : 0 < slave_limit ss u = some-limit ss after run in
     record {
       view = λ r. same_slave _ _ _ _ _ _ _ _ refl
-          (ap₃ (λ (k : Chain) (i : ℕ) (l : List ℕ). now.Parameter (record { session = record { chain = k; last = l }; conn = i; address = ss.address; upload = parameter_upload_at ss u }))
+          (ap₃ (λ (k : Chain) (i : ℕ) (l : List ℕ). now.Parameter (record { session = record { chain = k; last = l }; conn = i; upload = parameter_upload_at ss u }))
           (chain_after (OfSlave ss) (since e) bytes command.Parameter (conn_id (OfSlave ss) before) command.Parameter (padded (take c load) ss.lengths.slave) refl full
           ∙ ap₂ (λ (k : ℕ) (piece : List ℕ). chain_answered (notes_of ss e).chain (seen ss bytes command.Parameter) k command.Parameter (padded piece ss.lengths.slave)) conn_is (sym echo_is))
           conn_is

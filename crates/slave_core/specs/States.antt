@@ -1,9 +1,8 @@
 -- How the states of a slave go on by a frame that passed the tests, and how they hang together with its settings.
-use Rattle.std.specs.Prelude.{◌≡◌, ℕ, ◌<◌, IsTrue, List, length, replicate, Result, Ok, Err, if◌then◌else◌}
+use Rattle.std.specs.Prelude.{◌≡◌, ℕ, ◌<◌, IsTrue, List, length, replicate, Result, Ok, Err}
 use Rattle.fsoe_base.specs.declared.command.Code.{Code}
 use Rattle.fsoe_base.specs.declared.command.Command.{Command}
 use Rattle.fsoe_base.specs.declared.command.Command.TheVariants as command
-use Rattle.fsoe_base.specs.Codes.{wrong_data}
 use Rattle.seq_chain.specs.declared.session.Session.{Session}
 use Rattle.seq_chain.specs.Session.{frame_sent, first_session, session_taken, session_sent}
 use Rattle.seq_chain.specs.SessionFrame.{SessionFrameView}
@@ -13,9 +12,8 @@ use Rattle.param_load.specs.AppRule.{rule_len}
 use Rattle.param_load.specs.Contents.{app_part}
 use Rattle.param_load.specs.Payload.{session_payload, number_at, piece_from, padded}
 use Rattle.param_load.specs.Profile.{allows_id}
-use Rattle.param_load.specs.Upload.{session_upload, connection_upload, parameter_upload, advanced, outcome, last_piece}
+use Rattle.param_load.specs.Upload.{session_upload, connection_upload, parameter_upload, advanced, last_piece}
 use Rattle.param_load.specs.UploadView.{UploadView}
-use Rattle.fsoe_base.specs.Data.{data_holds}
 use Rattle.failsafe_io.specs.Offer.{data_command, data_load}
 use Rattle.failsafe_io.specs.Outputs.{outputs_of}
 use Rattle.end_model.specs.Setup.{OfSlave, sends, receives, piece_len}
@@ -52,14 +50,6 @@ session_load kit s = padded (piece_from (session_payload s.id kit.settings.profi
 abbrev pub session_taking : KitView → InSession → SessionFrameView → InSession
 session_taking kit s f = record s { session = answered s.session f 0 command.Session (session_load kit s); upload = advanced s.upload f.frame.load }
 
--- what a Session frame leads to
-abbrev pub session_next : KitView → InSession → SessionFrameView → Result InSession (InReset × Code)
-session_next kit s f = or_reset (outcome s.upload kit.settings.rule f.frame.load) (session_taking kit s f)
-
--- the answer to a Session frame: its connection id is 0
-abbrev pub session_reply : KitView → InSession → SessionFrameView → List ℕ
-session_reply kit s f = answer s.session f 0 command.Session (session_load kit s)
-
 -- the load of the answer to a Connection or a Parameter frame: its own piece, and zeros
 abbrev pub echo : KitView → UploadView → SessionFrameView → List ℕ
 echo kit upload f = padded (last_piece (advanced upload f.frame.load)) (sends (OfSlave kit.settings))
@@ -68,36 +58,14 @@ echo kit upload f = padded (last_piece (advanced upload f.frame.load)) (sends (O
 abbrev pub connection_taking : KitView → InConnection → SessionFrameView → InConnection
 connection_taking kit s f = record s { session = answered s.session f s.conn command.Connection (echo kit s.upload f); upload = advanced s.upload f.frame.load }
 
--- what a Connection frame leads to
-abbrev pub connection_next : KitView → InConnection → SessionFrameView → Result InConnection (InReset × Code)
-connection_next kit s f = or_reset (outcome s.upload kit.settings.rule f.frame.load) (connection_taking kit s f)
-
--- the answer to a Connection frame
-abbrev pub connection_reply : KitView → InConnection → SessionFrameView → List ℕ
-connection_reply kit s f = answer s.session f s.conn command.Connection (echo kit s.upload f)
-
--- the state after a Parameter frame is taken: the connection id and the address stay
+-- the state after a Parameter frame is taken: the connection id stays
 abbrev pub parameter_taking : KitView → InParameter → SessionFrameView → InParameter
 parameter_taking kit s f = record s { session = answered s.session f s.conn command.Parameter (echo kit s.upload f); upload = advanced s.upload f.frame.load }
 
--- what a Parameter frame leads to
-abbrev pub parameter_next : KitView → InParameter → SessionFrameView → Result InParameter (InReset × Code)
-parameter_next kit s f = or_reset (outcome s.upload kit.settings.rule f.frame.load) (parameter_taking kit s f)
-
--- the answer to a Parameter frame
-abbrev pub parameter_reply : KitView → InParameter → SessionFrameView → List ℕ
-parameter_reply kit s f = answer s.session f s.conn command.Parameter (echo kit s.upload f)
-
--- the state after a data frame, with its outputs, or state Reset with code 7 where fail-safe data aren't zeros
-abbrev pub data_next : KitView → InData → SessionFrameView → Result InData (InReset × Code)
-data_next kit s f =
-    if data_holds f.command f.frame.load
-    then Ok (record s { session = answered s.session f s.terms.conn (data_command kit.offer) (data_load kit.offer); outputs = outputs_of f.command f.frame.load })
-    else Err (no_session, wrong_data)
-
--- the answer to a data frame: the offer, or zeros while the slave is held
-abbrev pub data_reply : KitView → InData → SessionFrameView → List ℕ
-data_reply kit s f = answer s.session f s.terms.conn (data_command kit.offer) (data_load kit.offer)
+-- the state after a data frame is taken, with the outputs that it brings. The answer is the offer, or zeros while the
+-- slave is held
+abbrev pub data_taking : KitView → InData → SessionFrameView → InData
+data_taking kit s f = record s { session = answered s.session f s.terms.conn (data_command kit.offer) (data_load kit.offer); outputs = outputs_of f.command f.frame.load }
 
 -- a new session, of whose session id nothing has come. The slave's is its nonce
 abbrev pub starting : KitView → InSession
@@ -112,7 +80,6 @@ abbrev pub loading : KitView → InConnection → InParameter
 loading kit s = record {
   session = s.session;
   conn = s.conn;
-  address = kit.settings.address;
   upload = parameter_upload (piece_len (OfSlave kit.settings)) kit.settings.most kit.settings.rule kit.settings.profile;
 }
 
@@ -122,7 +89,7 @@ running kit s = record {
   session = s.session;
   terms = record {
     conn = s.conn;
-    address = s.address;
+    address = kit.settings.address;
     watchdog = number_at 2 s.upload.joined;
     app = app_part s.upload.expected s.upload.joined;
     profile = kit.settings.profile;

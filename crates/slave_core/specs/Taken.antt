@@ -2,7 +2,9 @@
 -- by looking back.
 use Rattle.std.specs.Prelude.{◌≡◌, ℕ, List, [], ◌∷◌, true, None, Result, Ok, Err, OnOk, OnErr, IfOk, IfErr, if◌then◌else◌}
 use Rattle.fsoe_base.specs.declared.command.Code.{Code}
-use Rattle.fsoe_base.specs.Codes.{command_not_allowed}
+use Rattle.fsoe_base.specs.declared.command.Command.TheVariants as command
+use Rattle.fsoe_base.specs.Codes.{command_not_allowed, wrong_data}
+use Rattle.fsoe_base.specs.Data.{data_holds}
 use Rattle.fsoe_base.specs.Did.{takes}
 use Rattle.fsoe_frame.specs.Parts.{AreBytes}
 use Rattle.seq_chain.specs.declared.opened.Opened.TheVariants as opened_as
@@ -10,7 +12,8 @@ use Rattle.seq_chain.specs.Opened.{opened}
 use Rattle.seq_chain.specs.SessionFrame.{SessionFrameView}
 use Rattle.param_load.specs.declared.entry.Move.TheVariants as move
 use Rattle.param_load.specs.declared.slave_settings.SlaveSettings.{SlaveSettings}
-use Rattle.param_load.specs.Upload.{is_whole}
+use Rattle.param_load.specs.Upload.{is_whole, outcome}
+use Rattle.failsafe_io.specs.Offer.{data_command, data_load}
 use Rattle.end_model.specs.Setup.{OfSlave}
 use Rattle.end_model.specs.Deed.{Deed}
 use Rattle.end_model.specs.Readiness.{state_of}
@@ -22,7 +25,7 @@ use Rattle.slave_core.specs.declared.now.Now.TheVariants as now
 use Rattle.slave_core.specs.declared.states.InReset.{InReset}
 use Rattle.slave_core.specs.Kit.{KitView}
 use Rattle.slave_core.specs.Now.{IsUnder, kept_in, fault}
-use Rattle.slave_core.specs.States.{no_session, or_reset, starting, connecting, loading, running, session_next, session_reply, connection_next, connection_reply, parameter_next, parameter_reply, data_next, data_reply}
+use Rattle.slave_core.specs.States.{no_session, or_reset, answer, echo, session_load, session_taking, connection_taking, parameter_taking, data_taking, starting, connecting, loading, running}
 use Rattle.slave_core.specs.ViewOf.{kit_of, view_of}
 
 -- a typed state, or its refusal, as a state of the slave
@@ -41,18 +44,18 @@ entered kit (now.Data s) f = now.Data s
 -- the state after a frame was taken in this one, or its refusal; in state Reset none is taken
 abbrev pub next_in : KitView → Now → SessionFrameView → Result Now (InReset × Code)
 next_in kit (now.Reset s) f = Err (no_session, command_not_allowed)
-next_in kit (now.Session s) f = as_now now.Session (session_next kit s f)
-next_in kit (now.Connection s) f = as_now now.Connection (connection_next kit s f)
-next_in kit (now.Parameter s) f = as_now now.Parameter (parameter_next kit s f)
-next_in kit (now.Data s) f = as_now now.Data (data_next kit s f)
+next_in kit (now.Session s) f = or_reset (outcome s.upload kit.settings.rule f.frame.load) (now.Session (session_taking kit s f))
+next_in kit (now.Connection s) f = or_reset (outcome s.upload kit.settings.rule f.frame.load) (now.Connection (connection_taking kit s f))
+next_in kit (now.Parameter s) f = or_reset (outcome s.upload kit.settings.rule f.frame.load) (now.Parameter (parameter_taking kit s f))
+next_in kit (now.Data s) f = if data_holds f.command f.frame.load then Ok (now.Data (data_taking kit s f)) else Err (no_session, wrong_data)
 
 -- the answer in this state, which is sent where the frame is taken
 abbrev pub reply_in : KitView → Now → SessionFrameView → List ℕ
 reply_in kit (now.Reset s) f = []
-reply_in kit (now.Session s) f = session_reply kit s f
-reply_in kit (now.Connection s) f = connection_reply kit s f
-reply_in kit (now.Parameter s) f = parameter_reply kit s f
-reply_in kit (now.Data s) f = data_reply kit s f
+reply_in kit (now.Session s) f = answer s.session f 0 command.Session (session_load kit s)
+reply_in kit (now.Connection s) f = answer s.session f s.conn command.Connection (echo kit s.upload f)
+reply_in kit (now.Parameter s) f = answer s.session f s.conn command.Parameter (echo kit s.upload f)
+reply_in kit (now.Data s) f = answer s.session f s.terms.conn (data_command kit.offer) (data_load kit.offer)
 
 -- what a frame leads to, and the answer
 abbrev pub next_state : KitView → Now → SessionFrameView → Result Now (InReset × Code)

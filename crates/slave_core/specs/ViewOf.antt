@@ -73,7 +73,6 @@ now_in state.Connection ss n = now.Connection (record {
 now_in state.Parameter ss n = now.Parameter (record {
   session = session_of n;
   conn = unwrap_or n.conn 0;
-  address = ss.address;
   upload = upload_of ss (expected.Parameter ss.most (rule_len ss.rule) ss.profile) n.parameter;
 })
 now_in state.Data ss n = now.Data (record { session = session_of n; terms = n.terms; outputs = n.outputs })

@@ -9,7 +9,7 @@ use std::marker::Model;
 /// alone.
 #[derive(Drop)]
 pub struct Kit {
-    settings: SlaveSettings,
+    pub(crate) settings: SlaveSettings,
     pub(crate) offer: Offer,
     pub(crate) nonce: u32,
 }
@@ -25,9 +25,6 @@ impl Model for Kit {
 }
 
 impl Kit {
-    ghost use Rattle.std.specs.Prelude.{◌≡◌, IsTrue, length};
-    ghost use Rattle.param_load.specs.Profile.{allows_id};
-    ghost use Rattle.end_model.specs.Setup.{OfSlave, sends};
     ghost use Rattle.slave_core.specs.Kit.{first_kit};
 
     pub(crate) fn new(settings: SlaveSettings) -> Kit
@@ -46,20 +43,5 @@ impl Kit {
         ensures { result.now ≡ self.now.settings }
     {
         &self.settings
-    }
-
-    pub(crate) fn nonce(&self) -> u32
-        ensures value { result ≡ self.now.nonce }
-        ensures allowed { IsTrue (allows_id self.now.settings.profile result) }
-    {
-        self.nonce
-    }
-
-    /// What the slave sends in state Data.
-    pub(crate) fn offer(&self) -> &Offer
-        ensures value { result.now ≡ self.now.offer }
-        ensures len { length result.now.load ≡ sends (OfSlave self.now.settings) }
-    {
-        &self.offer
     }
 }

@@ -17,7 +17,7 @@ pub(crate) enum Now {
 }
 
 impl Now {
-    ghost use Rattle.std.specs.Prelude.{◌≡◌, ◌<◌, IsTrue, Some, IfOk, option_copied};
+    ghost use Rattle.std.specs.Prelude.{◌≡◌, ◌≢◌, ◌<◌, IsTrue, Some, IfOk, option_copied};
     ghost use Rattle.std.specs.Result.{result_err};
     ghost use Rattle.seq_chain.specs.Session.{tested};
     ghost use Rattle.seq_chain.specs.Opened.{is_repeat};
@@ -217,8 +217,8 @@ impl Now {
         state.answer(seen, kit, out)
     }
 
-    /// Takes a frame that passed the tests in this state: a phase goes on in place until its payload is complete, and
-    /// then the next one begins. After a refusal the state must only be left.
+    /// Takes a frame that passed the tests in this state of a handshake: a phase goes on in place until its payload is
+    /// complete, and then the next one begins. After a refusal the state must only be left.
     #[tactic(auto, using(crate::proofs::Transitions::advances_by))]
     #[inline(never)]
     pub(crate) fn advance(
@@ -227,6 +227,7 @@ impl Now {
         kit: &Kit,
         out: &mut FrameBuf,
     ) -> Result<(), Code>
+        requires handshake { state_of self.old ≢ state.Data }
         requires allowed { IsTrue (allows self.old seen.now.frame.command) }
         requires passed { PassedIn kit.now.settings self.old seen.now.frame seen.now.link }
         ensures { Advances kit.now (entered kit.now self.old seen.now.frame) seen.now.frame result self.new out.old out.new }
@@ -254,7 +255,7 @@ impl Now {
                     state.answer(seen, kit, out)
                 }
             }
-            Now::Data(state) => state.answer(seen, kit, out),
+            Now::Data(_) => unreachable!(),
         }
     }
 }

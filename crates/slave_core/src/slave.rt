@@ -9,7 +9,7 @@ use failsafe_io::{Watchdog, zeros};
 use fsoe_base::{Cause, Code, Command, Did, Dropped, FrameBuf, Image, MOST_DATA, State, Took};
 use fsoe_frame::FrameView;
 use param_load::{SlaveSettings, Terms};
-use seq_chain::{Opened, SessionFrame, open, reset_frame};
+use seq_chain::{Opened, SessionFrame, UnreadFrame, open, reset_frame};
 use std::marker::Model;
 
 /// The slave of a connection. It has no clock and no communication interface: the caller passes in frames and ticks,
@@ -35,7 +35,7 @@ impl Slave {
     ghost use Rattle.std.specs.Prelude.{IsTrue, [], length, None, OnOk, IfErr, option_copied};
     ghost use Rattle.seq_chain.specs.Session.{HasPassed};
     ghost use Rattle.param_load.specs.Profile.{allows_id};
-    ghost use Rattle.slave_core.specs.Now.{allows, chain_of};
+    ghost use Rattle.slave_core.specs.Now.{allows, chain_of, fault};
     ghost use Rattle.failsafe_io.specs.Timer.{started};
     ghost use Rattle.slave_core.specs.declared.now.Now.TheVariants as now;
     ghost use Rattle.slave_core.specs.States.{no_session};
@@ -63,9 +63,7 @@ impl Slave {
     #[cold]
     #[inline(never)]
     fn fall(&mut self, passed: bool, why: Cause, code: Code, did: &mut Did, out: &mut FrameBuf)
-        ensures slave { self.new ≡ (falls self.old passed why code).slave }
-        ensures did { did.new ≡ (falls self.old passed why code).did }
-        ensures sent { out.new ≡ (falls self.old passed why code).sent }
+        ensures { outcome_of self.new did.new out.new ≡ falls self.old passed why code }
     {
         Slave::forget(&mut self.state, &mut self.watchdog, &self.kit);
         reset_frame(code, self.kit.settings().own_len(), out);
@@ -160,17 +158,25 @@ impl Slave {
         let repeats = self.state.is_repeat(frame);
         // The frame is read where it was opened, and its data where they are told, so that neither is moved.
         let opened = open(frame, self.kit.settings().peer_len(), repeats);
-        let unread = match &opened {
+        match &opened {
             Opened::Drop(why) => {
                 out.clear();
                 did.clear();
                 did.dropped = Some(*why);
-                return;
             }
-            Opened::Refuse(code) => return self.refuse(false, *code, did, out),
-            Opened::ResetFrame(code, view) => return self.acknowledge(*code, view, did, out),
-            Opened::OfSession(unread) => unread,
-        };
+            Opened::Refuse(code) => self.refuse(false, *code, did, out),
+            Opened::ResetFrame(code, view) => self.acknowledge(*code, view, did, out),
+            Opened::OfSession(unread) => self.receive_session(unread, did, out),
+        }
+    }
+
+    /// Tests a frame of a session, and takes it unless a test fails or its contents are wrong.
+    #[inline(always)]
+    fn receive_session(&mut self, unread: &UnreadFrame<'_>, did: &mut Did, out: &mut FrameBuf)
+        requires { length unread.now.frame.load ≡ receives (OfSlave self.old.kit.settings) }
+        ensures outcome { outcome_of self.new did.new out.new ≡ on_session self.old unread.now (fault self.old.state unread.now) }
+        ensures kit { self.new.kit ≡ self.old.kit }
+    {
         unread.took_into(did);
         let Some(took) = &did.took else {
             unreachable!();
@@ -215,9 +221,7 @@ impl Slave {
 
     /// Counts a tick; in state Reset nothing is counted.
     fn count(&mut self, did: &mut Did, out: &mut FrameBuf)
-        ensures slave { self.new ≡ (tick_of self.old).slave }
-        ensures did { did.new ≡ (tick_of self.old).did }
-        ensures sent { out.new ≡ (tick_of self.old).sent }
+        ensures outcome { outcome_of self.new did.new out.new ≡ tick_of self.old }
         ensures kit { self.new.kit ≡ self.old.kit }
     {
         out.clear();
@@ -350,7 +354,7 @@ impl Slave {
         ensures shown { Shows self.now result.now model.offer }
         ensures len { length result.now ≡ sends (OfSlave self.now.kit.settings) }
     {
-        self.kit.offer().bytes()
+        self.kit.offer.bytes()
     }
 
     /// Whether zeros are sent in place of the offer.
@@ -358,6 +362,6 @@ impl Slave {
     pub fn held(&self) -> bool
         ensures { Shows self.now result (λ s e. model.held e) }
     {
-        self.kit.offer().held()
+        self.kit.offer.held()
     }
 }

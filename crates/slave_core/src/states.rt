@@ -45,7 +45,6 @@ pub struct InConnection {
 pub struct InParameter {
     pub(crate) session: Session,
     pub(crate) conn: u16,
-    address: u16,
     pub(crate) upload: Pieces,
 }
 
@@ -84,10 +83,10 @@ impl InReset {
         ensures next { result ≡ starting kit.now }
         ensures under { SessionUnder kit.now.settings result }
     {
-        let settings = kit.settings();
+        let settings = &kit.settings;
         InSession {
             session: Session::new(),
-            id: kit.nonce(),
+            id: kit.nonce,
             upload: Pieces::session(settings.piece_len(), settings.profile()),
         }
     }
@@ -226,7 +225,6 @@ impl InConnection {
         InParameter {
             session: mem::replace(&mut self.session, Session::new()),
             conn: self.conn,
-            address: settings.address(),
             upload: Pieces::parameter(
                 settings.piece_len(),
                 settings.most(),
@@ -312,7 +310,7 @@ impl InParameter {
             session: mem::replace(&mut self.session, Session::new()),
             terms: Terms {
                 conn: self.conn,
-                address: self.address,
+                address: kit.settings().address(),
                 watchdog: self.upload.watchdog(),
                 app,
                 profile: kit.settings().profile(),
@@ -382,7 +380,7 @@ impl InData {
         if !data_holds(frame.command(), frame.load()) {
             return Err(Code::WRONG_DATA);
         }
-        let offer = kit.offer();
+        let offer = &kit.offer;
         self.session.take(frame, seen.link);
         self.session
             .seal(offer.command(), self.terms.conn, offer.load(), out);
