@@ -3,5 +3,4 @@ pub mod Lent
 pub mod Numbers
 pub mod Place
 pub mod Settings
-pub mod Sizes
 pub mod Told

@@ -1,14 +1,16 @@
 -- What C code sets an end to, and the number by which settings are refused.
 use Rattle.std.specs.Prelude.{◌≡◌, ℕ, ◌==◌, ◌&&◌, if◌then◌else◌, nat_le, List, []}
 use Rattle.fsoe_base.specs.Lengths.{is_length}
+use Rattle.fsoe_base.specs.declared.lengths.Lengths.{Lengths}
 use Rattle.param_load.specs.AppRule.{is_acceptable}
+use Rattle.param_load.specs.MasterSettings.{IsMasterSetTo}
+use Rattle.param_load.specs.SlaveSettings.{IsSlaveSetTo}
 use Rattle.param_load.specs.declared.app_rule.AppRule.{AppRule}
-use Rattle.param_load.specs.declared.bad_setting.BadSetting.{BadSetting}
-use Rattle.param_load.specs.declared.bad_setting.BadSetting.TheVariants as bad
 use Rattle.param_load.specs.declared.master_settings.MasterSettings.{MasterSettings}
 use Rattle.param_load.specs.declared.profile.Profile.{Profile}
 use Rattle.param_load.specs.declared.profile.Profile.TheVariants as profile
 use Rattle.param_load.specs.declared.slave_settings.SlaveSettings.{SlaveSettings}
+use Rattle.end_model.specs.Deed.{Deed}
 use Rattle.master_core.specs.MasterView.{MasterView}
 use Rattle.master_core.specs.Standing.{MasterIsAfter}
 use Rattle.slave_core.specs.SlaveView.{SlaveView}
@@ -16,17 +18,13 @@ use Rattle.slave_core.specs.Standing.{SlaveIsAfter}
 use Rattle.fsoe_c.specs.declared.settings.GpMasterSettings.{GpMasterSettings}
 use Rattle.fsoe_c.specs.declared.settings.GpSlaveSettings.{GpSlaveSettings}
 
--- the number of each refusal of settings
-abbrev pub bad_number : BadSetting → ℕ
-bad_number bad.Conn = 6
-bad_number bad.Watchdog = 7
-bad_number bad.Hand = 8
-bad_number bad.Most = 9
-bad_number bad.Rule = 10
-
 -- the profile of this number, with this word in profile Two
 abbrev pub profile_of : ℕ → ℕ → Profile
 profile_of number word = if number == 1 then profile.One else profile.Two word
+
+-- lengths of a master's and a slave's frames
+abbrev pub HasLengths : (master slave : ℕ) → Lengths → Type 0
+HasLengths master slave lengths = (lengths.master ≡ master) × (lengths.slave ≡ slave)
 
 -- lengths, a profile or a session id are refused by this number, or not, by 0: the first fault counts
 abbrev pub common_refusal : (master_len slave_len profile nonce : ℕ) → ℕ
@@ -58,35 +56,27 @@ abbrev pub master_refusal : GpMasterSettings → ℕ
 master_refusal set = first_refusal (common_refusal set.master_len set.slave_len set.profile set.nonce) (connection_refusal set.conn set.watchdog)
 
 -- settings of a slave with what C code gave
-pub record IsSlaveSetBy (set : GpSlaveSettings) (rule : AppRule) (s : SlaveSettings) : Type 0 where
-  pub master_len : s.lengths.master ≡ set.master_len
-  pub slave_len : s.lengths.slave ≡ set.slave_len
-  pub address : s.address ≡ set.address
-  pub hand : s.hand ≡ set.hand
-  pub most : s.most ≡ set.most
-  pub rule_is : s.rule ≡ rule
-  pub nonce : s.nonce ≡ set.nonce
-  pub profile_is : s.profile ≡ profile_of set.profile set.word
+abbrev pub IsSlaveSetBy : GpSlaveSettings → AppRule → SlaveSettings → Type 0
+IsSlaveSetBy set rule s =
+    HasLengths set.master_len set.slave_len s.lengths
+    × IsSlaveSetTo s s.lengths set.address set.hand set.most rule set.nonce (profile_of set.profile set.word)
 
 -- settings of a master with what C code gave
-pub record IsMasterSetBy (set : GpMasterSettings) (app : List ℕ) (s : MasterSettings) : Type 0 where
-  pub master_len : s.lengths.master ≡ set.master_len
-  pub slave_len : s.lengths.slave ≡ set.slave_len
-  pub conn : s.conn ≡ set.conn
-  pub address : s.address ≡ set.address
-  pub watchdog : s.watchdog ≡ set.watchdog
-  pub app_is : s.app ≡ app
-  pub nonce : s.nonce ≡ set.nonce
-  pub profile_is : s.profile ≡ profile_of set.profile set.word
+abbrev pub IsMasterSetBy : GpMasterSettings → List ℕ → MasterSettings → Type 0
+IsMasterSetBy set app s =
+    HasLengths set.master_len set.slave_len s.lengths
+    × IsMasterSetTo s s.lengths set.conn set.address set.watchdog app set.nonce (profile_of set.profile set.word)
+
+-- a new end with settings of which this holds
+pub record IsNew {S V : Type 0} (are_set : S → Type 0) (is_after : S → V → List Deed → Type 0) (new : V) : Type 0 where
+  pub settings : S
+  pub set_so : are_set settings
+  pub after_none : is_after settings new []
 
 -- a new slave that is set so
-pub record IsNewSlave (set : GpSlaveSettings) (rule : AppRule) (slave : SlaveView) : Type 0 where
-  pub settings : SlaveSettings
-  pub set_by : IsSlaveSetBy set rule settings
-  pub is_after : SlaveIsAfter settings slave []
+abbrev pub IsNewSlave : GpSlaveSettings → AppRule → SlaveView → Type 0
+IsNewSlave set rule = IsNew (IsSlaveSetBy set rule) SlaveIsAfter
 
 -- a new master that is set so
-pub record IsNewMaster (set : GpMasterSettings) (app : List ℕ) (master : MasterView) : Type 0 where
-  pub settings : MasterSettings
-  pub set_by : IsMasterSetBy set app settings
-  pub is_after : MasterIsAfter settings master []
+abbrev pub IsNewMaster : GpMasterSettings → List ℕ → MasterView → Type 0
+IsNewMaster set app = IsNew (IsMasterSetBy set app) MasterIsAfter

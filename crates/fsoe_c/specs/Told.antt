@@ -8,7 +8,7 @@ use Rattle.param_load.specs.declared.slave_settings.SlaveSettings.{SlaveSettings
 use Rattle.param_load.specs.declared.terms.Terms.{Terms}
 use Rattle.end_model.specs.Deed.{Deed}
 use Rattle.end_model.specs.Readiness.{told_terms}
-use Rattle.end_model.specs.Setup.{OfMaster, OfSlave}
+use Rattle.end_model.specs.Setup.{Setup, OfMaster, OfSlave}
 use Rattle.end_model.specs.Step.{step}
 use Rattle.slave_core.specs.SlaveView.{SlaveView}
 use Rattle.slave_core.specs.Standing.{SlaveIsAfter}
@@ -50,21 +50,19 @@ pub record ShowsTerms (g : GpTerms) (t : Terms) : Type 0 where
   pub profile : g.profile ≡ profile_number t.profile
   pub word : g.word ≡ word_number t.profile
 
--- the fields and the frame are those of the next deed of a slave; what lay behind the data and the frame stays
-pub record SlaveTells (old : SlaveView) (event : Move) (was g : GpDid) (had f : GpFrame) : Type 0 where
-  pub did : (settings : SlaveSettings) (deeds : List Deed) → SlaveIsAfter settings old deeds → ShowsDid g (step (OfSlave settings) deeds event).did
-  pub sent : (settings : SlaveSettings) (deeds : List Deed) → SlaveIsAfter settings old deeds → frame_of f ≡ (step (OfSlave settings) deeds event).sent
+-- the fields and the frame are those of the next deed of an end; what lay behind the data and the frame stays
+pub record Tells {S V : Type 0} (is_after : S → V → List Deed → Type 0) (setup : S → Setup) (old : V) (event : Move) (was g : GpDid) (had f : GpFrame) : Type 0 where
+  pub did : (settings : S) (deeds : List Deed) → is_after settings old deeds → ShowsDid g (step (setup settings) deeds event).did
+  pub sent : (settings : S) (deeds : List Deed) → is_after settings old deeds → frame_of f ≡ (step (setup settings) deeds event).sent
   pub len : f.len ≤ 255
   pub past_load : drop g.load_len g.load ≡ drop g.load_len was.load
   pub past_out : drop f.len f.bytes ≡ drop f.len had.bytes
 
--- the same of a master
-pub record MasterTells (old : MasterView) (event : Move) (was g : GpDid) (had f : GpFrame) : Type 0 where
-  pub did : (settings : MasterSettings) (deeds : List Deed) → MasterIsAfter settings old deeds → ShowsDid g (step (OfMaster settings) deeds event).did
-  pub sent : (settings : MasterSettings) (deeds : List Deed) → MasterIsAfter settings old deeds → frame_of f ≡ (step (OfMaster settings) deeds event).sent
-  pub len : f.len ≤ 255
-  pub past_load : drop g.load_len g.load ≡ drop g.load_len was.load
-  pub past_out : drop f.len f.bytes ≡ drop f.len had.bytes
+abbrev pub SlaveTells : SlaveView → Move → (was g : GpDid) (had f : GpFrame) → Type 0
+SlaveTells = Tells SlaveIsAfter OfSlave
+
+abbrev pub MasterTells : MasterView → Move → (was g : GpDid) (had f : GpFrame) → Type 0
+MasterTells = Tells MasterIsAfter OfMaster
 
 -- a master accepted these bytes, and the fields say what it did
 pub record AcceptsTelling (old : MasterView) (bytes : List ℕ) (g : GpDid) (new : MasterView) : Type 0 where

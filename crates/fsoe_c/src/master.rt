@@ -10,12 +10,13 @@ ghost use Rattle.fsoe_c.specs.Handle.{IsAtRest, IsSoundMaster, served};
 ghost use Rattle.fsoe_c.specs.Numbers.{flag};
 ghost use Rattle.fsoe_c.specs.Place.{Between, IfThere, answered};
 ghost use Rattle.fsoe_c.specs.Settings.{IsNewMaster, master_refusal};
-ghost use Rattle.fsoe_c.specs.Sizes.{end_align, master_size};
 ghost use Rattle.fsoe_c.specs.Told.{AcceptsTelling, MasterTells, frame_of, leads_on};
 
 use crate::master_place::MasterPlace;
 use crate::master_room::MasterRoom;
-use crate::numbers::{BAD_APP, BAD_LENGTH, BAD_NONCE, BUSY, FRAME_DUE, NO_END, NONE_DUE, OK, flag};
+use crate::numbers::{
+    BAD_APP, BAD_LENGTH, BAD_NONCE, BUSY, FRAME_DUE, NO_END, NONE_DUE, OK, flag, lent,
+};
 use crate::settings::{GpMasterSettings, app_of, master_settings};
 use crate::told::{GpDid, GpFrame};
 use std::mem::{align_of, size_of};
@@ -27,10 +28,10 @@ pub struct GpMaster {
     pub live: bool,
 }
 
-/// The bytes of memory that a master takes.
+/// The bytes of memory that a master takes, `GP_MASTER_SIZE` in the header.
 #[unsafe(no_mangle)]
 pub extern "C" fn gp_master_size() -> usize
-    ensures { result ≡ master_size }
+    ensures { result ≡ 2320 }
 {
     size_of::<MasterRoom>()
 }
@@ -38,7 +39,7 @@ pub extern "C" fn gp_master_size() -> usize
 /// The alignment of that memory.
 #[unsafe(no_mangle)]
 pub extern "C" fn gp_master_align() -> usize
-    ensures { result ≡ end_align }
+    ensures { result ≡ 8 }
 {
     align_of::<MasterRoom>()
 }
@@ -90,7 +91,7 @@ pub extern "C" fn gp_master_end(master: &mut GpMaster) -> u8
 /// Delivers a frame of the slave, of any number of bytes. Writes the result to `did`, and the frame to send to `out`,
 /// empty if none is sent.
 #[unsafe(no_mangle)]
-#[tactic(auto, using(crate::proofs::Places::vacuous, crate::proofs::Places::unserved, crate::proofs::Places::passes, crate::proofs::Places::fails, crate::proofs::Places::master_tells))]
+#[tactic(auto, using(crate::proofs::Places::vacuous, crate::proofs::Places::unserved, crate::proofs::Places::passes, crate::proofs::Places::fails, crate::proofs::Places::tells))]
 pub extern "C" fn gp_master_deliver(
     master: &mut GpMaster,
     frame: &[u8],
@@ -106,10 +107,7 @@ pub extern "C" fn gp_master_deliver(
     ensures tells { result ≡ OK → IfThere master.old.place.master (λ old. MasterTells old (event.Deliver frame.now) did.old did.new out.old out.new) }
     ensures refused { result ≢ OK → (master.new ≡ master.old) × (out.new ≡ out.old) × (did.new ≡ did.old) }
 {
-    if !master.live {
-        return NO_END;
-    }
-    let room = master.place.lend();
+    let room = lent!(master);
     if room.master.due() {
         return FRAME_DUE;
     }
@@ -135,10 +133,7 @@ pub extern "C" fn gp_master_accept(master: &mut GpMaster, frame: &[u8], did: &mu
     ensures past_load { drop did.new.load_len did.new.load ≡ drop did.new.load_len did.old.load }
     ensures refused { result ≢ OK → (master.new ≡ master.old) × (did.new ≡ did.old) }
 {
-    if !master.live {
-        return NO_END;
-    }
-    let room = master.place.lend();
+    let room = lent!(master);
     if room.master.due() {
         return FRAME_DUE;
     }
@@ -157,10 +152,7 @@ pub extern "C" fn gp_master_due(master: &mut GpMaster, due: &mut u8) -> u8
     ensures due { result ≡ OK → IfThere master.old.place.master (λ old. due.new ≡ flag (is_due old.state)) }
     ensures refused { result ≢ OK → due.new ≡ due.old }
 {
-    if !master.live {
-        return NO_END;
-    }
-    let room = master.place.lend();
+    let room = lent!(master);
     *due = flag(room.master.due());
     OK
 }
@@ -179,10 +171,7 @@ pub extern "C" fn gp_master_reply(master: &mut GpMaster, out: &mut GpFrame) -> u
     ensures past_out { drop out.new.len out.new.bytes ≡ drop out.new.len out.old.bytes }
     ensures refused { result ≢ OK → (master.new ≡ master.old) × (out.new ≡ out.old) }
 {
-    if !master.live {
-        return NO_END;
-    }
-    let room = master.place.lend();
+    let room = lent!(master);
     if !room.master.due() {
         return NONE_DUE;
     }
@@ -193,7 +182,7 @@ pub extern "C" fn gp_master_reply(master: &mut GpMaster, out: &mut GpFrame) -> u
 
 /// Counts a tick. Writes the result to `did`, and the frame to send to `out`, empty if none is sent.
 #[unsafe(no_mangle)]
-#[tactic(auto, using(crate::proofs::Places::vacuous, crate::proofs::Places::unserved, crate::proofs::Places::passes, crate::proofs::Places::fails, crate::proofs::Places::master_tells))]
+#[tactic(auto, using(crate::proofs::Places::vacuous, crate::proofs::Places::unserved, crate::proofs::Places::passes, crate::proofs::Places::fails, crate::proofs::Places::tells))]
 pub extern "C" fn gp_master_tick(master: &mut GpMaster, out: &mut GpFrame, did: &mut GpDid) -> u8
     requires { IsSoundMaster master.old }
     ensures sound { IsSoundMaster master.new }
@@ -204,10 +193,7 @@ pub extern "C" fn gp_master_tick(master: &mut GpMaster, out: &mut GpFrame, did: 
     ensures tells { result ≡ OK → IfThere master.old.place.master (λ old. MasterTells old event.Tick did.old did.new out.old out.new) }
     ensures refused { result ≢ OK → (master.new ≡ master.old) × (out.new ≡ out.old) × (did.new ≡ did.old) }
 {
-    if !master.live {
-        return NO_END;
-    }
-    let room = master.place.lend();
+    let room = lent!(master);
     if room.master.due() {
         return FRAME_DUE;
     }
@@ -219,7 +205,7 @@ pub extern "C" fn gp_master_tick(master: &mut GpMaster, out: &mut GpFrame, did: 
 
 /// Ends the session, if there is one. Writes the result to `did`, and the Reset frame to send to `out`.
 #[unsafe(no_mangle)]
-#[tactic(auto, using(crate::proofs::Places::vacuous, crate::proofs::Places::unserved, crate::proofs::Places::passes, crate::proofs::Places::fails, crate::proofs::Places::master_tells))]
+#[tactic(auto, using(crate::proofs::Places::vacuous, crate::proofs::Places::unserved, crate::proofs::Places::passes, crate::proofs::Places::fails, crate::proofs::Places::tells))]
 pub extern "C" fn gp_master_reset(master: &mut GpMaster, out: &mut GpFrame, did: &mut GpDid) -> u8
     requires { IsSoundMaster master.old }
     ensures sound { IsSoundMaster master.new }
@@ -230,10 +216,7 @@ pub extern "C" fn gp_master_reset(master: &mut GpMaster, out: &mut GpFrame, did:
     ensures tells { result ≡ OK → IfThere master.old.place.master (λ old. MasterTells old event.Local did.old did.new out.old out.new) }
     ensures refused { result ≢ OK → (master.new ≡ master.old) × (out.new ≡ out.old) × (did.new ≡ did.old) }
 {
-    if !master.live {
-        return NO_END;
-    }
-    let room = master.place.lend();
+    let room = lent!(master);
     if room.master.due() {
         return FRAME_DUE;
     }
@@ -256,10 +239,7 @@ pub extern "C" fn gp_master_put(master: &mut GpMaster, load: &[u8]) -> u8
     ensures due { Between master.old.place.master master.new.place.master (λ old new. is_due new.state ≡ is_due old.state) }
     ensures refused { result ≢ OK → master.new ≡ master.old }
 {
-    if !master.live {
-        return NO_END;
-    }
-    let room = master.place.lend();
+    let room = lent!(master);
     if load.len() != room.master.settings().own_len() {
         return BAD_LENGTH;
     }
@@ -280,10 +260,7 @@ pub extern "C" fn gp_master_hold(master: &mut GpMaster, failsafe: bool) -> u8
     ensures due { Between master.old.place.master master.new.place.master (λ old new. is_due new.state ≡ is_due old.state) }
     ensures refused { result ≢ OK → master.new ≡ master.old }
 {
-    if !master.live {
-        return NO_END;
-    }
-    let room = master.place.lend();
+    let room = lent!(master);
     room.master.hold(failsafe);
     OK
 }
@@ -302,10 +279,7 @@ pub extern "C" fn gp_master_nonce(master: &mut GpMaster, id: u32) -> u8
     ensures due { Between master.old.place.master master.new.place.master (λ old new. is_due new.state ≡ is_due old.state) }
     ensures refused { result ≢ OK → master.new ≡ master.old }
 {
-    if !master.live {
-        return NO_END;
-    }
-    let room = master.place.lend();
+    let room = lent!(master);
     if !room.master.settings().profile().allows_id(id) {
         return BAD_NONCE;
     }

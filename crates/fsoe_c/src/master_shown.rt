@@ -11,7 +11,7 @@ ghost use Rattle.fsoe_c.specs.Place.{IfThere, answered};
 ghost use Rattle.fsoe_c.specs.Told.{MasterShowsTerms, MasterShowsTermsDue};
 
 use crate::master::GpMaster;
-use crate::numbers::{BAD_LENGTH, NO_END, NOT_IN_DATA, OK, flag, state_number};
+use crate::numbers::{BAD_LENGTH, NO_END, NOT_IN_DATA, OK, flag, lent, state_number};
 use crate::told::{GpTerms, copied, tells};
 
 /// Writes the number of the state, from 0 for Reset to 4 for Data. A frame that is due is treated as already sent.
@@ -25,10 +25,7 @@ pub extern "C" fn gp_master_state(master: &mut GpMaster, state: &mut u8) -> u8
     ensures shown_due { result ≡ OK → IfThere master.old.place.master (λ old. ShowsDue old state.new (λ setup deeds. state_number (model.state_of setup deeds))) }
     ensures refused { result ≢ OK → state.new ≡ state.old }
 {
-    if !master.live {
-        return NO_END;
-    }
-    let room = master.place.lend();
+    let room = lent!(master);
     *state = state_number(room.master.state());
     OK
 }
@@ -44,10 +41,7 @@ pub extern "C" fn gp_master_outputs(master: &mut GpMaster, outputs: &mut [u8]) -
     ensures shown_due { result ≡ OK → IfThere master.old.place.master (λ old. ShowsDue old outputs.new looking_back.out) }
     ensures refused { result ≢ OK → outputs.new ≡ outputs.old }
 {
-    if !master.live {
-        return NO_END;
-    }
-    let room = master.place.lend();
+    let room = lent!(master);
     if !copied(room.master.outputs(), outputs) {
         return BAD_LENGTH;
     }
@@ -65,10 +59,7 @@ pub extern "C" fn gp_master_offer(master: &mut GpMaster, offer: &mut [u8]) -> u8
     ensures shown_due { result ≡ OK → IfThere master.old.place.master (λ old. ShowsDue old offer.new model.offer) }
     ensures refused { result ≢ OK → offer.new ≡ offer.old }
 {
-    if !master.live {
-        return NO_END;
-    }
-    let room = master.place.lend();
+    let room = lent!(master);
     if !copied(room.master.offer(), offer) {
         return BAD_LENGTH;
     }
@@ -90,10 +81,7 @@ pub extern "C" fn gp_master_terms(master: &mut GpMaster, terms: &mut GpTerms) ->
     ensures past { drop terms.new.app_len terms.new.app ≡ drop terms.new.app_len terms.old.app }
     ensures refused { result ≢ OK → terms.new ≡ terms.old }
 {
-    if !master.live {
-        return NO_END;
-    }
-    let room = master.place.lend();
+    let room = lent!(master);
     if !tells(room.master.terms(), terms) {
         return NOT_IN_DATA;
     }
@@ -111,10 +99,7 @@ pub extern "C" fn gp_master_age(master: &mut GpMaster, age: &mut u16) -> u8
     ensures shown_due { result ≡ OK → IfThere master.old.place.master (λ old. ShowsDue old age.new model.age) }
     ensures refused { result ≢ OK → age.new ≡ age.old }
 {
-    if !master.live {
-        return NO_END;
-    }
-    let room = master.place.lend();
+    let room = lent!(master);
     *age = room.master.age();
     OK
 }
@@ -130,10 +115,7 @@ pub extern "C" fn gp_master_held(master: &mut GpMaster, held: &mut u8) -> u8
     ensures shown_due { result ≡ OK → IfThere master.old.place.master (λ old. ShowsDue old held.new (λ setup deeds. flag (model.held deeds))) }
     ensures refused { result ≢ OK → held.new ≡ held.old }
 {
-    if !master.live {
-        return NO_END;
-    }
-    let room = master.place.lend();
+    let room = lent!(master);
     *held = flag(room.master.held());
     OK
 }

@@ -1,7 +1,8 @@
-//! The version, and the statuses that C code gets. `embed/gatepast.h` has the same as `GP_VERSION`, `GP_OK` and so on.
+//! The version, the statuses that C code gets, and how a call comes by its end. `embed/gatepast.h` has the numbers as
+//! `GP_VERSION`, `GP_OK` and so on.
 ghost use Rattle.std.specs.Prelude.{◌≡◌};
+ghost use Rattle.param_load.specs.declared.bad_setting.BadSetting.TheVariants as bad;
 ghost use Rattle.fsoe_c.specs.Numbers.{state_number, flag, version};
-ghost use Rattle.fsoe_c.specs.Settings.{bad_number};
 
 use fsoe_base::State;
 use param_load::BadSetting;
@@ -58,7 +59,11 @@ pub const NOT_IN_DATA: u8 = 13;
 
 /// The number of why settings are refused.
 pub(crate) fn bad_number(why: BadSetting) -> u8
-    ensures { result ≡ bad_number why }
+    ensures conn { why ≡ bad.Conn → result ≡ BAD_CONN }
+    ensures watchdog { why ≡ bad.Watchdog → result ≡ BAD_WATCHDOG }
+    ensures hand { why ≡ bad.Hand → result ≡ BAD_HAND }
+    ensures most { why ≡ bad.Most → result ≡ BAD_MOST }
+    ensures rule { why ≡ bad.Rule → result ≡ BAD_APP }
 {
     match why {
         BadSetting::Conn => BAD_CONN,
@@ -88,3 +93,15 @@ pub(crate) fn flag(yes: bool) -> u8
 {
     u8::from(yes)
 }
+
+/// The end behind this handle, lent for a call, which returns `NO_END` where there is none.
+macro_rules! lent {
+    ($handle:expr) => {{
+        if !$handle.live {
+            return NO_END;
+        }
+        $handle.place.lend()
+    }};
+}
+
+pub(crate) use lent;

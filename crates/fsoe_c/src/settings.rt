@@ -1,7 +1,7 @@
 //! The settings that C code gives to an end.
 ghost use Rattle.std.specs.Prelude.{◌≡◌, ◌≤◌, ◌<◌, ◌==◌, ◌&&◌, Some, None, is_some, length, IfOk, IfErr, IfSome};
 ghost use Rattle.fsoe_base.specs.Lengths.{is_length};
-ghost use Rattle.fsoe_c.specs.Settings.{IsMasterSetBy, IsSlaveSetBy, master_refusal, slave_refusal};
+ghost use Rattle.fsoe_c.specs.Settings.{HasLengths, IsMasterSetBy, IsSlaveSetBy, master_refusal, slave_refusal};
 
 use crate::numbers::{BAD_LENGTH, BAD_NONCE, BAD_PROFILE, bad_number};
 use fsoe_base::Lengths;
@@ -71,7 +71,7 @@ pub(crate) fn app_of(bytes: &[u8]) -> Option<AppBytes>
 /// The lengths, where both are valid.
 fn lengths_of(master_len: u16, slave_len: u16) -> Option<Lengths>
     ensures valid { is_some result ≡ (is_length master_len && is_length slave_len) }
-    ensures lengths { IfSome result (λ lengths. (lengths.master ≡ master_len) × (lengths.slave ≡ slave_len)) }
+    ensures lengths { IfSome result (HasLengths master_len slave_len) }
 {
     Lengths::new(usize::from(master_len), usize::from(slave_len)).ok()
 }

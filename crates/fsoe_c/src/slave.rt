@@ -8,10 +8,9 @@ ghost use Rattle.slave_core.specs.Standing.{Follows};
 ghost use Rattle.fsoe_c.specs.Handle.{IsSoundSlave, served};
 ghost use Rattle.fsoe_c.specs.Place.{Between, IfThere, answered};
 ghost use Rattle.fsoe_c.specs.Settings.{IsNewSlave, slave_refusal};
-ghost use Rattle.fsoe_c.specs.Sizes.{end_align, slave_size};
 ghost use Rattle.fsoe_c.specs.Told.{SlaveTells};
 
-use crate::numbers::{BAD_APP, BAD_LENGTH, BAD_NONCE, BUSY, NO_END, OK};
+use crate::numbers::{BAD_APP, BAD_LENGTH, BAD_NONCE, BUSY, NO_END, OK, lent};
 use crate::settings::{GpSlaveSettings, app_of, slave_settings};
 use crate::slave_place::SlavePlace;
 use crate::slave_room::SlaveRoom;
@@ -26,10 +25,10 @@ pub struct GpSlave {
     pub live: bool,
 }
 
-/// The bytes of memory that a slave takes.
+/// The bytes of memory that a slave takes, `GP_SLAVE_SIZE` in the header.
 #[unsafe(no_mangle)]
 pub extern "C" fn gp_slave_size() -> usize
-    ensures { result ≡ slave_size }
+    ensures { result ≡ 2872 }
 {
     size_of::<SlaveRoom>()
 }
@@ -37,7 +36,7 @@ pub extern "C" fn gp_slave_size() -> usize
 /// The alignment of that memory.
 #[unsafe(no_mangle)]
 pub extern "C" fn gp_slave_align() -> usize
-    ensures { result ≡ end_align }
+    ensures { result ≡ 8 }
 {
     align_of::<SlaveRoom>()
 }
@@ -144,7 +143,7 @@ pub extern "C" fn gp_slave_end(slave: &mut GpSlave) -> u8
 /// Delivers a frame of the master, of any number of bytes. Writes the result to `did`, and the frame to send to `out`,
 /// empty if none is sent.
 #[unsafe(no_mangle)]
-#[tactic(auto, using(crate::proofs::Places::vacuous, crate::proofs::Places::slave_tells))]
+#[tactic(auto, using(crate::proofs::Places::vacuous, crate::proofs::Places::tells))]
 pub extern "C" fn gp_slave_deliver(
     slave: &mut GpSlave,
     frame: &[u8],
@@ -159,10 +158,7 @@ pub extern "C" fn gp_slave_deliver(
     ensures tells { result ≡ OK → IfThere slave.old.place.slave (λ old. SlaveTells old (event.Deliver frame.now) did.old did.new out.old out.new) }
     ensures refused { result ≢ OK → (slave.new ≡ slave.old) × (out.new ≡ out.old) × (did.new ≡ did.old) }
 {
-    if !slave.live {
-        return NO_END;
-    }
-    let room = slave.place.lend();
+    let room = lent!(slave);
     room.slave
         .deliver_into(frame, &mut room.heard, &mut room.sent);
     out.set(&room.sent);
@@ -172,7 +168,7 @@ pub extern "C" fn gp_slave_deliver(
 
 /// Counts a tick. Writes the result to `did`, and the frame to send to `out`, empty if none is sent.
 #[unsafe(no_mangle)]
-#[tactic(auto, using(crate::proofs::Places::vacuous, crate::proofs::Places::slave_tells))]
+#[tactic(auto, using(crate::proofs::Places::vacuous, crate::proofs::Places::tells))]
 pub extern "C" fn gp_slave_tick(slave: &mut GpSlave, out: &mut GpFrame, did: &mut GpDid) -> u8
     requires { IsSoundSlave slave.old }
     ensures sound { IsSoundSlave slave.new }
@@ -182,10 +178,7 @@ pub extern "C" fn gp_slave_tick(slave: &mut GpSlave, out: &mut GpFrame, did: &mu
     ensures tells { result ≡ OK → IfThere slave.old.place.slave (λ old. SlaveTells old event.Tick did.old did.new out.old out.new) }
     ensures refused { result ≢ OK → (slave.new ≡ slave.old) × (out.new ≡ out.old) × (did.new ≡ did.old) }
 {
-    if !slave.live {
-        return NO_END;
-    }
-    let room = slave.place.lend();
+    let room = lent!(slave);
     room.slave.tick_into(&mut room.ticked, &mut room.sent);
     out.set(&room.sent);
     did.set(&room.ticked);
@@ -194,7 +187,7 @@ pub extern "C" fn gp_slave_tick(slave: &mut GpSlave, out: &mut GpFrame, did: &mu
 
 /// Ends the session, if there is one. Writes the result to `did`, and the Reset frame to send to `out`.
 #[unsafe(no_mangle)]
-#[tactic(auto, using(crate::proofs::Places::vacuous, crate::proofs::Places::slave_tells))]
+#[tactic(auto, using(crate::proofs::Places::vacuous, crate::proofs::Places::tells))]
 pub extern "C" fn gp_slave_reset(slave: &mut GpSlave, out: &mut GpFrame, did: &mut GpDid) -> u8
     requires { IsSoundSlave slave.old }
     ensures sound { IsSoundSlave slave.new }
@@ -204,10 +197,7 @@ pub extern "C" fn gp_slave_reset(slave: &mut GpSlave, out: &mut GpFrame, did: &m
     ensures tells { result ≡ OK → IfThere slave.old.place.slave (λ old. SlaveTells old event.Local did.old did.new out.old out.new) }
     ensures refused { result ≢ OK → (slave.new ≡ slave.old) × (out.new ≡ out.old) × (did.new ≡ did.old) }
 {
-    if !slave.live {
-        return NO_END;
-    }
-    let room = slave.place.lend();
+    let room = lent!(slave);
     let done = room.slave.reset(&mut room.sent);
     out.set(&room.sent);
     did.set(&done);
@@ -225,10 +215,7 @@ pub extern "C" fn gp_slave_put(slave: &mut GpSlave, load: &[u8]) -> u8
     ensures follows { result ≡ OK → Between slave.old.place.slave slave.new.place.slave (λ old new. Follows old (event.Put load.now) new) }
     ensures refused { result ≢ OK → slave.new ≡ slave.old }
 {
-    if !slave.live {
-        return NO_END;
-    }
-    let room = slave.place.lend();
+    let room = lent!(slave);
     if load.len() != room.slave.settings().own_len() {
         return BAD_LENGTH;
     }
@@ -247,10 +234,7 @@ pub extern "C" fn gp_slave_hold(slave: &mut GpSlave, failsafe: bool) -> u8
     ensures follows { result ≡ OK → Between slave.old.place.slave slave.new.place.slave (λ old new. Follows old (event.Hold failsafe) new) }
     ensures refused { result ≢ OK → slave.new ≡ slave.old }
 {
-    if !slave.live {
-        return NO_END;
-    }
-    let room = slave.place.lend();
+    let room = lent!(slave);
     room.slave.hold(failsafe);
     OK
 }
@@ -267,10 +251,7 @@ pub extern "C" fn gp_slave_nonce(slave: &mut GpSlave, id: u32) -> u8
     ensures follows { result ≡ OK → Between slave.old.place.slave slave.new.place.slave (λ old new. Follows old (event.Nonce id) new) }
     ensures refused { result ≢ OK → slave.new ≡ slave.old }
 {
-    if !slave.live {
-        return NO_END;
-    }
-    let room = slave.place.lend();
+    let room = lent!(slave);
     if !room.slave.settings().profile().allows_id(id) {
         return BAD_NONCE;
     }

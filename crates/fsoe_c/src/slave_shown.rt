@@ -9,7 +9,7 @@ ghost use Rattle.fsoe_c.specs.Numbers.{flag, state_number};
 ghost use Rattle.fsoe_c.specs.Place.{IfThere, answered};
 ghost use Rattle.fsoe_c.specs.Told.{SlaveShowsTerms};
 
-use crate::numbers::{BAD_LENGTH, NO_END, NOT_IN_DATA, OK, flag, state_number};
+use crate::numbers::{BAD_LENGTH, NO_END, NOT_IN_DATA, OK, flag, lent, state_number};
 use crate::slave::GpSlave;
 use crate::told::{GpTerms, copied, tells};
 
@@ -23,10 +23,7 @@ pub extern "C" fn gp_slave_state(slave: &mut GpSlave, state: &mut u8) -> u8
     ensures shown { result ≡ OK → IfThere slave.old.place.slave (λ old. Shows old state.new (λ setup deeds. state_number (model.state_of setup deeds))) }
     ensures refused { result ≢ OK → state.new ≡ state.old }
 {
-    if !slave.live {
-        return NO_END;
-    }
-    let room = slave.place.lend();
+    let room = lent!(slave);
     *state = state_number(room.slave.state());
     OK
 }
@@ -41,10 +38,7 @@ pub extern "C" fn gp_slave_outputs(slave: &mut GpSlave, outputs: &mut [u8]) -> u
     ensures shown { result ≡ OK → IfThere slave.old.place.slave (λ old. Shows old outputs.new looking_back.out) }
     ensures refused { result ≢ OK → outputs.new ≡ outputs.old }
 {
-    if !slave.live {
-        return NO_END;
-    }
-    let room = slave.place.lend();
+    let room = lent!(slave);
     if !copied(room.slave.outputs(), outputs) {
         return BAD_LENGTH;
     }
@@ -61,10 +55,7 @@ pub extern "C" fn gp_slave_offer(slave: &mut GpSlave, offer: &mut [u8]) -> u8
     ensures shown { result ≡ OK → IfThere slave.old.place.slave (λ old. Shows old offer.new model.offer) }
     ensures refused { result ≢ OK → offer.new ≡ offer.old }
 {
-    if !slave.live {
-        return NO_END;
-    }
-    let room = slave.place.lend();
+    let room = lent!(slave);
     if !copied(room.slave.offer(), offer) {
         return BAD_LENGTH;
     }
@@ -84,10 +75,7 @@ pub extern "C" fn gp_slave_terms(slave: &mut GpSlave, terms: &mut GpTerms) -> u8
     ensures past { drop terms.new.app_len terms.new.app ≡ drop terms.new.app_len terms.old.app }
     ensures refused { result ≢ OK → terms.new ≡ terms.old }
 {
-    if !slave.live {
-        return NO_END;
-    }
-    let room = slave.place.lend();
+    let room = lent!(slave);
     if !tells(room.slave.terms(), terms) {
         return NOT_IN_DATA;
     }
@@ -104,10 +92,7 @@ pub extern "C" fn gp_slave_age(slave: &mut GpSlave, age: &mut u16) -> u8
     ensures shown { result ≡ OK → IfThere slave.old.place.slave (λ old. Shows old age.new model.age) }
     ensures refused { result ≢ OK → age.new ≡ age.old }
 {
-    if !slave.live {
-        return NO_END;
-    }
-    let room = slave.place.lend();
+    let room = lent!(slave);
     *age = room.slave.age();
     OK
 }
@@ -122,10 +107,7 @@ pub extern "C" fn gp_slave_held(slave: &mut GpSlave, held: &mut u8) -> u8
     ensures shown { result ≡ OK → IfThere slave.old.place.slave (λ old. Shows old held.new (λ setup deeds. flag (model.held deeds))) }
     ensures refused { result ≢ OK → held.new ≡ held.old }
 {
-    if !slave.live {
-        return NO_END;
-    }
-    let room = slave.place.lend();
+    let room = lent!(slave);
     *held = flag(room.slave.held());
     OK
 }
