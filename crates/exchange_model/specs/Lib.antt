@@ -13,4 +13,3 @@ pub mod WorkedSchedules
 pub mod Monitor
 pub mod ListMonitor
 pub mod Serving
-pub mod WorkedServing

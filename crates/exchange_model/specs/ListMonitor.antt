@@ -1,6 +1,6 @@
 -- What a monitor with lists keeps: all items of both ends, oldest first.
-use Rattle.std.specs.Prelude.{ℕ, suc, ◌≡◌, List, [], ◌∷◌, ◌++◌, length, Bool, ◌&&◌, not, Option, Some, None, if◌then◌else◌}
-use Rattle.std.specs.Option.{option_or}
+use Rattle.std.specs.Prelude.{ℕ, suc, ◌≡◌, ◌-◌, List, [], ◌∷◌, ◌++◌, length, reverse, Bool, ◌&&◌, not, Option, Some, None, option_map, if◌then◌else◌}
+use Rattle.std.specs.List.{find, slice_get}
 use Rattle.fsoe_base.specs.declared.command.End.{End}
 use Rattle.fsoe_base.specs.declared.command.End.TheVariants as end_name
 use Rattle.fsoe_base.specs.declared.command.Command.TheVariants as command
@@ -40,8 +40,7 @@ pub record ListsEntry (old : ListView) (x : Entry) (new : ListView) : Type 0 whe
 
 -- the newest of these items
 abbrev pub last_sent : List Listed → Option Sent
-last_sent [] = None
-last_sent (i ∷ found) = option_or (last_sent found) (Some i.sent)
+last_sent found = option_map (λ i. i.sent) (slice_get found (length found - 1))
 
 -- whether an item isn't a Reset frame and answers the one with this number
 abbrev pub is_answer_to : ℕ → Listed → Bool
@@ -49,8 +48,7 @@ is_answer_to number i = not (has_command command.Reset i.sent.bytes) && answers_
 
 -- the newest of these items that isn't a Reset frame and answers the one with this number
 abbrev pub last_answer : ℕ → List Listed → Option Sent
-last_answer number [] = None
-last_answer number (i ∷ found) = if is_answer_to number i then option_or (last_answer number found) (Some i.sent) else last_answer number found
+last_answer number found = option_map (λ i. i.sent) (find (is_answer_to number) (reverse found))
 
 -- the newest of these items that answers an item, if there is such an item
 abbrev pub answer_in : List Listed → Option Sent → Option Sent

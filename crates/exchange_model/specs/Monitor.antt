@@ -1,5 +1,5 @@
 -- What a monitor keeps of the items of both ends, and how an entry changes it.
-use Rattle.std.specs.Prelude.{ℕ, suc, ◌≡◌, nat_eq, List, ◌∷◌, length, Bool, false, ◌&&◌, not, Option, Some, None, if◌then◌else◌}
+use Rattle.std.specs.Prelude.{ℕ, suc, ◌≡◌, nat_eq, List, ◌∷◌, length, Bool, false, ◌&&◌, not, Option, Some, None, is_some, if◌then◌else◌}
 use Rattle.std.specs.Cmp.Lexicographic.{pointwise}
 use Rattle.fsoe_base.specs.declared.command.End.{End}
 use Rattle.fsoe_base.specs.declared.command.End.TheVariants as end_name
@@ -10,6 +10,7 @@ use Rattle.param_load.specs.declared.entry.Entry.{Entry}
 use Rattle.end_model.specs.Phases.{is_guarded, is_guarded_frame, has_command}
 use Rattle.end_model.specs.Deed.{delivered, is_empty}
 use Rattle.exchange_model.specs.declared.side.Sent.{Sent}
+use Rattle.exchange_model.specs.Ends.{same_end}
 use Rattle.exchange_model.specs.Items.{Item, newest, items_of, items, awaited, answers_to}
 use Rattle.exchange_model.specs.Other.{first_of_both, first_other}
 
@@ -64,11 +65,6 @@ abbrev pub sent_number : Option Sent → Option ℕ
 sent_number None = None
 sent_number (Some s) = Some s.number
 
--- whether there is an item with these bytes
-abbrev pub has : List ℕ → Option Sent → Bool
-has bytes None = false
-has bytes (Some s) = pointwise nat_eq s.bytes bytes
-
 -- the number of an item, where there is one with these bytes
 abbrev pub number_of : List ℕ → Option Sent → Option ℕ
 number_of bytes None = None
@@ -87,7 +83,7 @@ is_answer (Some s) answer = answers_to s.number answer
 -- whether an entry of an end is other at which these bytes came, by what is kept of the end and whether they passed the
 -- test of their CRCs
 abbrev pub is_other_to : Side → Bool → List ℕ → Bool
-is_other_to own passed came = passed && is_guarded_frame came && not (has came own.awaited)
+is_other_to own passed came = passed && is_guarded_frame came && not (is_some (number_of came own.awaited))
 
 -- the number of the peer's item that an end took from these bytes
 abbrev pub number_taken : Side → Side → List ℕ → Option Took → Option ℕ
@@ -122,21 +118,16 @@ abbrev pub side_of : End → MonitorView → Side
 side_of end_name.Master v = v.master
 side_of end_name.Slave v = v.slave
 
--- what is kept of the master after an entry of this end
-abbrev pub master_after : End → MonitorView → List ℕ → Option Took → List ℕ → Side
-master_after end_name.Master v came took sent = own_after v.master sent
-master_after end_name.Slave v came took sent = peer_after v.slave v.master came took sent
-
--- what is kept of the slave after an entry of this end
-abbrev pub slave_after : End → MonitorView → List ℕ → Option Took → List ℕ → Side
-slave_after end_name.Master v came took sent = peer_after v.master v.slave came took sent
-slave_after end_name.Slave v came took sent = own_after v.slave sent
+-- the same after an entry of either end
+abbrev pub side_after : End → End → MonitorView → List ℕ → Option Took → List ℕ → Side
+side_after which at v came took sent =
+    if same_end which at then own_after (side_of which v) sent else peer_after (side_of at v) (side_of which v) came took sent
 
 -- a monitor after an entry, by its end, the bytes that came, what the end did and the frame that it sent
 abbrev pub noted_next : MonitorView → End → List ℕ → Did → List ℕ → MonitorView
 noted_next v at came did sent = record {
   noted = suc v.noted;
   other = first_of_both v.other (is_other_to (side_of at v) did.passed came) (suc v.noted);
-  master = master_after at v came did.took sent;
-  slave = slave_after at v came did.took sent;
+  master = side_after end_name.Master at v came did.took sent;
+  slave = side_after end_name.Slave at v came did.took sent;
 }

@@ -32,10 +32,7 @@ pub record ShowsLongest (which : End) (load : List ℕ) (events : List Event) : 
   pub shows_load : shown_after which events ≡ load
   pub no_longer : shown_after which (events ++ event.Tick which ∷ []) ≡ 0 ∷ 0 ∷ []
 
--- the slave takes the master's last frame four ticks after it was sent
-unfoldable pub SlaveShowsLongest : Type 0
-SlaveShowsLongest = ShowsLongest end_name.Slave (1 ∷ 0 ∷ []) (until_data ++ replicate 4 ts ++ ds 1 ∷ replicate 4 ts)
-
--- the master takes the slave's
-unfoldable pub MasterShowsLongest : Type 0
-MasterShowsLongest = ShowsLongest end_name.Master (128 ∷ 0 ∷ []) (until_data ++ ds 1 ∷ replicate 4 tm ++ dm 1 ∷ replicate 4 tm)
+-- each end does so: it takes its peer's last frame four ticks after it was sent
+pub record BothShowLongest : Type 0 where
+  pub slave : ShowsLongest end_name.Slave (1 ∷ 0 ∷ []) (until_data ++ replicate 4 ts ++ ds 1 ∷ replicate 4 ts)
+  pub master : ShowsLongest end_name.Master (128 ∷ 0 ∷ []) (until_data ++ ds 1 ∷ replicate 4 tm ++ dm 1 ∷ replicate 4 tm)

@@ -80,22 +80,14 @@ impl Kept {
     pub(crate) fn number(&self) -> Option<u64>
         ensures { result ≡ sent_number self.now }
     {
-        if self.there {
-            Some(self.sent.number)
-        } else {
-            None
-        }
+        self.there.then_some(self.sent.number)
     }
 
     /// The number of the item, where it has these bytes.
     pub(crate) fn number_of(&self, bytes: &[u8]) -> Option<u64>
         ensures { result ≡ number_of bytes.now self.now }
     {
-        if self.there && self.sent.bytes.bytes() == bytes {
-            Some(self.sent.number)
-        } else {
-            None
-        }
+        (self.there && self.sent.bytes.bytes() == bytes).then_some(self.sent.number)
     }
 
     /// The number of the item after this one.

@@ -25,11 +25,10 @@ ghost use Rattle.exchange_model.specs.Fair.{received_len, TakesAwaited, numbers_
 ghost use Rattle.exchange_model.specs.Offering.{WasOffered};
 ghost use Rattle.exchange_model.specs.Honest.{Match, exchanges, IsHonest};
 ghost use Rattle.exchange_model.specs.Serving.{Serves};
-ghost use Rattle.exchange_model.specs.WorkedServing.{ReachesData};
-ghost use Rattle.exchange_model.specs.WorkedOffering.{SlaveShowsLongest, MasterShowsLongest};
-ghost use Rattle.exchange_model.specs.WorkedItems.{Answering, AnsweringLate, Carrying, Awaiting, Taking};
-ghost use Rattle.exchange_model.specs.WorkedSchedules.{Mismatches, NotPlain, OutOfTurn, TickedLate};
-ghost use Rattle.exchange_model.specs.WorkedRuns.{FirstData, ByteByByte, LongestFrames, ProfileTwo, NumberStepped, NoFrame, OtherAddress, LongWatchdog, NoParameters, HighParameter, ForgedWatchdog, OtherWord, OtherProfile, OtherProfileLater, Repeated, AlteredGroup, OldData, FiveTicks, AnswerUnderWay, OldSession, ForgedData, HeldSlave, OldConnection, EqualIds, FreshId, FirstDataFair, AnswerUnderWayFair, OldSessionFair, HeldSlaveFair, ProfileTwoFair, ForgedDataFair, OldConnectionFair, Honest, HonestTicks, Exchanges};
+ghost use Rattle.exchange_model.specs.WorkedOffering.{BothShowLongest};
+ghost use Rattle.exchange_model.specs.WorkedItems.{WorkedItems};
+ghost use Rattle.exchange_model.specs.WorkedSchedules.{HonestRuns, DishonestRuns};
+ghost use Rattle.exchange_model.specs.WorkedRuns.{Handshakes, Refusals, DataRuns, FairRuns};
 
 /// A schedule of proper events makes a world, each of whose entries is the next one of its end. In each world the
 /// entries of an end are those of the run of only that end's own events.
@@ -110,88 +109,39 @@ pub fn honest_schedules()
     ensures fair { (ms : MasterSettings) (ss : SlaveSettings) (events : List Event) → Match ms ss → All (IsProperEvent ms ss) events → IsHonest ms ss events → Fair ms.lengths (world ms ss events) }
 {}
 
-/// Worked handshakes of both ends, over frames of several lengths and in both profiles: the lines of the report, and
-/// the number of the first `other` entry.
+/// Worked handshakes of both ends, over frames of several lengths and in both profiles, and those that a slave ends: the
+/// lines of the report, and the number of the first `other` entry.
 pub fn worked_handshakes()
-    ensures first_data { FirstData }
-    ensures byte_by_byte { ByteByByte }
-    ensures longest_frames { LongestFrames }
-    ensures profile_two { ProfileTwo }
-    ensures number_stepped { NumberStepped }
-    ensures no_frame { NoFrame }
+    ensures handshakes { Handshakes }
+    ensures refusals { Refusals }
 {}
 
-/// Worked handshakes that a slave ends, in the same way.
-pub fn worked_refusals()
-    ensures other_address { OtherAddress }
-    ensures long_watchdog { LongWatchdog }
-    ensures no_parameters { NoParameters }
-    ensures high_parameter { HighParameter }
-    ensures forged_watchdog { ForgedWatchdog }
-    ensures other_word { OtherWord }
-    ensures other_profile { OtherProfile }
-    ensures other_profile_later { OtherProfileLater }
-{}
-
-/// Worked exchanges of data, with frames that come again, late, altered or forged, and with resets and ticks.
+/// Worked exchanges of data in the same way, with frames that come again, late, altered or forged, and with resets and
+/// ticks. Among them is an old session, whose frames come to the slave again after its reset: with the same session id
+/// as before it is taken, and `other`; with a fresh one it is refused at its first Connection frame.
 pub fn worked_data()
-    ensures repeated { Repeated }
-    ensures altered_group { AlteredGroup }
-    ensures old_data { OldData }
-    ensures five_ticks { FiveTicks }
-    ensures answer_under_way { AnswerUnderWay }
-    ensures old_session { OldSession }
-    ensures forged_data { ForgedData }
-    ensures held_slave { HeldSlave }
-    ensures old_connection { OldConnection }
-{}
-
-/// An old session, whose frames come to the slave again after its reset. With the same session id as before it is
-/// taken, and `other`; with a fresh one it is refused at its first Connection frame.
-pub fn worked_old_sessions()
-    ensures equal_ids { EqualIds }
-    ensures fresh_id { FreshId }
+    ensures { DataRuns }
 {}
 
 /// The items of worked runs: what they answer and carry, which is awaited, and which gave data.
 pub fn worked_items()
-    ensures answering { Answering }
-    ensures answering_late { AnsweringLate }
-    ensures carrying { Carrying }
-    ensures awaiting { Awaiting }
-    ensures taking { Taking }
+    ensures { WorkedItems }
 {}
 
 /// Worked runs in which each end shows its peer's offer for as many ticks after the peer's last frame as the law of
 /// offers allows, and no longer.
 pub fn worked_offers()
-    ensures slave { SlaveShowsLongest }
-    ensures master { MasterShowsLongest }
+    ensures { BothShowLongest }
 {}
 
 /// Worked runs that are fair, those with an `other` entry before it.
 pub fn fair_runs()
-    ensures first_data { FirstDataFair }
-    ensures answer_under_way { AnswerUnderWayFair }
-    ensures old_session { OldSessionFair }
-    ensures held_slave { HeldSlaveFair }
-    ensures profile_two { ProfileTwoFair }
-    ensures forged_data { ForgedDataFair }
-    ensures old_connection { OldConnectionFair }
+    ensures { FairRuns }
 {}
 
-/// Worked schedules that are honest, the exchanges before the first data, and when both ends of one are in Data.
+/// Worked schedules that are honest, the exchanges before the first data, and when both ends of one are in Data; and
+/// settings that don't match and schedules that aren't honest, each for only one reason.
 pub fn honest_runs()
-    ensures honest { Honest }
-    ensures ticks { HonestTicks }
-    ensures exchanges { Exchanges }
-    ensures reaches_data { ReachesData }
-{}
-
-/// Settings that don't match and schedules that aren't honest, each for only one reason.
-pub fn dishonest_runs()
-    ensures mismatches { Mismatches }
-    ensures not_plain { NotPlain }
-    ensures out_of_turn { OutOfTurn }
-    ensures ticked_late { TickedLate }
+    ensures honest { HonestRuns }
+    ensures dishonest { DishonestRuns }
 {}

@@ -35,25 +35,20 @@ impl Listed {
 fn last_sent(items: &[Listed]) -> Kept
     ensures { result ≡ last_sent items.now }
 {
-    if items.is_empty() {
-        return Kept::none();
+    match items.last() {
+        Some(item) => Kept::of(&item.sent),
+        None => Kept::none(),
     }
-    Kept::of(&items[items.len() - 1].sent)
 }
 
 /// The newest of these items that answers the peer's item with this number.
 fn last_answer(items: &[Listed], number: u64) -> Kept
     ensures { result ≡ last_answer number items.now }
 {
-    let mut left = items.len();
-    while left > 0 {
-        left -= 1;
-        let item = &items[left];
-        if item.is_answer_to(number) {
-            return Kept::of(&item.sent);
-        }
+    match items.iter().rev().find(|item| item.is_answer_to(number)) {
+        Some(item) => Kept::of(&item.sent),
+        None => Kept::none(),
     }
-    Kept::none()
 }
 
 /// The newest of these items that answers this one of the peer, if there is one.

@@ -88,11 +88,10 @@ impl Monitor {
     pub fn is_other(&self, at: End, came: &[u8], did: &Did) -> bool
         ensures { (w : List Entry) (x : Entry) (sent : List ℕ) → self.now ≡ view_of w → HasParts x at came.now did.now sent → result ≡ is_other (items w) x }
     {
-        let awaited = match at {
-            End::Master => self.slave.awaited().number_of(came),
-            End::Slave => self.master.awaited().number_of(came),
-        };
-        is_other(did.passed, came, awaited)
+        match at {
+            End::Master => is_other(did.passed, came, self.slave.awaited().number_of(came)),
+            End::Slave => is_other(did.passed, came, self.master.awaited().number_of(came)),
+        }
     }
 
     /// Returns the number, from 1, of the item that an end awaits, among those of its peer, or None if it awaits none.

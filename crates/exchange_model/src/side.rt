@@ -1,8 +1,7 @@
 //! What a monitor keeps of one end.
-ghost use Rattle.std.specs.Prelude.{◌≡◌, ◌<◌, ◌^◌, ◌&&◌, not, Option, None};
+ghost use Rattle.std.specs.Prelude.{◌≡◌, ◌<◌, ◌^◌, ◌&&◌, not, None, is_some};
 ghost use Rattle.end_model.specs.Phases.{is_guarded_frame};
-ghost use Rattle.exchange_model.specs.declared.side.Sent.{Sent};
-ghost use Rattle.exchange_model.specs.Monitor.{Side, side_by, has, next_number, is_answer, is_other_to, number_of, number_taken, sent_next, heard_next, own_after, peer_after};
+ghost use Rattle.exchange_model.specs.Monitor.{Side, side_by, next_number, is_answer, is_other_to, number_of, number_taken, sent_next, heard_next, own_after, peer_after};
 
 use crate::kept::Kept;
 use crate::reading::{is_guarded, is_guarded_frame, is_reset_frame};
@@ -71,7 +70,7 @@ impl Sender {
 /// Returns true if an entry is `other` at which these bytes came, by whether they passed their CRC test, and by the
 /// number of the awaited item, where it has these bytes.
 pub(crate) fn is_other(passed: bool, came: &[u8], awaited: Option<u64>) -> bool
-    ensures { (item : Option Sent) → awaited ≡ number_of came.now item → result ≡ (passed && is_guarded_frame came.now && not (has came.now item)) }
+    ensures { result ≡ (passed && is_guarded_frame came.now && not (is_some awaited)) }
 {
     awaited.is_none() && passed && is_guarded_frame(came)
 }

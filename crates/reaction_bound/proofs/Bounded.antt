@@ -111,36 +111,29 @@ young ms ss which (x ∷ w) n k lens h none is =
     let older : NoneOther x w = none_other x w none in
     young-head ms ss which x w n k (same_end which x.end) refl lens h none (λ n k is. young ms ss which w n k lens h.1 older.before is) is
 
-no-more : (a b : ℕ) → a + 0 ≤ b → a ≤ b
-no-more a b h = omega arith
+-- how old outputs are, and the terms that their end tells
+record Bounded (ms : MasterSettings) (ss : SlaveSettings) (which : End) (w : List Entry) (n : ℕ) : Type 0 where
+  pub told : told_terms (setup_of ms ss which) (deeds which w) ≡ Some (terms_of ms)
+  pub most : n ≤ 2 * ms.watchdog - 2
 
--- the age of an end's outputs
-abbrev IsBounded : Option Terms → ℕ → Type 0
-IsBounded told n = IsSomeAnd told (λ t. n ≤ 2 * t.watchdog - 2)
-
-bounded-by : (ms : MasterSettings) (ss : SlaveSettings) (which : End) (w : List Entry) (o : Option ℕ) → SameLengths ms ss → IsWorld ms ss w → NoOther w → source which w ≡ o
-    → IfSome (option_map (λ k. ticks_since which k w) o) (IsBounded (told_terms (setup_of ms ss which) (deeds which w)))
-bounded-by ms ss which w None lens h none is = tt
-bounded-by ms ss which w (Some k) lens h none is =
+bounded : (ms : MasterSettings) (ss : SlaveSettings) (which : End) (w : List Entry) (o : Option ℕ) → SameLengths ms ss → IsWorld ms ss w → NoOther w → source which w ≡ o
+    → IfSome (option_map (λ k. ticks_since which k w) o) (Bounded ms ss which w)
+bounded ms ss which w None lens h none is = tt
+bounded ms ss which w (Some k) lens h none is =
     let y : Young ms ss which 0 k w = young ms ss which w 0 k lens h none is in
-    let s : Setup = setup_of ms ss which in
-    let told : told_terms s (deeds which w) ≡ Some (terms_of ms) = tells s (deeds which w) (terms_of ms) y.in_data (agrees ms ss which w lens h none y.in_data) in
     let most : ticks_since which k w + 0 ≤ 2 * ms.watchdog - 2 = y.most in
-    subst (λ (o : Option Terms). IsBounded o (ticks_since which k w)) (sym told) (no-more (ticks_since which k w) (2 * ms.watchdog - 2) most)
+    record { told = tells (setup_of ms ss which) (deeds which w) (terms_of ms) y.in_data (agrees ms ss which w lens h none y.in_data); most = omega arith }
+
+if-more : {P Q : ℕ → Type 0} (o : Option ℕ) → IfSome o P → ((n : ℕ) → P n → Q n) → IfSome o Q
+if-more None p more = tt
+if-more (Some n) p more = more n p
 
 pub age_bounded : (ms : MasterSettings) (ss : SlaveSettings) (which : End) (w : List Entry) → SameLengths ms ss → IsWorld ms ss w → NoOther w
     → IfSome (age_of which w) (λ n. IsSomeAnd (told_terms (setup_of ms ss which) (deeds which w)) (λ t. n ≤ 2 * t.watchdog - 2))
-age_bounded ms ss which w lens h none = bounded-by ms ss which w (source which w) lens h none refl
+age_bounded ms ss which w lens h none =
+    if-more (age_of which w) (bounded ms ss which w (source which w) lens h none refl) (λ n b. subst (λ (o : Option Terms). IsSomeAnd o (λ t. n ≤ 2 * t.watchdog - 2)) (sym b.told) b.most)
 
 -- the greatest age
-by-master : (ms : MasterSettings) (ss : SlaveSettings) (which : End) (w : List Entry) (o : Option ℕ) → SameLengths ms ss → IsWorld ms ss w → NoOther w → source which w ≡ o
-    → IfSome (option_map (λ k. ticks_since which k w) o) (λ n. n ≤ 2 * ms.watchdog - 2)
-by-master ms ss which w None lens h none is = tt
-by-master ms ss which w (Some k) lens h none is =
-    let y : Young ms ss which 0 k w = young ms ss which w 0 k lens h none is in
-    let most : ticks_since which k w + 0 ≤ 2 * ms.watchdog - 2 = y.most in
-    no-more (ticks_since which k w) (2 * ms.watchdog - 2) most
-
 greater-bounded : (a b : Option ℕ) (most : ℕ) → IfSome a (λ n. n ≤ most) → IfSome b (λ n. n ≤ most) → IfSome (greater a b) (λ n. n ≤ most)
 greater-bounded a b most h k = grind arith
 
@@ -148,4 +141,4 @@ pub worst_bounded : (ms : MasterSettings) (ss : SlaveSettings) (which : End) (w 
 worst_bounded ms ss which [] lens h none = tt
 worst_bounded ms ss which (x ∷ w) lens h none =
     let older : NoneOther x w = none_other x w none in
-    greater-bounded (age_of which (x ∷ w)) (worst_of which w) (2 * ms.watchdog - 2) (by-master ms ss which (x ∷ w) (source which (x ∷ w)) lens h none refl) (worst_bounded ms ss which w lens h.1 older.before)
+    greater-bounded (age_of which (x ∷ w)) (worst_of which w) (2 * ms.watchdog - 2) (if-more (age_of which (x ∷ w)) (bounded ms ss which (x ∷ w) (source which (x ∷ w)) lens h none refl) (λ n b. b.most)) (worst_bounded ms ss which w lens h.1 older.before)

@@ -1,7 +1,7 @@
 -- What is kept of the ages after an entry is what the definitions say of the entries with it.
 use Rattle.reaction_bound.proofs.Common.{AgesView, Did, End, Entry, HasParts, MonitorView, NotesEntry, NotesParts, Standing, acted_next, age_in, age_of, awaited, awaited_by, delivered, greater, is_other, is_tick, item_number, items, kept_of, peer, same_end, told_age, view_of, watchdog_in, worst_of}
 use Rattle.reaction_bound.specs.Ages.{heard_next}
-use Rattle.std.proofs.Common.{◌≡◌, ℕ, List, ◌∷◌, Bool, true, false, Option, IfSome, refl, sym, ap, ap₂, ◌∙◌, arith}
+use Rattle.std.proofs.Common.{◌≡◌, ℕ, List, ◌∷◌, Bool, true, false, Option, IfSome, refl, sym, ap, ◌∙◌, arith}
 use Rattle.fsoe_base.specs.declared.command.End.TheVariants as end_name
 use Rattle.fsoe_base.specs.declared.command.Command.TheVariants as command
 use Rattle.exchange_model.specs.Monitor as monitor
@@ -33,17 +33,9 @@ TellsAwaited v which number = (w : List Entry) → v ≡ monitor.view_of w → n
 abbrev TellsOther : MonitorView → End → List ℕ → Did → Bool → Type 0
 TellsOther v at came did other = (w : List Entry) (x : Entry) (sent : List ℕ) → v ≡ monitor.view_of w → HasParts x at came did sent → other ≡ is_other (items w) x
 
-acts-alike : (tick tick' other other' : Bool) (did did' : Did) (watchdog before before' after after' : Option ℕ) (old old' : EndAge)
-    → tick ≡ tick' → other ≡ other' → did ≡ did' → before ≡ before' → after ≡ after' → old ≡ old'
-    → acted_next tick other did watchdog before after old ≡ acted_next tick' other' did' watchdog before' after' old'
-acts-alike tick tick' other other' did did' watchdog before before' after after' old old' h k l m n o = grind arith
-
 same-watchdog : (tick other : Bool) (did : Did) (watchdog watchdog' before after : Option ℕ) (old : EndAge) → IfSome did.took (λ t. t.command ≡ command.ProcessData → watchdog ≡ watchdog')
     → acted_next tick other did watchdog before after old ≡ acted_next tick other did watchdog' before after old
 same-watchdog tick other did watchdog watchdog' before after old h = grind arith
-
-hears-alike : (before before' after after' : Option ℕ) (old old' : EndAge) → before ≡ before' → after ≡ after' → old ≡ old' → heard_next before after old ≡ heard_next before' after' old'
-hears-alike before before' after after' old old' a b c = ap₂ (λ (n m : Option ℕ). heard_next n m old) a b ∙ ap (λ (k : EndAge). heard_next before' after' k) c
 
 -- what is kept of an end
 abbrev pub side_of : End → AgesView → EndAge
@@ -80,11 +72,11 @@ notes_parts {which} {at} {old} {new} {tick} {other} {came} {sent} {did} {watchdo
         let at_it : x.end ≡ which = parts.parts.end_is ∙ here in
         let mine : side_of which new ≡ kept_of which (x ∷ w) =
         acts
-        ∙ acts-alike _ _ _ _ _ _ _ _ _ _ _ _ _ (sym parts.tick_is) (o w x sent before parts.parts) (sym parts.parts.did_is) (m w before) (m' (x ∷ w) after) (kept which)
-        ∙ same-watchdog (is_tick x.what) (is_other (items w) x) x.did watchdog (watchdog_in x.terms) (awaited_by which w) (awaited_by which (x ∷ w)) (kept_of which w) parts.watchdog_is
-        ∙ acted which x w (ap (same_end which) at_it ∙ same_itself which) in
+        ∙ rw (sym parts.tick_is, o w x sent before parts.parts, sym parts.parts.did_is, m w before, m' (x ∷ w) after, kept which)
+        (same-watchdog (is_tick x.what) (is_other (items w) x) x.did watchdog (watchdog_in x.terms) (awaited_by which w) (awaited_by which (x ∷ w)) (kept_of which w) parts.watchdog_is
+        ∙ acted which x w (ap (same_end which) at_it ∙ same_itself which)) in
         let theirs : side_of (peer which) new ≡ kept_of (peer which) (x ∷ w) =
-        hears ∙ hears-alike _ _ _ _ _ _ (s w before) (s' (x ∷ w) after) (kept (peer which)) ∙ heard (peer which) x w (ap (same_end (peer which)) at_it ∙ other-end which) in
+        hears ∙ rw (s w before, s' (x ∷ w) after, kept (peer which)) (heard (peer which) x w (ap (same_end (peer which)) at_it ∙ other-end which)) in
         same-view which new (x ∷ w) after mine theirs;
   };
 }

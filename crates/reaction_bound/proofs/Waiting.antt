@@ -1,14 +1,15 @@
 -- The ticks since the item that an end awaits was sent.
-use Rattle.reaction_bound.proofs.Common.{End, Entry, Item, MonitorView, Move, Side, awaited, awaited_by, counted, delivered, eq-eqb, heard_next, is_answer, is_empty, is_tick, item_number, items, items_of, next_number, next_sent, noted_next, peer, same_end, sends_item, sent_next, sent_number, side_of, ticked, ticks_since, told, waited, waited_next}
-use Rattle.exchange_model.proofs.Offering.Sending.{grown-length}
-use Rattle.std.proofs.Common.{◌≡◌, ℕ, suc, ◌-◌, ◌≤◌, ◌==◌, List, ◌∷◌, length, Bool, true, false, ◌&&◌, not, Option, Some, None, if◌then◌else◌, refl, sym, ap, ◌∙◌, subst, arith, rules}
-use Rattle.fsoe_base.specs.declared.command.End.TheVariants as end_name
+use Rattle.reaction_bound.proofs.Common.{End, Entry, Item, Move, Side, awaited, awaited_by, counted, delivered, eq-eqb, heard_next, is_answer, is_empty, is_tick, item_number, items, items_of, next_number, next_sent, peer, same, same_end, sends_item, sent_next, sent_number, ticked, ticks_since, told, waited, waited_next}
+use Rattle.exchange_model.proofs.Offering.Sending.{grown-length, peer-back}
+use Rattle.std.proofs.Common.{◌≡◌, ℕ, suc, ◌≤◌, ◌==◌, List, ◌∷◌, length, Bool, true, false, ◌&&◌, not, Option, Some, None, if◌then◌else◌, refl, sym, ap, ◌∙◌, subst, arith, rules}
 use Rattle.fsoe_base.specs.declared.command.Command.TheVariants as command
 use Rattle.end_model.specs.Phases.{has_command}
 use Rattle.exchange_model.specs.Monitor as monitor
+use Rattle.exchange_model.specs.Monitor.{peer_after}
 use Rattle.exchange_model.proofs.Worlds.Numbered.{grown, numbered}
 use Rattle.exchange_model.proofs.Joint.Awaited.{awaited_found}
-use Rattle.exchange_model.proofs.Monitors.Noted.{newest_next, notes_by, awaited_number}
+use Rattle.exchange_model.proofs.Monitors.Noted.{newest_next, own_kept, peer_kept}
+use Rattle.exchange_model.proofs.Offering.Offered.{same_itself}
 
 -- an item with a number
 record HasNumber (k : ℕ) (o : Option Item) : Type 0 where
@@ -61,28 +62,27 @@ peer-next which x w theirs mine answer true a e s n h k = Kept (sym k ∙ h) (λ
 peer-next which x w theirs mine answer false a e s n h k =
     peer-heard which x w theirs mine (not (has_command command.Reset x.sent) && is_answer mine.newest answer) a (all-true (same_end (peer which) x.end) (is_empty x.sent) _ _ s e n) h k
 
-awaits : (which at : End) (x : Entry) (w : List Entry) → x.end ≡ at → sent_number (side_of which (noted_next (monitor.view_of w) at (delivered x.what) x.did x.sent)).awaited ≡ awaited_by which (x ∷ w)
-awaits which at x w h =
-    let v : MonitorView = monitor.view_of w in
-    let n : MonitorView = noted_next v at (delivered x.what) x.did x.sent in
-    let noted : monitor.NotesParts v at (delivered x.what) x.did x.sent n = notes_by refl in
-    awaited_number n which (x ∷ w) ((noted.notes x (record { end_is = h; came_is = refl; did_is = refl; sent_is = refl })).notes w refl)
+-- what a monitor keeps of the end awaits the same item
+awaits : (which : End) (w : List Entry) (kept : Side) → kept ≡ monitor.kept_of which (items w) → sent_number kept.awaited ≡ awaited_by which w
+awaits which w kept h = grind arith
+
+its-peer : (which at : End) → same_end which at ≡ false → at ≡ peer which
+its-peer which at h = grind arith
 
 pub next : (which : End) (x : Entry) (w : List Entry) → Next which x w
-next which x w = by-ends which x.end refl
+next which x w = by-end (same_end which x.end) refl
   where
-    before : (which : End) → sent_number (side_of which (monitor.view_of w)).awaited ≡ awaited_by which w
-    before which = awaited_number (monitor.view_of w) which w refl
+    mine : Side
+    mine = monitor.kept_of which (items w)
 
-    by-ends : (which at : End) → x.end ≡ at → Next which x w
-    by-ends end_name.Master end_name.Master h = own-next end_name.Master x w (monitor.kept_of end_name.Master (items w)) (is_empty x.sent) refl (before end_name.Master) (awaits end_name.Master end_name.Master x w h)
-    by-ends end_name.Slave end_name.Slave h = own-next end_name.Slave x w (monitor.kept_of end_name.Slave (items w)) (is_empty x.sent) refl (before end_name.Slave) (awaits end_name.Slave end_name.Slave x w h)
-    by-ends end_name.Master end_name.Slave h =
-        peer-next end_name.Master x w (monitor.kept_of end_name.Slave (items w)) (monitor.kept_of end_name.Master (items w)) _ (is_empty x.sent) (ap (same_end end_name.Master) h) refl (ap (same_end end_name.Slave) h)
-        (newest_next (items_of end_name.Slave (items w)) (numbered end_name.Slave w)) (before end_name.Master) (awaits end_name.Master end_name.Slave x w h)
-    by-ends end_name.Slave end_name.Master h =
-        peer-next end_name.Slave x w (monitor.kept_of end_name.Master (items w)) (monitor.kept_of end_name.Slave (items w)) _ (is_empty x.sent) (ap (same_end end_name.Slave) h) refl (ap (same_end end_name.Master) h)
-        (newest_next (items_of end_name.Master (items w)) (numbered end_name.Master w)) (before end_name.Slave) (awaits end_name.Slave end_name.Master x w h)
+    by-end : (own : Bool) → same_end which x.end ≡ own → Next which x w
+    by-end true e = own-next which x w mine (is_empty x.sent) refl (awaits which w mine refl) (awaits which (x ∷ w) _ (own_kept which x w (same which x.end e)))
+    by-end false e =
+        let at : x.end ≡ peer which = its-peer which x.end e in
+        let back : peer (peer which) ≡ which = peer-back which in
+        peer-next which x w (monitor.kept_of (peer which) (items w)) mine _ (is_empty x.sent) e refl (ap (same_end (peer which)) at ∙ same_itself (peer which))
+        (newest_next (items_of (peer which) (items w)) (numbered (peer which) w)) (awaits which w mine refl)
+        (awaits which (x ∷ w) _ (subst (λ (it : End). peer_after (monitor.kept_of (peer which) (items w)) (monitor.kept_of it (items w)) (delivered x.what) x.did.took x.sent ≡ monitor.kept_of it (items (x ∷ w))) back (peer_kept (peer which) x w at)))
 
 -- ticks that were counted, after an entry of the end or of its peer
 abbrev pub counted_at : Bool → Move → ℕ → ℕ

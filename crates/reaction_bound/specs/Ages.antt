@@ -1,5 +1,5 @@
 -- What is kept of both ends to tell the ages of their outputs, and how an entry changes it.
-use Rattle.std.specs.Prelude.{ℕ, suc, ◌≡◌, ◌-◌, ◌==◌, nat_le, List, [], ◌∷◌, Bool, Option, Some, None, IfSome, is_some, option_map, if◌then◌else◌}
+use Rattle.std.specs.Prelude.{ℕ, suc, ◌≡◌, ◌-◌, ◌==◌, ◌||◌, nat_le, List, [], ◌∷◌, Bool, Option, Some, None, IfSome, is_some, option_map, if◌then◌else◌}
 use Rattle.fsoe_base.specs.declared.command.End.{End}
 use Rattle.fsoe_base.specs.declared.command.End.TheVariants as end_name
 use Rattle.fsoe_base.specs.declared.command.Command.{Command}
@@ -113,15 +113,11 @@ standing_ticked (Some s) = if nat_le s.left 1 then None else Some (record { left
 abbrev pub standing_counted : Bool → Option Standing → Option Standing
 standing_counted tick standing = if tick then standing_ticked standing else standing
 
--- outputs from the item of this number, which was sent n ticks ago, under this watchdog
-abbrev pub standing_from : Option ℕ → Option ℕ → ℕ → Option Standing
-standing_from (Some number) (Some watchdog) n = if nat_le watchdog 0 then None else Some (record { left = watchdog; age = n })
-standing_from awaited watchdog n = None
-
--- outputs by a frame that was taken, where an item that was awaited before was sent n ticks ago
+-- outputs by a frame that was taken under this watchdog, where an item that was awaited before was sent n ticks ago
 abbrev pub standing_taken : Bool → Option ℕ → Option ℕ → ℕ → Command → Option Standing
-standing_taken other awaited watchdog n command.ProcessData = if other then None else standing_from awaited watchdog n
-standing_taken other awaited watchdog n _ = None
+standing_taken other (Some number) (Some watchdog) n command.ProcessData =
+    if other || nat_le watchdog 0 then None else Some (record { left = watchdog; age = n })
+standing_taken other awaited watchdog n c = None
 
 -- the same of an entry that took a frame; else what the entries before it give
 abbrev pub standing_at : Bool → Option ℕ → Option ℕ → ℕ → Option Took → Option Standing → Option Standing
@@ -134,14 +130,11 @@ standing_next tick other did watchdog awaited old =
     if is_some did.reset then None
     else standing_at other awaited watchdog (counted tick old.waited) did.took (standing_counted tick old.standing)
 
--- an end of which these outputs and these ticks are kept after an entry of its own
-abbrev pub judged : Option Standing → ℕ → Option ℕ → EndAge
-judged standing n worst = record { waited = n; standing = standing; worst = greater (age_in standing) worst }
-
 -- what is kept of an end after an entry of its own, before which and after which it awaits the items of these numbers
 abbrev pub acted_next : Bool → Bool → Did → Option ℕ → Option ℕ → Option ℕ → EndAge → EndAge
 acted_next tick other did watchdog before after old =
-    judged (standing_next tick other did watchdog before old) (waited_next before after (counted tick old.waited)) old.worst
+    let standing : Option Standing = standing_next tick other did watchdog before old in
+    record { waited = waited_next before after (counted tick old.waited); standing = standing; worst = greater (age_in standing) old.worst }
 
 -- the same after an entry of its peer
 abbrev pub heard_next : Option ℕ → Option ℕ → EndAge → EndAge

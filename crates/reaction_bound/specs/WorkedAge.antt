@@ -21,14 +21,11 @@ pub record IsOldest (which : End) (events : List Event) : Type 0 where
   pub worst : worst_of which (short_run events) ≡ Some 8
   pub no_older : age_after which (events ++ event.Tick which ∷ []) ≡ None
 
--- the slave takes the master's last frame four ticks after it was sent, and four more pass
-unfoldable pub SlaveIsOldest : Type 0
-SlaveIsOldest = IsOldest end_name.Slave (until_data ++ replicate 4 ts ++ ds 1 ∷ replicate 4 ts)
-
--- the master takes the slave's
-unfoldable pub MasterIsOldest : Type 0
-MasterIsOldest = IsOldest end_name.Master (until_data ++ ds 1 ∷ replicate 4 tm ++ dm 1 ∷ replicate 4 tm)
-
--- data that the peer didn't send have no age, though the slave shows them
-unfoldable pub ForgedHaveNone : Type 0
-ForgedHaveNone = age_of end_name.Slave forged_data_run ≡ None
+-- each end shows as old outputs as may be; and outputs that have no age
+pub record WorkedAges : Type 0 where
+  -- the slave takes the master's last frame four ticks after it was sent, and four more pass
+  pub slave : IsOldest end_name.Slave (until_data ++ replicate 4 ts ++ ds 1 ∷ replicate 4 ts)
+  -- the master takes the slave's
+  pub master : IsOldest end_name.Master (until_data ++ ds 1 ∷ replicate 4 tm ++ dm 1 ∷ replicate 4 tm)
+  -- data that the peer didn't send have no age, though the slave shows them
+  pub forged : age_of end_name.Slave forged_data_run ≡ None

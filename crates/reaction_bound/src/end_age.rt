@@ -1,7 +1,7 @@
 //! What is kept of one end to count the age of its outputs.
 ghost use Rattle.std.specs.Prelude.{◌≡◌};
 ghost use Rattle.reaction_bound.specs.Age.{greater};
-ghost use Rattle.reaction_bound.specs.Ages.{first_kept, age_in, waited_next, counted, standing_ticked, standing_counted, standing_from, standing_taken, standing_next, acted_next, heard_next};
+ghost use Rattle.reaction_bound.specs.Ages.{first_kept, age_in, waited_next, counted, standing_ticked, standing_counted, standing_taken, standing_next, acted_next, heard_next};
 
 use fsoe_base::{Command, Did};
 
@@ -38,10 +38,7 @@ impl EndAge {
     pub(crate) fn age(&self) -> Option<u32>
         ensures { result ≡ age_in self.now.standing }
     {
-        match self.standing {
-            Some(standing) => Some(standing.age),
-            None => None,
-        }
+        self.standing.map(|standing| standing.age)
     }
 
     /// Notes an entry of the peer, before which and after which the end awaits the items of these numbers.
@@ -146,18 +143,8 @@ fn taken(
 ) -> Option<Standing>
     ensures { result ≡ standing_taken other awaited watchdog sent_ago command }
 {
-    match command {
-        Command::ProcessData if !other => from_item(awaited, watchdog, sent_ago),
-        _ => None,
-    }
-}
-
-/// Outputs from the item of this number, which was sent `sent_ago` ticks ago, under this watchdog.
-fn from_item(number: Option<u64>, watchdog: Option<u16>, sent_ago: u32) -> Option<Standing>
-    ensures { result ≡ standing_from number watchdog sent_ago }
-{
-    match (number, watchdog) {
-        (Some(_), Some(left)) if left > 0 => Some(Standing {
+    match (command, awaited, watchdog) {
+        (Command::ProcessData, Some(_), Some(left)) if !other && left > 0 => Some(Standing {
             left,
             age: sent_ago,
         }),

@@ -14,7 +14,7 @@ ghost use Rattle.exchange_model.specs.Schedules.{IsWorld};
 ghost use Rattle.exchange_model.specs.Other.{NoOther};
 ghost use Rattle.reaction_bound.specs.Age.{age_of, worst_of};
 ghost use Rattle.reaction_bound.specs.Reaction.{Quiet, Tick, broken_of};
-ghost use Rattle.reaction_bound.specs.WorkedAge.{SlaveIsOldest, MasterIsOldest, ForgedHaveNone};
+ghost use Rattle.reaction_bound.specs.WorkedAge.{WorkedAges};
 
 /// The law of the age, for both ends' settings with equal lengths and each world without an `other` entry. Outputs are
 /// at most twice the watchdog in the end's terms, less 2, ticks old. The greatest age has this limit with the master's
@@ -40,7 +40,5 @@ pub fn worked_reactions()
 
 /// Worked runs in which the outputs of each end get as old as the law allows and no older, and one without an age.
 pub fn worked_ages()
-    ensures slave { SlaveIsOldest }
-    ensures master { MasterIsOldest }
-    ensures forged { ForgedHaveNone }
+    ensures { WorkedAges }
 {}

@@ -59,16 +59,8 @@ impl Reaction {
         ensures ticks { self.new.ticks ≡ self.old.ticks + 1 }
     {
         self.ticks += 1;
-        self.broken = self.first_late(on);
-    }
-
-    /// The number of the first late tick, if the newest one ended with the drive on, or off.
-    fn first_late(&self, on: bool) -> Option<u64>
-        ensures { result ≡ first_of_both self.now.broken (on && is_long self.now.limit self.now.ticks self.now.quiet_from) self.now.ticks }
-    {
-        match self.broken {
-            None if on && self.is_long() => Some(self.ticks),
-            first => first,
+        if self.broken.is_none() && on && self.is_long() {
+            self.broken = Some(self.ticks);
         }
     }
 

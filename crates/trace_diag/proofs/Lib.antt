@@ -1,5 +1,3 @@
-mod WorkedSettings
-mod WorkedTraces
 pub mod Frames
 pub mod NoneApplies
 pub mod PieceRows

@@ -195,18 +195,12 @@ impl Known {
         ensures place { result ≡ rows.wrong_byte c self.now from self.now.due view.now }
         ensures within { IfSome result (λ place. place < 256) }
     {
-        match self.due {
-            State::Data => wrong_in_data(command, load),
-            State::Connection => match from {
-                End::Slave => wrong_in_echo(load, self.piece.bytes()),
-                End::Master => self.wrong_in_own(c, load, view),
-            },
-            State::Parameter => match from {
-                End::Slave => wrong_in_echo(load, self.piece.bytes()),
-                End::Master => self.wrong_in_own(c, load, view),
-            },
-            State::Reset => self.wrong_in_own(c, load, view),
-            State::Session => self.wrong_in_own(c, load, view),
+        match (from, self.due) {
+            (_, State::Data) => wrong_in_data(command, load),
+            (End::Slave, State::Connection | State::Parameter) => {
+                wrong_in_echo(load, self.piece.bytes())
+            }
+            _ => self.wrong_in_own(c, load, view),
         }
     }
 
@@ -370,8 +364,7 @@ fn next_phase(now: State) -> State
         State::Reset => State::Session,
         State::Session => State::Connection,
         State::Connection => State::Parameter,
-        State::Parameter => State::Data,
-        State::Data => State::Data,
+        State::Parameter | State::Data => State::Data,
     }
 }
 
@@ -384,8 +377,7 @@ fn has_come(now: State, came: usize, head: &[u8]) -> bool
         State::Session => came >= 2,
         State::Connection => came >= 4,
         State::Parameter => came >= 6 && came >= 6 + usize::from(number_at(head, 4)),
-        State::Reset => false,
-        State::Data => false,
+        _ => false,
     }
 }
 

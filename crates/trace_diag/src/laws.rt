@@ -6,22 +6,13 @@ ghost use Rattle.trace_diag.specs.Judged.{first_difference, AreOfBytes};
 ghost use Rattle.trace_diag.specs.declared.difference.Difference.{Difference};
 ghost use Rattle.trace_diag.specs.Trace.{Noted};
 ghost use Rattle.trace_diag.specs.Verdicts.{DiffersFirst};
-ghost use Rattle.trace_diag.specs.WorkedTraces.{FirstData, FirstFrames, Altered, LockStep, Rows, OtherLengths, EachByte, LaterGroups, CutWords, SteppedNumber};
+ghost use Rattle.trace_diag.specs.WorkedTraces.{WorkedTraces};
 
 /// Worked traces: a handshake with the first data, its first frames, altered ones, and each byte of it altered. Each
 /// row of the table, and frames of other lengths, also as ends send them in lock step. Rows in frames of several
 /// groups, in parameters that are cut between frames, and at a number with the extra increment.
 pub fn worked_traces()
-    ensures first_data { FirstData }
-    ensures first_frames { FirstFrames }
-    ensures altered { Altered }
-    ensures rows { Rows }
-    ensures other_lengths { OtherLengths }
-    ensures each_byte { EachByte }
-    ensures lock_step { LockStep }
-    ensures later_groups { LaterGroups }
-    ensures cut_words { CutWords }
-    ensures stepped_number { SteppedNumber }
+    ensures { WorkedTraces }
 {}
 
 /// No row of the table applies to any frame of a trace if and only if two ends, set to what is read off the trace, send

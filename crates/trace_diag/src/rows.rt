@@ -29,11 +29,8 @@ pub(crate) fn conn_holds(phase: State, first: Option<u16>, conn: u16) -> bool
     ensures { result ≡ conn_holds phase first conn }
 {
     match phase {
-        State::Reset => conn == 0,
-        State::Session => conn == 0,
-        State::Connection => is_conn(first, conn),
-        State::Parameter => is_conn(first, conn),
-        State::Data => is_conn(first, conn),
+        State::Reset | State::Session => conn == 0,
+        _ => is_conn(first, conn),
     }
 }
 
@@ -103,8 +100,7 @@ fn payload_holds(phase: State, conn: u16, parameters: &[u8], place: usize, byte:
         State::Session => id_holds(place, byte),
         State::Connection => connection_holds(conn, place, byte),
         State::Parameter => parameter_holds(parameters, place, byte),
-        State::Reset => byte == 0,
-        State::Data => byte == 0,
+        _ => byte == 0,
     }
 }
 

@@ -1,38 +1,40 @@
 -- What a monitor with lists has after an entry is what the definitions say of the entries with it, by the newest of
 -- listed items.
-use Rattle.exchange_model.proofs.Common.{End, Entry, Item, ListView, ListsEntry, Side, answer_among, answer_in, common_steps, delivered, first_of_both, first_other, is_answer_to, is_empty, is_other_to, item_of, items, items_of, kept_of, last_answer, last_sent, option_or, list_after, list_of, listed, listed_next, listing, lists_after, looked_up, newest, newest_answer, next_sent, number_taken, peer, sent_of, take_more}
-use Rattle.std.proofs.Common.{◌≡◌, ℕ, suc, List, [], ◌∷◌, ◌++◌, length, Bool, Option, Some, if◌then◌else◌, refl, sym, ap, ap₂, ◌∙◌, ◌+◌, ◌<◌, take, get_or, arith, take_all, rules}
+use Rattle.exchange_model.proofs.Common.{End, Entry, Item, ListView, ListsEntry, Side, answer_among, answer_in, delivered, first_of_both, first_other, is_answer_to, is_empty, is_other_to, item_of, items, items_of, kept_of, last_answer, last_sent, list_after, list_of, listed, listed_next, listing, lists_after, looked_up, newest, newest_answer, next_sent, number_taken, peer, sent_of}
+use Rattle.std.proofs.Common.{◌≡◌, ℕ, suc, ◌-◌, List, [], ◌∷◌, ◌++◌, length, map, reverse, Bool, Option, Some, option_map, if◌then◌else◌, refl, ap, ap₂, ◌∙◌, arith, rules}
+use Rattle.std.proofs.lemmas.List.{length-append, reverse-append}
+use Rattle.std.specs.List.{find, slice_get}
 use Rattle.fsoe_base.specs.declared.command.End.TheVariants as end_name
 use Rattle.exchange_model.specs.declared.list_monitor.Listed.{Listed}
 use Rattle.exchange_model.proofs.Worlds.Numbered.{numbered}
 
 -- one more item
+last-of : (found : List Listed) (i : Listed) → slice_get (found ++ (i ∷ [])) (length found) ≡ Some i
+last-of [] i = refl
+last-of (j ∷ found) i = last-of found i
+
 pub last_sent_more : (found : List Listed) (i : Listed) → last_sent (found ++ (i ∷ [])) ≡ Some i.sent
-last_sent_more [] i = refl
-last_sent_more (j ∷ found) i = ap (λ o. option_or o (Some j.sent)) (last_sent_more found i)
+last_sent_more found i =
+    let e : length (found ++ (i ∷ [])) - 1 ≡ length found = omega (arith, length-append found (i ∷ [])) in
+    ap (λ n. option_map (λ (i : Listed). i.sent) (slice_get (found ++ (i ∷ [])) n)) e ∙ ap (option_map (λ (i : Listed). i.sent)) (last-of found i)
 
-pub last_answer_more : (n : ℕ) (found : List Listed) (i : Listed) → last_answer n (found ++ (i ∷ [])) ≡ (if is_answer_to n i then Some i.sent else last_answer n found)
-last_answer_more n [] i = refl
-last_answer_more n (j ∷ found) i =
-    grind (arith, last_answer_more n found i)
-
--- the newest of the first items, by the last of them
-pub last_answer_at : (n k : ℕ) (found : List Listed) (i : Listed) (b : Bool) → k < length found → i ≡ get_or found k i → is_answer_to n i ≡ b
-    → last_answer n (take (k + 1) found) ≡ (if b then Some i.sent else last_answer n (take k found))
-last_answer_at n k found i b h l m = grind (arith, common_steps, last_answer_more)
-
-pub last_sent_at : (k : ℕ) (found : List Listed) (i : Listed) → k < length found → k + 1 ≡ length found → last_sent found ≡ Some (get_or found k i).sent
-last_sent_at k found i h n = ap last_sent (sym (take_all (k + 1) found (omega arith))) ∙ (ap last_sent (take_more found k i h) ∙ last_sent_more (take k found) (get_or found k i))
+-- newest first
+turned : (found : List Item) → reverse (listed found) ≡ map listing found
+turned [] = refl
+turned (i ∷ found) = reverse-append (listed found) (listing i ∷ []) ∙ ap (λ l. listing i ∷ l) (turned found)
 
 -- the newest of an end's items
 last-is : (found : List Item) → last_sent (listed found) ≡ sent_of (newest found)
 last-is found = search (rules, last_sent_more)
 
 -- the newest that answers
+found-is : (n : ℕ) (found : List Item) → option_map (λ i. i.sent) (find (is_answer_to n) (map listing found)) ≡ sent_of (newest_answer n found)
+found-is n [] = refl
+found-is n (i ∷ found) =
+    grind (arith, found-is n found)
+
 answer-is : (n : ℕ) (found : List Item) → last_answer n (listed found) ≡ sent_of (newest_answer n found)
-answer-is n [] = refl
-answer-is n (i ∷ found) =
-    grind (arith, last_answer_more, answer-is n found)
+answer-is n found = ap (λ l. option_map (λ i. i.sent) (find (is_answer_to n) l)) (turned found) ∙ found-is n found
 
 answer-in : (found : List Item) (o : Option Item) → answer_in (listed found) (sent_of o) ≡ sent_of (answer_among found o)
 answer-in found o = search (rules, answer-is)

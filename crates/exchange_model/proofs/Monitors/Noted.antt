@@ -28,8 +28,8 @@ newest_next found h = grind arith
 own-items : (which : End) (i : Item) (found : List Item) → i.end ≡ which → kept_of which (i ∷ found) ≡ side (sent_of (Some i)) (sent_of (newest_answer i.number (items_of (peer which) found)))
 own-items which i found h = grind arith
 
-own-kept : (which : End) (x : Entry) (w : List Entry) → x.end ≡ which → own_after (kept_of which (items w)) x.sent ≡ kept_of which (items (x ∷ w))
-own-kept which x w h = search (rules, next_number, newest_next, numbered, none-answers, own-items)
+pub own_kept : (which : End) (x : Entry) (w : List Entry) → x.end ≡ which → own_after (kept_of which (items w)) x.sent ≡ kept_of which (items (x ∷ w))
+own_kept which x w h = search (rules, next_number, newest_next, numbered, none-answers, own-items)
 
 peer-items : (which : End) (i : Item) (found : List Item) → i.end ≡ which
     → kept_of (peer which) (i ∷ found) ≡ side (kept_of (peer which) found).newest (if not (has_command command.Reset i.bytes) && is_answer (kept_of (peer which) found).newest i.answers then sent_of (Some i) else (kept_of (peer which) found).awaited)
@@ -38,8 +38,8 @@ peer-items which i found h = grind arith
 pub number_taken_is : (which : End) (found : List Item) (bytes : List ℕ) (took : Option Took) → number_taken (kept_of which found) (kept_of (peer which) found) bytes took ≡ item_taken found which bytes took
 number_taken_is which found bytes took = grind arith
 
-peer-kept : (which : End) (x : Entry) (w : List Entry) → x.end ≡ which → peer_after (kept_of which (items w)) (kept_of (peer which) (items w)) (delivered x.what) x.did.took x.sent ≡ kept_of (peer which) (items (x ∷ w))
-peer-kept which x w h = search (rules, next_number, newest_next, numbered, number_taken, delivered, number_taken_is, peer-items)
+pub peer_kept : (which : End) (x : Entry) (w : List Entry) → x.end ≡ which → peer_after (kept_of which (items w)) (kept_of (peer which) (items w)) (delivered x.what) x.did.took x.sent ≡ kept_of (peer which) (items (x ∷ w))
+peer_kept which x w h = search (rules, next_number, newest_next, numbered, number_taken, delivered, number_taken_is, peer-items)
 
 pub other_is : (which : End) (x : Entry) (w : List Entry) → x.end ≡ which → is_other_to (kept_of which (items w)) x.did.passed (delivered x.what) ≡ is_other (items w) x
 other_is which x w h = grind arith
@@ -50,7 +50,7 @@ same-view n other other' a a' b b' h i j = cc
 
 -- a monitor that steps so notes the entry
 notes-entry : (old new : MonitorView) (x : Entry) → new ≡ noted_next old x.end (delivered x.what) x.did x.sent → NotesEntry old x new
-notes-entry old new x h = search (rules, noted_next, delivered, same-view, other_is, own-kept, peer-kept)
+notes-entry old new x h = search (rules, noted_next, delivered, same-view, other_is, own_kept, peer_kept)
 
 -- and each entry with the parts by which it steps
 pub notes_by : {old new : MonitorView} {at : End} {came sent : List ℕ} {did : Did} → new ≡ noted_next old at came did sent → NotesParts old at came did sent new

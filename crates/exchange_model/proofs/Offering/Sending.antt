@@ -85,7 +85,7 @@ ticks-since s which (x ∷ later) w h =
     ticks-head s x (deeds which (later ++ w)) (ticks_of which later) (same_end which x.end) (λ mine. sends-none which x later w (is_empty x.sent) mine refl h)
     (ticks-since s which later w (omega arith))
 
-peer-back : (which : End) → peer (peer which) ≡ which
+pub peer-back : (which : End) → peer (peer which) ≡ which
 peer-back which = grind arith
 
 -- the entry that sent an awaited item, and the ticks that its awaiter counted since

@@ -5,7 +5,7 @@ use Rattle.hex.proofs.OnLiterals.{hex_on_literals}
 use Rattle.fsoe_crc.specs.Remainder.{computing}
 use Rattle.end_model.specs.WorkedRuns.{slave_values}
 use Rattle.exchange_model.specs.Schedules.{master_values, dm, ds, hs, rounds, rs, tm, until_data, zs}
-use Rattle.exchange_model.specs.WorkedRuns.{FirstDataFair, AnswerUnderWayFair, OldSessionFair, HeldSlaveFair, ProfileTwoFair, ForgedDataFair, OldConnectionFair, master_of_two, slave_of_two}
+use Rattle.exchange_model.specs.WorkedRuns.{master_of_two, slave_of_two}
 use Rattle.exchange_model.proofs.Fairness.Headline.{fair_before, fair_run}
 use Rattle.exchange_model.proofs.laws.fair_runs.Goals as goal
 
@@ -26,7 +26,7 @@ differ : (a b : ℕ) → nat_eq a b ≡ false → a ≡ b → ⊥
 differ a b h k = grind arith
 
 pub returns : goal.returns
-unfolding FirstDataFair AnswerUnderWayFair OldSessionFair HeldSlaveFair ProfileTwoFair ForgedDataFair OldConnectionFair computing hex_on_literals
+unfolding computing hex_on_literals
 returns c =
     let same : SameLengths master_values slave_values = record { master = refl; slave = refl } in
     let fair = λ (more : List Event) (p : AllByRecursion (IsProperEvent master_values slave_values) more) (none : NoOther (world master_values slave_values (until_data ++ more))). fair_run master_values slave_values (until_data ++ more) same (until-data more p) none in
@@ -38,6 +38,7 @@ returns c =
       old_session = fair (zs ∷ ds 8 ∷ ds 1 ∷ []) (tt, (tt, (tt, tt))) refl;
       held_slave = fair (hs true ∷ ds 1 ∷ dm 1 ∷ []) (tt, (tt, (tt, tt))) refl;
       profile_two = fair_run master_of_two (slave_of_two 7) (tm ∷ rounds 9 ++ ds 1 ∷ []) (record { master = refl; slave = refl }) of_two refl;
-      forged_data = (λ h. differ 1 255 refl (ap first_byte h.from_awaited.0.same_load), refl, before (rs (codes "36ff004ee90100") ∷ []) (tt, tt));
-      old_connection = (refl, before (zs ∷ ds 8 ∷ ds 7 ∷ []) (tt, (tt, (tt, tt))));
+      before_forged = (refl, before (rs (codes "36ff004ee90100") ∷ []) (tt, tt));
+      with_forged = λ h. differ 1 255 refl (ap first_byte h.from_awaited.0.same_load);
+      before_old = (refl, before (zs ∷ ds 8 ∷ ds 7 ∷ []) (tt, (tt, (tt, tt))));
     }
