@@ -3,8 +3,7 @@ pub use Rattle.file_run.specs.ByTitle.{ByTitle, IsTitled, first_line}
 pub use Rattle.file_run.specs.Ending.{AppendedPart, IsCutOff, LinesBefore, Writes}
 pub use Rattle.file_run.specs.Event.{FindsEvent, in_input, says_after, says_by, what_event}
 pub use Rattle.file_run.specs.Halt.{Blames, Goes, Halts, Stalls, TookOneAtMost}
-pub use Rattle.file_run.specs.HaltOf.{halt_of, halt_stopped}
-pub use Rattle.file_run.specs.Header.{HeaderSays, IsWholeHeader, most_lines}
+pub use Rattle.file_run.specs.Header.{Begins, HeaderSays, IsWholeHeader, most_lines}
 pub use Rattle.file_run.specs.Left.{Done, HaltsHeader, IsBegun, IsHeaderCutOff, IsOneAhead, IsUnmet, LeavesAll, LeavesAs, LeavesUnbegun, MayFailIn, StopsAfter, line_after}
 pub use Rattle.file_run.specs.Machine.{EndsReport, EndsStopped, EndsUnmet, Keeps, TakesEvent, input_headless, most_parts}
 pub use Rattle.file_run.specs.NextLine.{FindsLine, IsLent}
@@ -14,7 +13,7 @@ pub use Rattle.file_run.specs.Refusal.{input_cause}
 pub use Rattle.file_run.specs.Report.{ended_with, refused_line}
 pub use Rattle.file_run.specs.Reporting.{Always, BeginsReport, CutsReport, IsPrefix, MemoryUse, Reporting, ReportsSoFar, TakesMemory, input_stopped, refused_at}
 pub use Rattle.file_run.specs.Running.{HasRead, IsFullness, LeavesDone, Lines, Running, Runs, Saying, SaysSo, Seen, Sent, Standing, input_on, more_on, since}
-pub use Rattle.file_run.specs.Stop.{halted_by, last_of}
+pub use Rattle.file_run.specs.Stop.{halt_of, halt_stopped, halted_by, last_of}
 pub use Rattle.file_run.specs.WholeLines.{ReadsUpTo, TookLines, joined}
 pub use Rattle.file_run.specs.declared.halt.Halt.{Halt}
 pub use Rattle.file_run.specs.declared.refusal.Refusal.{Refusal}

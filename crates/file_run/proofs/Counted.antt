@@ -1,5 +1,5 @@
 -- What the counts of faults say at the end of a run.
-use Rattle.file_run.proofs.Common.{Blames, CountsFaults, Ended, Err, Halt, Option, Outside, Told, Writes, common_steps, halted_by, last_of}
+use Rattle.file_run.proofs.Common.{Blames, CountsFaults, Ended, EndsAs, Err, Halt, Option, Outside, RanOver, Reporting, Told, Writes, common_steps, halted_by, last_of}
 use Rattle.std.proofs.Common.{◌≡◌, ◌≤◌, ◌<◌, ℕ, List, ◌++◌, length, ◌∙◌, inl, inr, arith, rules}
 use Rattle.std.specs.Prelude.{◌≢◌}
 use Rattle.fsoe_io.specs.declared.status.Status.TheVariants as status
@@ -31,3 +31,7 @@ pub counted_halted : (T : Type 0) (o : Outside) (between : Option (List ℕ)) (r
     → (0 < length waiting → o.source.faults_after ≡ read) → faults ≡ o.sink.faults_before
     → Writes sent (waiting ++ last_of why) (halted_by why) result (record { before = between; after = o.sink.after; faults_before = faults; faults_after = o.sink.faults_after }) → faults ≤ o.sink.faults_after → CountsFaults result.status o
 counted_halted T o between read faults sent waiting why result h k l m n p q = search rules
+
+-- where neither a read nor a write failed, the status says how the input stops
+pub ran_by : {H L E : Type 0} (r : Reporting H L E) (ended : Ended) (o : Outside) → EndsAs r ended.status ended o → CountsFaults ended.status o → RanOver r ended o
+ran_by r ended o h k = grind arith

@@ -6,8 +6,7 @@ use Rattle.fsoe_io.specs.declared.status.Status.TheVariants as status
 use Rattle.file_run.specs.Left.{IsWhole}
 use Rattle.file_run.specs.declared.halt.Halt.TheVariants as halt
 use Rattle.file_run.specs.declared.stopped.Stopped.TheVariants as stopped
-use Rattle.file_run.proofs.Counted.{counted_halted, counted_last, counted_write}
-use Rattle.file_run.proofs.Exact.{ran_by}
+use Rattle.file_run.proofs.Counted.{counted_halted, counted_last, counted_write, ran_by}
 use Rattle.file_run.proofs.Running.{Reports, always_wants, as_whole, begun, by_seen, ended_next, event_seen, reads_failed, refused_after, stops_so}
 use Rattle.file_run.proofs.Sending.{begins_whole, cut_part, ends_write, grew_written, piece_part, rose_since, text_part}
 use Rattle.file_run.proofs.Taken.{halts_after, took_line}

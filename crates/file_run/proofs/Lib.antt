@@ -10,7 +10,6 @@ pub mod OnePart
 pub mod EndedWith
 pub mod Running
 pub mod Leaving
-pub mod Exact
 pub mod Counted
 pub mod Titled
 pub mod Unread

@@ -1,7 +1,8 @@
 -- Texts that go through a buffer part by part.
 use Rattle.file_run.proofs.Common.{Ended, Err, Loses, Ok, Option, OutputView, Passes, Puts, Result, Rose, Writes, append-nil, common_steps, grew_then, length-append, passes_none}
-use Rattle.std.proofs.Common.{◌≡◌, ℕ, false, List, [], ◌++◌, length, refl, arith, ap, ◌∙◌, sym, append_assoc, inl, inr}
+use Rattle.std.proofs.Common.{◌≡◌, ℕ, true, false, List, [], ◌∷◌, ◌++◌, length, refl, arith, ap, ◌∙◌, sym, append_assoc, inl, inr}
 use Rattle.std.specs.Prelude.{◌==◌, ◌≢◌}
+use Rattle.std.proofs.lemmas.Bool.{eqb-true}
 use Rattle.fsoe_io.specs.declared.status.Status.TheVariants as status
 use Rattle.file_run.proofs.Sending.{rose_since}
 
@@ -30,6 +31,10 @@ puts_both (Err e) old mid new w0 w1 w2 first then p q = (q.0, record { passes = 
 
 pub not_none : (ys xs : List ℕ) → xs ≡ ys → false ≡ length xs == 0 → ys ≢ []
 not_none ys xs h k = grind arith
+
+pub is_none : (ys xs : List ℕ) → xs ≡ ys → true ≡ length xs == 0 → ys ≡ []
+is_none [] xs h k = refl
+is_none (y ∷ ys) xs h k = absurd (omega (arith, eqb-true (length xs) 0 (sym k), ap (length {A = ℕ}) h))
 
 -- of a whole text some parts were put, and this is left
 pub record Putting (old now : OutputView) (w0 w : Option (List ℕ)) (whole left : List ℕ) : Type 0 where

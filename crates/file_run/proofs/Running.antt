@@ -1,10 +1,8 @@
 -- A run over the events of an input, whatever they do: what was read of it and what was written.
-use Rattle.file_run.proofs.Common.{Always, AtEnd, BeginsReport, Blames, CameToEnd, Consumes, Ended, EndsAs, EndsWhole, Err, FindsEvent, Grew, Halt, Halts, HaltsHeader, HasNoNewline, HasRead, IfSome, IfSome_then, InputCause, InputFormat, InputOf, IsFullness, IsHeaderCutOff, Keeps, LeavesUnbegun, MayWant, MemoryUse, NoLine, None, Option, OutputView, Outside, Passes, RanOver, Refusal, Refused, Reporting, ReportsReadLines, ReportsSoFar, Result, Running, Saying, SaysSo, Seen, Some, Stalls, Standing, Status, Stop, TakesEvent, TakesMemory, Writes, append-nil, halted_by, header_read, input_by, input_cause, input_headless, input_on, input_read, input_stopped, last_of, length-append, length_push, lines_of, more_on, most_parts, most_waiting, prepend_known, refused_at, refused_line, what_event}
+use Rattle.file_run.proofs.Common.{Always, AtEnd, Begins, BeginsReport, Blames, CameToEnd, Consumes, Ended, EndsAs, EndsWhole, Err, FindsEvent, Grew, Halt, Halts, HaltsHeader, HasNoNewline, HasRead, IfSome, IfSome_then, InputCause, InputFormat, InputOf, IsFullness, IsHeaderCutOff, Keeps, LeavesUnbegun, MayWant, MemoryUse, NoLine, None, Option, OutputView, Outside, Passes, RanOver, Refusal, Refused, Reporting, ReportsReadLines, ReportsSoFar, Result, Running, Saying, SaysSo, Seen, Some, Stalls, Standing, Status, Stop, TakesEvent, TakesMemory, Writes, append-nil, halted_by, header_read, input_by, input_cause, input_headless, input_on, input_read, input_stopped, last_of, length-append, length_push, lines_of, more_on, most_parts, most_waiting, prepend_known, refused_at, refused_line, what_event}
 use Rattle.std.proofs.Common.{◌≡◌, ℕ, ◌+◌, ◌*◌, ◌≤◌, Bool, List, [], ◌∷◌, ◌++◌, length, refl, arith, ap, ◌∙◌, sym, subst, rules}
-use Rattle.file_run.specs.Begun.{Begins}
 use Rattle.file_run.specs.declared.halt.Halt.TheVariants as halt
-use Rattle.file_run.proofs.Counted.{counted_halted}
-use Rattle.file_run.proofs.Exact.{ran_by}
+use Rattle.file_run.proofs.Counted.{counted_halted, ran_by}
 use Rattle.file_run.proofs.Lines.{by_line}
 use Rattle.file_run.proofs.Seen.{has_event, seen_none, seen_more, seen_same, input_refused, input_ended}
 use Rattle.file_run.proofs.Sending.{begins_whole, ends_from_none, sent_none, sent_piece, sent_flushed}

@@ -1,6 +1,6 @@
 -- What a run sent, and how it ends by that.
 use Rattle.file_run.proofs.Common.{AppendedPart, BeginsReport, CutsReport, Ended, EndsAs, FailedWrite, Grew, IfSome, IfSome_then, InputOf, IsCutOff, IsPrefix, Loses, Option, OutputView, Outside, Passes, Reporting, Rose, Told, Writes, append-nil, common_steps, grew_none, grew_then, input_read, length-append}
-use Rattle.std.proofs.Common.{◌≡◌, ℕ, ◌<◌, List, [], ◌++◌, length, arith, ap, ◌∙◌, sym, subst, append_assoc, inl, inr}
+use Rattle.std.proofs.Common.{◌≡◌, ℕ, ◌<◌, List, [], ◌++◌, length, arith, refl, ap, ◌∙◌, sym, subst, append_assoc, inl, inr}
 use Rattle.fsoe_io.specs.declared.status.Status.TheVariants as status
 pub use Rattle.file_run.specs.Running.{Sent}
 
@@ -18,16 +18,16 @@ sent_piece w0 w1 w2 waiting now text piece s p = record {
       ∙ ap (λ (z : List ℕ). z ++ piece) s.whole;
 }
 
--- a first part of a text went to the sink
-pub sent_part : (w0 w1 w2 : Option (List ℕ)) (waiting now : OutputView) (text piece rest : List ℕ) → Sent w0 w1 waiting text → Loses waiting now w1 w2 piece rest → AppendedPart w0 w2 now.sent (text ++ piece)
+-- where the sink failed in a piece, a first part of the text went to it, and so many bytes were sent
+pub piece_part : (w0 w1 w2 : Option (List ℕ)) (waiting now : OutputView) (text piece rest : List ℕ) (place : ℕ) → Sent w0 w1 waiting text → Loses waiting now w1 w2 piece rest → place ≡ now.sent → AppendedPart w0 w2 place (text ++ piece)
 unfolding sent_piece
-sent_part w0 w1 w2 waiting now text piece rest s l =
+piece_part w0 w1 w2 waiting now text piece rest place s l at =
     let p = l.passes in
     let q = sent_piece w0 w1 w2 waiting (record { bytes = rest; sent = now.sent }) text piece s (record { part = p.part; grew = p.grew; whole = p.whole; sent = p.sent }) in
     record {
       part = q.sent;
       grew = q.sink;
-      counts = q.count;
+      counts = at ∙ q.count;
       begins = (rest, sym q.whole);
       less = omega (arith, l.more, ap (length {A = ℕ}) q.whole, length-append q.sent rest);
     }
@@ -36,10 +36,7 @@ sent_part w0 w1 w2 waiting now text piece rest s l =
 pub sent_flushed : (w0 w1 w2 : Option (List ℕ)) (waiting now : OutputView) (text : List ℕ) → Sent w0 w1 waiting text → Passes waiting now w1 w2 [] now.bytes → Sent w0 w2 now text
 sent_flushed w0 w1 w2 waiting now text s p = subst (Sent w0 w2 now) (append-nil text) (sent_piece w0 w1 w2 waiting now text [] s p)
 
--- where the sink failed in a piece, so many bytes were sent
-pub piece_part : (w0 w1 w2 : Option (List ℕ)) (waiting now : OutputView) (text piece rest : List ℕ) (place : ℕ) → Sent w0 w1 waiting text → Loses waiting now w1 w2 piece rest → place ≡ now.sent → AppendedPart w0 w2 place (text ++ piece)
-piece_part w0 w1 w2 waiting now text piece rest place s p at = subst (λ (n : ℕ). AppendedPart w0 w2 n (text ++ piece)) (sym at) (sent_part w0 w1 w2 waiting now text piece rest s p)
-
+-- where no piece was put
 pub text_part : (w0 w1 w2 : Option (List ℕ)) (waiting now : OutputView) (text rest : List ℕ) (place : ℕ) → Sent w0 w1 waiting text → Loses waiting now w1 w2 [] rest → place ≡ now.sent → AppendedPart w0 w2 place text
 text_part w0 w1 w2 waiting now text rest place s p at = subst (AppendedPart w0 w2 place) (append-nil text) (piece_part w0 w1 w2 waiting now text [] rest place s p at)
 
@@ -52,7 +49,7 @@ cut_part w0 w1 waiting text last result sink s cut =
       passes = record { part = cut.part; grew = cut.grew; whole = cut.begins.1; sent = cut.place_is };
       more = omega (arith, cut.less, ap (length {A = ℕ}) cut.begins.1, length-append cut.part cut.begins.0);
     } in
-    sent_part w0 w1 sink.after waiting now text last cut.begins.0 s l
+    piece_part w0 w1 sink.after waiting now text last cut.begins.0 result.place s l refl
 
 -- all was sent
 pub grew_written : (w0 w1 w2 : Option (List ℕ)) (waiting : OutputView) (text last : List ℕ) → Sent w0 w1 waiting text → Grew w1 w2 (waiting.bytes ++ last) → Grew w0 w2 (text ++ last)

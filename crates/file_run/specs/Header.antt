@@ -1,5 +1,5 @@
 -- The header of an input. H is what it says.
-use Rattle.std.specs.Prelude.{◌≡◌, ℕ, List, ◌++◌, Option, Result, Ok, Err, Bool, IsTrue}
+use Rattle.std.specs.Prelude.{◌≡◌, ◌≤◌, ℕ, List, [], ◌++◌, Option, Result, Ok, Err, Bool, IsTrue}
 use Rattle.std.specs.Io.KnownBytes.{Consumes}
 use Rattle.schedule_file.specs.Input.{InputFormat, Stop, WholeHeaderOf, lines_of, header_read}
 use Rattle.schedule_file.specs.declared.line_cause.LineCause.{LineCause}
@@ -7,6 +7,7 @@ use Rattle.file_run.specs.declared.halt.Halt.{Halt}
 use Rattle.file_run.specs.declared.stopped.Untaken.{Untaken}
 use Rattle.file_run.specs.declared.stopped.Untaken.TheVariants as untaken
 use Rattle.file_run.specs.Left.{HaltsHeader}
+use Rattle.file_run.specs.Reporting.{Reporting}
 use Rattle.file_run.specs.WholeLines.{TookLines}
 
 -- no header has more lines: one of 64 ends with 512 application bytes each has fewer
@@ -33,3 +34,13 @@ IsWholeHeader f h lines old new = HeaderSays f (λ more. Ok (record { heading = 
 abbrev pub ReadsHeader : {H L E : Type 0} → InputFormat H L E → Bool → Result (Unit {0}) Halt → H → ℕ → Option (List ℕ) → Option (List ℕ) → Type 0
 ReadsHeader f takes (Ok read) h lines old new = IsWholeHeader f h lines old new × TookLines lines old new
 ReadsHeader f takes (Err why) h lines old new = HaltsHeader f (IsTrue takes) why old new
+
+-- a header was read whole, in so many lines: after it a machine stands for no events, and lines are read by what it
+-- says
+pub record Begins {H L E : Type 0} (r : Reporting H L E) (stands : H → List E → List ℕ → Type 0) (says : List ℕ → Result L LineCause) (lines : ℕ) (old new : Option (List ℕ)) : Type 0 where
+  pub heading : H
+  pub whole : IsWholeHeader r.format heading lines old new
+  pub took : TookLines lines old new
+  pub most : lines ≤ most_lines
+  pub stood : stands heading [] []
+  pub same : (text : List ℕ) → says text ≡ r.format.line heading text

@@ -1,9 +1,7 @@
-pub mod Begun
 pub mod ByTitle
 pub mod Ending
 pub mod Event
 pub mod Halt
-pub mod HaltOf
 pub mod Header
 pub mod Left
 pub mod Machine

@@ -2,8 +2,8 @@
 ghost use Rattle.std.specs.Io.KnownBytes.{prepend_known};
 ghost use Rattle.std.specs.Prelude.{◌≡◌, ◌≤◌, ℕ, List, Option, IfErr, IfOk, OnErr, OnOk, length};
 ghost use Rattle.fsoe_io.specs.Line.{IsLine, most_held};
-ghost use Rattle.file_run.specs.Begun.{Begins};
 ghost use Rattle.file_run.specs.Halt.{Halts, Blames, Stalls};
+ghost use Rattle.file_run.specs.Header.{Begins};
 ghost use Rattle.file_run.specs.Left.{HaltsHeader};
 ghost use Rattle.file_run.specs.NextLine.{IsLent};
 ghost use Rattle.file_run.specs.Reporting.{TakesMemory};

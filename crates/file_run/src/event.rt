@@ -56,11 +56,9 @@ pub(crate) fn next_event<F: Format, S: Source>(
     ensures later { S.faults source.old ≤ S.faults source.new }
     ensures cause { Blames result (S.faults source.old) (S.faults source.new) }
 {
-    match next_line(reader, source) {
-        Ok(()) => match read_after::<F>(reader.line(), full, grammar, said) {
-            Ok(()) => Ok(()),
-            Err(cause) => Err(Halt::Refused(reader.lines(), cause)),
-        },
-        Err(why) => Err(why),
+    next_line(reader, source)?;
+    match read_after::<F>(reader.line(), full, grammar, said) {
+        Ok(()) => Ok(()),
+        Err(cause) => Err(Halt::Refused(reader.lines(), cause)),
     }
 }

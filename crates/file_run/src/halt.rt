@@ -1,6 +1,6 @@
 //! Why reading of an input stopped.
 ghost use Rattle.std.specs.Prelude.{◌≡◌, ◌-◌, ◌^◌, ◌<◌};
-ghost use Rattle.file_run.specs.HaltOf.{halt_of, halt_stopped};
+ghost use Rattle.file_run.specs.Stop.{halt_of, halt_stopped};
 
 use crate::refusal::Refusal;
 use crate::stopped::Stopped;

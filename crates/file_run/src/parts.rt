@@ -11,36 +11,7 @@ use crate::machine::Machine;
 use crate::stop::{close, write_failed};
 use fsoe_io::{Ended, Failed, LineText, Output, Sink};
 
-/// Writes the pending text, part by part.
-fn put_waiting<M: Machine, K: Sink>(
-    machine: &mut M,
-    handed: &M::Handed,
-    text: &mut LineText,
-    output: &mut Output,
-    sink: &mut K,
-) -> Result<(), Failed>
-    requires stands { (first : M.Handed) × IsStanding (M.stands first machine.old handed.now) }
-    requires most { length output.old.bytes ≤ most_waiting }
-    requires room { output.old.sent + length output.old.bytes + 1024 * M.parts machine.old handed.now < 2 ^ 63 }
-    ensures puts { Puts result output.old output.new (K.written sink.old) (K.written sink.new) (M.waits machine.old handed.now) }
-    ensures count { OnOk result (output.new.sent + length output.new.bytes ≤ output.old.sent + length output.old.bytes + 1024 * M.parts machine.old handed.now) }
-    ensures most { OnOk result (length output.new.bytes ≤ most_waiting) }
-    ensures kept { (first : M.Handed) → Keeps (M.stands first machine.old handed.now) (M.stands first machine.new handed.now) }
-    ensures cause { HasCause (K.faults sink.old) (K.faults sink.new) result }
-{
-    loop {
-        machine.more(handed, text);
-        let part = text.bytes();
-        if part.is_empty() {
-            return Ok(());
-        }
-        if let Err(failed) = output.put(sink, part) {
-            return Err(failed);
-        }
-    }
-}
-
-/// Writes a first part, and then the pending text.
+/// Writes a first part, and then the pending text, part by part.
 pub(crate) fn put_text<M: Machine, K: Sink>(
     machine: &mut M,
     handed: &M::Handed,
@@ -56,9 +27,15 @@ pub(crate) fn put_text<M: Machine, K: Sink>(
     ensures kept { (first : M.Handed) → Keeps (M.stands first machine.old handed.now) (M.stands first machine.new handed.now) }
     ensures cause { HasCause (K.faults sink.old) (K.faults sink.new) result }
 {
-    match output.put(sink, text.bytes()) {
-        Ok(()) => put_waiting(machine, handed, text, output, sink),
-        Err(failed) => Err(failed),
+    loop {
+        let part = text.bytes();
+        if let Err(failed) = output.put(sink, part) {
+            return Err(failed);
+        }
+        machine.more(handed, text);
+        if text.bytes().is_empty() {
+            return Ok(());
+        }
     }
 }
 

@@ -44,7 +44,7 @@ fn rates_of(
 }
 
 /// The rates that arguments name: four, or none, where all are 0.
-#[tactic(auto, using(crate::proofs::Words::fewer, crate::proofs::Words::more))]
+#[tactic(auto, using(crate::proofs::Words::no_rates))]
 fn rates_said(words: &[String]) -> Option<Rates>
     ensures { result ≡ rates_said (map string_bytes words.now) }
 {

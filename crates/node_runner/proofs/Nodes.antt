@@ -1,12 +1,12 @@
 -- A node does over its events what looking back says, and reports it.
-use Rattle.std.proofs.Common.{◌≡◌, ℕ, ◌+◌, List, [], ◌∷◌, ◌++◌, length, refl, arith, ap, ◌∙◌, sym, subst, append_assoc}
+use Rattle.std.proofs.Common.{◌≡◌, ℕ, ◌+◌, List, [], ◌++◌, length, refl, arith, ap, ◌∙◌, sym, subst, append_assoc}
 use Rattle.fsoe_base.specs.declared.command.End.{End}
 use Rattle.fsoe_base.specs.declared.command.State.{State}
 use Rattle.fsoe_base.specs.declared.did.Did.{Did}
 use Rattle.fsoe_io.specs.declared.status.Ended.{Ended}
 use Rattle.schedule_file.specs.Event.{FitsEnd}
 use Rattle.schedule_file.specs.Header.{Heading}
-use Rattle.schedule_file.specs.Input.{AtEnd, own_length, heading_profile, input_of, schedule_format}
+use Rattle.schedule_file.specs.Input.{AtEnd, own_length, heading_profile, schedule_format}
 use Rattle.schedule_file.proofs.Fitting.{node_event_fits}
 use Rattle.schedule_file.specs.declared.event.Event.{Event}
 use Rattle.schedule_file.specs.declared.header_kind.HeaderKind.TheVariants as kind
@@ -25,10 +25,9 @@ use Rattle.end_core.specs.Standing.{IsAfter, IsNew, Follows, Answers, Shows}
 use Rattle.end_core.specs.declared.one_end.Core.{Core}
 use Rattle.node_runner.specs.Move.{move_of}
 use Rattle.node_runner.specs.Node.{FitsCore, NodeStands}
-use Rattle.node_runner.specs.Ran.{NodeReports, node_reporting}
+use Rattle.node_runner.specs.Ran.{node_reporting}
 use Rattle.node_runner.specs.Report.{IsSetTo, step_line, deed_line, deed_lines, deeds}
 use Rattle.node_runner.proofs.DeedLines.{count_deeds, deeds_more, lines_begin}
-use Rattle.node_runner.proofs.OneReport.{some_report}
 
 -- a new end that is set to what a header says
 pub begins : (end : End) (core : Core) (h : Heading) (s : Setup) → IsNew core → setup_of core ≡ s → IsSetTo end h s → NodeStands end core h [] []
@@ -40,17 +39,8 @@ begins end core h s new is set = record {
   lines = refl;
 }
 
--- the terms of an end that is set to what a header says are those that the header says
-pub record HasTerms (end : End) (h : Heading) (s : Setup) : Type 0 where
-  pub end_is : end_of s ≡ end
-  pub sends_is : sends s ≡ own_length h end
-  pub profile_is : profile_of s ≡ heading_profile h end
-
-set_terms : (end : End) (h : Heading) (s : Setup) → IsSetTo end h s → HasTerms end h s
-set_terms end h s k = grind arith
-
 -- what fits a header fits the end that is set to it
-fits_set : (end : End) (h : Heading) (s : Setup) (event : Event) → HasTerms end h s → FitsEnd end (own_length h end) (heading_profile h end) event
+fits_set : (end : End) (h : Heading) (s : Setup) (event : Event) → IsSetTo end h s → FitsEnd end (own_length h end) (heading_profile h end) event
     → FitsEnd (end_of s) (sends s) (profile_of s) event
 fits_set end h s event k l = grind arith
 
@@ -59,7 +49,7 @@ node_fits end core event number may =
     let k = may.stands in
     let said = may.said in
     subst (λ (s : Setup). FitsEnd (end_of s) (sends s) (profile_of s) event) (sym (setup_is k.setup core (deeds k.setup may.log) k.is_after))
-    (fits_set end may.heading k.setup event (set_terms end may.heading k.setup k.set) (node_event_fits end may.heading said.0 said.1 event said.2 said.3))
+    (fits_set end may.heading k.setup event k.set (node_event_fits end may.heading said.0 said.1 event said.2 said.3))
 
 -- an event at an end, which did this and sent this frame, and what is shown after it, as a line
 pub record Reports (old new : Core) (event : Event) (number : ℕ) (did : Did) (sent : List ℕ) (state : State) (outputs piece : List ℕ) : Type 0 where
@@ -76,28 +66,25 @@ line_is : (old new : Core) (event : Event) (number : ℕ) (did : Did) (sent : Li
     → piece ≡ deed_line s e (step s e (move_of event))
 line_is old new event number did sent state outputs piece h s e k l = grind arith
 
-node_goes : (end : End) (old new : Core) (event : Event) (number : ℕ) (did : Did) (sent : List ℕ) (state : State) (outputs piece : List ℕ)
-    → Reports old new event number did sent state outputs piece → (h : Heading) (log : List Event) (text : List ℕ) → number ≡ length log + 1 → NodeStands end old h log text
-    → NodeStands end new h (log ++ event ∷ []) (text ++ piece)
-node_goes end old new event number did sent state outputs piece r h log text n k =
-    let s : Setup = k.setup in
-    let e : List Deed = deeds s log in
-    let counted : number ≡ length e + 1 = omega (arith, n, count_deeds s log) in
-    let line = line_is old new event number did sent state outputs piece r s e counted k.is_after in
-    record {
-      setup = s;
-      set = k.set;
-      is_after = subst (IsAfter s new) (sym (deeds_more s log event)) (r.follows.is_after s e k.is_after);
-      rest = r.rest;
-      lines =
-          ap (λ (z : List ℕ). z ++ piece) k.lines
-          ∙ ap (λ (z : List ℕ). deed_lines s e ++ z) line
-          ∙ ap (deed_lines s) (sym (deeds_more s log event));
-    }
-
 pub node_goes_on : (end : End) (old new : Core) (event : Event) (number : ℕ) (did : Did) (sent : List ℕ) (state : State) (outputs piece : List ℕ) → Reports old new event number did sent state outputs piece
     → TakesEvent (NodeStands end old) (NodeStands end new) event number piece
-node_goes_on end old new event number did sent state outputs piece r = record { takes = node_goes end old new event number did sent state outputs piece r }
+node_goes_on end old new event number did sent state outputs piece r = record {
+  takes = λ h log text n k.
+      let s : Setup = k.setup in
+      let e : List Deed = deeds s log in
+      let counted : number ≡ length e + 1 = omega (arith, n, count_deeds s log) in
+      let line = line_is old new event number did sent state outputs piece r s e counted k.is_after in
+      record {
+        setup = s;
+        set = k.set;
+        is_after = subst (IsAfter s new) (sym (deeds_more s log event)) (r.follows.is_after s e k.is_after);
+        rest = r.rest;
+        lines =
+            ap (λ (z : List ℕ). z ++ piece) k.lines
+            ∙ ap (λ (z : List ℕ). deed_lines s e ++ z) line
+            ∙ ap (deed_lines s) (sym (deeds_more s log event));
+      };
+}
 
 -- the lines so far begin the report, and with a last line they are that of an input that stops after them
 pub node_so_far : (end : End) (core : Core) (h : Heading) (log : List Event) (text : List ℕ) → NodeStands end core h log text → ReportsSoFar (node_reporting end) h log text
@@ -125,7 +112,3 @@ pub node_ends : (end : End) (core : Core) (h : Heading) (log : List Event) (text
     → last ≡ events_line events → ended ≡ ended_at AtEnd → NodeStands end core h log text → EndsReport (node_reporting end) h log (text ++ last) ended
 node_ends end core h log text last events ended count is e k = λ n.
     ((text, (k.setup, k.set, k.lines), ap (λ (z : List ℕ). text ++ z) (is ∙ ap events_line (sym count))), e)
-
--- each input has a report
-pub some_node_report : (end : End) (bytes : List ℕ) → (report : List ℕ) × (ended : Ended) × NodeReports end (input_of (kind.Node end) bytes) ended report
-some_node_report end bytes = let report = some_report end bytes in (report.0, ended_at (input_of (kind.Node end) bytes).stop, (report.1, refl))

@@ -1,19 +1,16 @@
 //! The end that a node runs: one event at it, and its line of the report.
-ghost use Rattle.std.specs.Prelude.{◌≡◌, ◌≤◌, [], length};
-ghost use Rattle.fsoe_io.specs.declared.status.Status.TheVariants as status;
+ghost use Rattle.std.specs.Prelude.{◌≡◌, []};
 ghost use Rattle.schedule_file.specs.declared.header_kind.HeaderKind.TheVariants as kind;
 ghost use Rattle.end_core.specs.Core.{IsAtRest};
 ghost use Rattle.end_core.specs.Standing.{Follows, Answers};
-ghost use Rattle.file_run.specs.Report.{events_line};
-ghost use Rattle.node_runner.specs.Report.{step_line};
 ghost use Rattle.node_runner.specs.Move.{move_of};
 ghost use Rattle.node_runner.specs.Node.{FitsCore, NodeStands};
 
 use end_core::Core;
 use entry_text::push_entry;
-use file_run::{Machine, Schedule, Stopped, write_events};
-use fsoe_base::{Did, End, FrameBuf, MOST_DATA, Memory, State};
-use fsoe_io::{Ended, LineText, Status};
+use file_run::{Machine, Schedule, Stopped, ended_with, write_events};
+use fsoe_base::{Did, End, FrameBuf, Memory};
+use fsoe_io::{Ended, LineText};
 use schedule_file::{Event, Header, HeaderKind, MAX_EVENTS};
 
 /// The node at one end, with what it did last and the frame that it sent. Both are kept from one event to the next, so
@@ -68,37 +65,6 @@ fn step(core: &mut Core, event: &Event, did: &mut Did, sent: &mut FrameBuf)
     }
 }
 
-/// Writes the line of the event of this number, from 1.
-fn write_entry(
-    number: u64,
-    did: &Did,
-    state: State,
-    outputs: &[u8],
-    sent: &FrameBuf,
-    text: &mut LineText,
-)
-    requires { length outputs.now ≤ MOST_DATA }
-    ensures { text.new ≡ step_line number did.now state outputs.now sent.now }
-{
-    text.clear();
-    text.push_decimal(number);
-    text.push(b" ");
-    push_entry(did, state, outputs, sent.bytes(), text);
-    text.push(b"\n");
-}
-
-/// Writes the last line after `events` events.
-fn write_end(events: u64, text: &mut LineText) -> Ended
-    ensures text { text.new ≡ events_line events }
-    ensures ended { result ≡ record { status = status.Ok; place = 0 } }
-{
-    write_events(events, text);
-    Ended {
-        status: Status::Ok,
-        place: 0,
-    }
-}
-
 impl Machine for Node {
     ghost use Rattle.node_runner.specs.Node.{NodeStands};
     ghost use Rattle.node_runner.specs.Ran.{node_reporting};
@@ -145,19 +111,23 @@ impl Machine for Node {
         text: &mut LineText,
     ) -> Result<(), Stopped> {
         step(&mut self.core, event, &mut self.did, &mut self.sent);
-        write_entry(
-            number,
+        text.clear();
+        text.push_decimal(number);
+        text.push(b" ");
+        push_entry(
             &self.did,
             self.core.state(),
             self.core.outputs(),
-            &self.sent,
+            self.sent.bytes(),
             text,
         );
+        text.push(b"\n");
         Ok(())
     }
 
     fn close(&mut self, _: &End, events: u64, text: &mut LineText) -> Ended {
-        write_end(events, text)
+        write_events(events, text);
+        ended_with(None)
     }
 
     fn more(&mut self, _: &End, text: &mut LineText) {

@@ -1,4 +1,3 @@
 pub mod Noting
 pub mod Picked
-pub mod Refused
 pub mod SetUp

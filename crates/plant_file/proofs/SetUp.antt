@@ -1,6 +1,6 @@
--- What runs where a configuration has no fault.
+-- What comes of a configuration, or of a text that is none.
 use Rattle.std.proofs.Common.{◌≡◌, ℕ, List, [], length, map, refl, slice_index_or, slice_set, arith, rules}
-use Rattle.std.specs.Prelude.{Option, Some, None, Ok, string_bytes}
+use Rattle.std.specs.Prelude.{◌≢◌, Option, Some, None, Ok, Err, string_bytes}
 use Rattle.std.proofs.lemmas.Option.{slice_get_read}
 use Rattle.fsoe_io.specs.declared.status.Ended.{Ended}
 use Rattle.fsoe_io.specs.declared.status.Status.TheVariants as status
@@ -11,10 +11,13 @@ use Rattle.fb_net.specs.declared.kind_of.KindOf.{KindOf}
 use Rattle.fb_net.specs.declared.kind_of.KindOf.TheVariants as kind
 use Rattle.file_run.specs.Outside.{Outside}
 use Rattle.plant_conf.specs.ConfView.{ConfView}
+use Rattle.plant_conf.specs.declared.fault.ConfFault.{ConfFault}
+use Rattle.plant_conf.specs.declared.fault.ConfFault.TheVariants as fault
 use Rattle.plant_setup.specs.ConfigLine.{config_line}
 use Rattle.plant_setup.specs.Names.{place_of}
 use Rattle.plant_setup.specs.Setup.{IsChosen, net_of, setup_fault}
 use Rattle.plant_setup.specs.declared.fault.SetupFault.{SetupFault}
+use Rattle.plant_setup.specs.declared.fault.SetupFault.TheVariants as setup
 use Rattle.multi_master.specs.Calls.{AppView}
 use Rattle.plant_model.specs.NetCycles.{net_app}
 use Rattle.plant_model.specs.Past.{Named}
@@ -71,3 +74,8 @@ set_up_ran Ran app_of name_of tells conf taken apps spare app seen channels plac
       ran = ran_whole Ran conf taken seen (map (entry_seen app_of) spare) ended o (tells before) (tells after) steps rest ran;
       by_net = answers_by_net (net_of conf) new (begins_with conf seen);
     })
+
+-- the line of the first fault of a text is what it comes to, where there was memory to read it
+pub text_refused : {C : Type 0} (Ran : PlantRun) (why : ConfFault) (ended : Ended) (o : Outside) (h : Handed C) → why ≢ fault.Memory → WroteLine (config_line (setup.Conf why)) status.Config ended o h → RanSaid Ran (Err why) ended o h
+text_refused Ran fault.Memory ended o h other wrote = absurd (other refl)
+text_refused Ran _ ended o h other wrote = wrote

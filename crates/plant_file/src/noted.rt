@@ -7,7 +7,7 @@ ghost use Rattle.file_run.specs.Outside as outside;
 ghost use Rattle.multi_master.specs.Standing.{app_view};
 ghost use Rattle.plant_run.specs.Given.{terms_of};
 ghost use Rattle.plant_file.specs.JournalText.{journal_text};
-ghost use Rattle.plant_file.specs.Noted.{RanNoted, RanWanted};
+ghost use Rattle.plant_file.specs.Noted.{RanWanted};
 
 use crate::journal_line::write_line;
 use black_channel::Channel;
@@ -80,35 +80,6 @@ fn write_journal<K: Sink>(steps: &[JournalStep], ended: Ended, sink: &mut K) -> 
     }
 }
 
-/// Runs a plant as `run_plant` does, and writes its journal in place of its report.
-fn run_noted<H: Application, C: Channel, S: Source, K: Sink>(
-    alloc: Global,
-    conf: &PlantConf,
-    app: KindOf<H>,
-    channel: &mut C,
-    spare: Vec<EntryOf<H>>,
-    source: &mut S,
-    sink: &mut K,
-    journal: &mut Journal,
-) -> Ended
-    requires empty { journal.old ≡ [] }
-    ensures { let A = ⟦<KindOf<H> as Application>⟧ in RanNoted (terms_of (app_view A.rule A.holds A.guards) conf.now app spare.items) result
-        (record { source = outside.told S.left S.faults source.old source.new; sink = outside.told K.written K.faults sink.old sink.new })
-        (C.told channel.old) (C.told channel.new) journal.new }
-{
-    let ended = run_plant(
-        alloc,
-        conf,
-        app,
-        channel,
-        spare,
-        source,
-        &mut Nowhere,
-        journal,
-    );
-    write_journal(journal.steps(), ended, sink)
-}
-
 /// Runs a plant, and writes what is wanted of it.
 pub(crate) fn run_wanted<H: Application, C: Channel, S: Source, K: Sink>(
     alloc: Global,
@@ -128,6 +99,18 @@ pub(crate) fn run_wanted<H: Application, C: Channel, S: Source, K: Sink>(
 {
     match wanted {
         Wanted::Report => run_plant(alloc, conf, app, channel, spare, source, sink, journal),
-        Wanted::Journal => run_noted(alloc, conf, app, channel, spare, source, sink, journal),
+        Wanted::Journal => {
+            let ended = run_plant(
+                alloc,
+                conf,
+                app,
+                channel,
+                spare,
+                source,
+                &mut Nowhere,
+                journal,
+            );
+            write_journal(journal.steps(), ended, sink)
+        }
     }
 }

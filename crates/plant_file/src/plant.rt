@@ -3,13 +3,11 @@ ghost use Rattle.std.specs.Prelude.{◌≡◌, ◌≢◌, ◌≤◌, ℕ, List, 
 ghost use Rattle.fsoe_io.specs.declared.status.Status.TheVariants as status;
 ghost use Rattle.file_run.specs.Ending.{Writes};
 ghost use Rattle.file_run.specs.Outside as outside;
-ghost use Rattle.plant_conf.specs.declared.fault.ConfFault.TheVariants as fault;
 ghost use Rattle.plant_setup.specs.ConfigLine.{config_line};
-ghost use Rattle.plant_setup.specs.declared.fault.SetupFault.TheVariants as setup;
 ghost use Rattle.multi_master.specs.Standing.{app_view};
 ghost use Rattle.plant_file.specs.Handed.{handed};
 ghost use Rattle.plant_file.specs.Noted.{RanWanted};
-ghost use Rattle.plant_file.specs.Plant.{RanFile, RanSaid, RanText};
+ghost use Rattle.plant_file.specs.Plant.{RanFile, RanSaid};
 
 use crate::noted::{Wanted, run_wanted};
 use black_channel::Channel;
@@ -43,18 +41,6 @@ fn refuse<K: Sink>(why: SetupFault, sink: &mut K) -> Ended
         place: 0,
     };
     write_report(sink, line.bytes(), ended)
-}
-
-/// Writes the line that reports why a text is no configuration; nothing if there was no memory to read it.
-fn refuse_text<K: Sink>(why: ConfFault, sink: &mut K) -> Ended
-    ensures memory { why ≡ fault.Memory → (result ≡ record { status = status.Memory; place = 0 }) × (sink.new ≡ sink.old) }
-    ensures writes { why ≢ fault.Memory → Writes 0 (config_line (setup.Conf why)) (record { status = status.Config; place = 0 }) result (outside.told K.written K.faults sink.old sink.new) }
-    ensures later { K.faults sink.old ≤ K.faults sink.new }
-{
-    match why {
-        ConfFault::Memory => NO_MEMORY,
-        _ => refuse(SetupFault::Conf(why), sink),
-    }
 }
 
 /// Runs a plant of this configuration over its script, with the application and the channel that it names. If it can't
@@ -94,29 +80,6 @@ fn run_conf<S: Source, K: Sink>(
     }
 }
 
-/// Runs a plant by the text of its configuration.
-fn run_text<S: Source, K: Sink>(
-    alloc: Global,
-    text: &[u8],
-    source: &mut S,
-    sink: &mut K,
-    apps: Vec<AppEntry>,
-    channels: &mut Vec<Box<dyn Channel>>,
-    journal: &mut Journal,
-    wanted: Wanted,
-) -> Ended
-    requires empty { journal.old ≡ [] }
-    ensures ran { let A = ⟦<Box<dyn Application> as Application>⟧ in let C = ⟦<Box<dyn Channel> as Channel>⟧ in
-        RanText (RanWanted wanted) text.now result
-        (record { source = outside.told S.left S.faults source.old source.new; sink = outside.told K.written K.faults sink.old sink.new })
-        (handed (app_view A.rule A.holds A.guards) C.name C.told apps.items channels.old.items channels.new.items journal.new) }
-{
-    match read_conf(alloc, text) {
-        Ok(conf) => run_conf(alloc, conf, source, sink, apps, channels, journal, wanted),
-        Err(why) => refuse_text(why, sink),
-    }
-}
-
 /// Runs a plant by the configuration that a desk has under this name.
 pub fn run_file<D: Desk, S: Source, K: Sink>(
     alloc: Global,
@@ -138,16 +101,11 @@ pub fn run_file<D: Desk, S: Source, K: Sink>(
     ensures others { (other : List ℕ) → other ≢ file.now → D.faults desk.new other ≡ D.faults desk.old other }
 {
     match desk.load(file, MAX_CONFIG) {
-        Ok(text) => run_text(
-            alloc,
-            text.as_slice(),
-            source,
-            sink,
-            apps,
-            channels,
-            journal,
-            wanted,
-        ),
+        Ok(text) => match read_conf(alloc, text.as_slice()) {
+            Ok(conf) => run_conf(alloc, conf, source, sink, apps, channels, journal, wanted),
+            Err(ConfFault::Memory) => NO_MEMORY,
+            Err(why) => refuse(SetupFault::Conf(why), sink),
+        },
         Err(LoadFault::Failed) => {
             let ended = Ended {
                 status: Status::Desk,
