@@ -3,7 +3,7 @@ pub use Rattle.black_channel.specs.Altered.{altered, back_th}
 pub use Rattle.black_channel.specs.Window.{Pushes, WindowView, window_of}
 pub use Rattle.duo_run.specs.Acts.{Comes, Hears, move_at}
 pub use Rattle.duo_run.specs.Bulk.{entries_of, number_line, report_of, summary_lines}
-pub use Rattle.duo_run.specs.Convert.{ConvertWrite, ConvertedAs, ConvertsReadLines, IsOnePair, RanConvert, SaysTheSame, WroteAll, converted, converted_by, ended_at_stop, event_text, header_text, last_text, line_text, only_pair, title_text}
+pub use Rattle.duo_run.specs.Convert.{ConvertWrite, ConvertedAs, ConvertsReadLines, IsOnePair, RanConvert, SaysTheSame, WroteAll, converted, converted_by, ended_at_stop, event_text, header_text, last_text, line_text, lines_before, only_pair, title_text}
 pub use Rattle.duo_run.specs.Converting.{FindsTaken, LineTaken, PairRead, end_taken, event_taken, full_taken, header_piece, header_taken, later_taken, left_to_take, line_taken, read_none, taken_by}
 pub use Rattle.duo_run.specs.Duo.{Advances, CountsEntry, DuoStands, DuoView, IsDuo, Misses, NextEntry, ReplayStands, ShowsLast, Steps, lengths_of, profiles_of, sent_by, steps_done}
 pub use Rattle.duo_run.specs.Pairs.{Pair, done_after, entries_over, entry_after, events_by, events_done, events_to, is_met, is_met_by, least, less_of, other_event, other_events, world_of}
@@ -33,7 +33,7 @@ pub use Rattle.file_run.proofs.Sending.{Sent, cut_part, grew_written, piece_part
 pub use Rattle.file_run.proofs.Taken.{halts_after, took_line, took_none, took_one}
 pub use Rattle.file_run.specs.ByTitle.{ByTitle, IsTitled, first_line}
 pub use Rattle.file_run.specs.Ending.{AppendedPart, Writes}
-pub use Rattle.file_run.specs.Machine.{EndsReport, EndsUnmet, IsSaid, MayCome, TakesEvent}
+pub use Rattle.file_run.specs.Machine.{EndsReport, EndsUnmet, MayCome, TakesEvent}
 pub use Rattle.file_run.specs.Outside.{CountsFaults, Outside, Told, Wrote}
 pub use Rattle.file_run.specs.Ran.{EndsWhole, RanOver, line_of_end}
 pub use Rattle.file_run.specs.Refusal.{input_cause}
@@ -61,7 +61,7 @@ pub use Rattle.schedule_file.specs.Event.{Fits, IsWritable, made_profiles, profi
 pub use Rattle.schedule_file.specs.Field.{bytes_said, fields_of, is_number, number_said}
 pub use Rattle.schedule_file.specs.Fields.{by_word, one_field, value_or}
 pub use Rattle.schedule_file.specs.Header.{Heading, IsMasterOf, IsSlaveOf, fields_taken, heading_after, heading_is_whole, heading_new, heading_with, profile_given, profile_taken, rule_place, title_taken}
-pub use Rattle.schedule_file.specs.Input.{AtEnd, Input, InputCause, InputOf, Line, Long, NoFrame, NoLine, Refused, Stop, TooMany, WholeHeader, WholeHeaderOf, event_of, header_in, header_of, header_step, heading_profile, input_after, input_by, input_of, input_read, is_full, lines_in, lines_of, open_line, own_length, said_after, schedule_format, steps, stop_at, stop_by, stop_full, texts, with_room}
+pub use Rattle.schedule_file.specs.Input.{AtEnd, Input, InputCause, InputOf, Line, Long, NoFrame, NoLine, Refused, Stop, TooMany, WholeHeader, WholeHeaderOf, event_of, header_in, header_of, header_step, heading_profile, input_after, input_by, input_of, is_full, lines_in, lines_of, open_line, own_length, said_after, schedule_format, steps, stop_at, stop_by, stop_full, texts, with_room}
 pub use Rattle.schedule_file.specs.Made.{event_at, event_by, event_in_turn, is_switch_on, load_of, made, made_lengths, made_master, made_slave, mask_of, place_of, word_after}
 pub use Rattle.schedule_file.specs.NodeHeader.{may_end}
 pub use Rattle.schedule_file.specs.PairEvent.{pair_event, pair_line, pair_said, pair_word_of}
@@ -85,6 +85,6 @@ pub use Rattle.std.proofs.lemmas.Result.{IfOk-at_ok}
 pub use Rattle.std.proofs.lemmas.Slice.Zip.{AllZip-left, AllZip-long, AllZip-right, all_zipped_more}
 pub use Rattle.std.specs.Io.KnownBytes.{Consumes, prepend_known}
 pub use Rattle.std.specs.List.{AllZip, flat_map, join_with_byte, list_all, slice_split}
-pub use Rattle.std.specs.Prelude.{Err, IfOk, IfSome, IsOk, IsSomeAnd, MatchResult, None, Ok, OnErr, OnOk, Result, Some, codes, decimal, is_some, nat_le, nat_lt, slice_get, slice_index}
+pub use Rattle.std.specs.Prelude.{Err, IfOk, IfSome, IsOk, IsSomeAnd, None, Ok, OnErr, OnOk, Result, Some, codes, decimal, is_some, nat_le, nat_lt, slice_get, slice_index}
 pub use Rattle.std.specs.Str.{all_ascii_digits, bytes_eq}
 pub use Rattle.std.specs.declared.option.Option.{Option}

@@ -33,11 +33,14 @@ pub record CanStep (duos : List DuoView) : Type 0 where
   pub stand : AllStandOver pairs own duos
   pub few : (k : ℕ) → length (own k) + 1 < 2 ^ 64
 
--- for each pair the number of this event is noted, where an entry of it is other and none was noted before
+-- the number of this event is noted for the pair in a place, where an entry of it is other and none was noted before
+abbrev pub Notes : ℕ → List DuoView → ℕ → Option ℕ → Option ℕ → Type 0
+Notes number duos j noted now = (v : DuoView) (ms : MasterSettings) (ss : SlaveSettings) (w : List Entry) → slice_get duos j ≡ Some v → DuoStands ms ss v w → now ≡ first_of_both noted (is_some (first_other w)) number
+
+-- so for each pair
 pub record NotesOthers (number : ℕ) (duos : List DuoView) (old new : List (Option ℕ)) : Type 0 where
   pub many : length new ≡ length old
-  pub each : (j : ℕ) (v : DuoView) (noted : Option ℕ) (ms : MasterSettings) (ss : SlaveSettings) (w : List Entry)
-      → slice_get duos j ≡ Some v → slice_get old j ≡ Some noted → DuoStands ms ss v w → slice_get new j ≡ Some (first_of_both noted (is_some (first_other w)) number)
+  pub each : (j : ℕ) (noted now : Option ℕ) → slice_get old j ≡ Some noted → slice_get new j ≡ Some now → Notes number duos j noted now
 
 -- at this event the pair of a number does the next entry of its world, which is this one, and its steps are counted
 pub record StepsAt (k : ℕ) (old : List DuoView) (event : Event) (x : Entry) (new : List DuoView) : Type 0 where

@@ -34,22 +34,9 @@ fn takes_data(did: &Did) -> bool
 }
 
 impl Counts {
-    ghost use Rattle.std.specs.Prelude.{◌≡◌, ◌+◌, [], is_some, if◌then◌else◌};
-    ghost use Rattle.fsoe_base.specs.declared.command.State.TheVariants as state;
+    ghost use Rattle.std.specs.Prelude.{◌≡◌, ◌+◌, is_some, if◌then◌else◌};
     ghost use Rattle.exchange_model.specs.Fair.{data_taken};
     ghost use Rattle.duo_run.specs.Duo.{HasRoom};
-
-    /// What is told of an end without an entry.
-    fn new() -> Counts
-        ensures { result ≡ record { taken = 0; resets = 0; drops = 0; state = state.Reset } }
-    {
-        Counts {
-            taken: 0,
-            resets: 0,
-            drops: 0,
-            state: State::Reset,
-        }
-    }
 
     /// Counts the next entry of the end.
     fn note(&mut self, did: &Did, state: State)
@@ -81,9 +68,15 @@ impl Summary {
     pub(crate) fn new() -> Summary
         ensures { result ≡ summary_of [] }
     {
+        let none = Counts {
+            taken: 0,
+            resets: 0,
+            drops: 0,
+            state: State::Reset,
+        };
         Summary {
-            master: Counts::new(),
-            slave: Counts::new(),
+            master: none,
+            slave: none,
         }
     }
 

@@ -1,6 +1,6 @@
 -- What the lines of a pair file are converted to one by one is what the file is converted to.
-use Rattle.duo_run.proofs.Common.{AtEnd, Ended, Err, Event, Heading, InputCause, Line, LineCause, LineTaken, MatchResult, NoLine, Ok, PairRead, Refused, Result, ScheduleLine, Stop, TooMany, WholeHeader, append-nil, bytes_eq, codes, converted_by, end_taken, ended_at_stop, event_of, event_taken, event_text, flat_map, full_taken, header_in, header_of, header_piece, header_step, header_taken, header_text, heading_after, heading_is_whole, heading_new, input_after, input_by, is_full, last_text, later_taken, length_push, line_of_end, line_taken, line_text, lines_of, read_none, refused_at, refused_line, said_after, schedule_format, slice_get, steps, stop_at, stop_by, stop_full, texts, with_room}
-use Rattle.std.proofs.Common.{◌≡◌, ℕ, suc, ◌+◌, ◌-◌, Bool, true, false, List, [], ◌∷◌, ◌++◌, length, take, map, refl, ap, ◌∙◌, sym, subst, append_assoc, add-zero, arith, rules}
+use Rattle.duo_run.proofs.Common.{AtEnd, Ended, Err, Event, Heading, IfOk, InputCause, Line, LineCause, LineTaken, NoLine, Ok, PairRead, Refused, Result, ScheduleLine, Stop, TooMany, WholeHeader, append-nil, bytes_eq, codes, converted_by, end_taken, ended_at_stop, event_of, event_taken, event_text, flat_map, full_taken, header_in, header_of, header_piece, header_step, header_taken, header_text, heading_after, heading_is_whole, heading_new, input_after, input_by, is_full, last_text, later_taken, length_push, line_of_end, line_taken, line_text, lines_before, lines_of, read_none, refused_at, refused_line, said_after, schedule_format, slice_get, steps, stop_at, stop_by, stop_full, texts, with_room}
+use Rattle.std.proofs.Common.{◌≡◌, ℕ, suc, ◌+◌, Bool, true, false, List, [], ◌∷◌, ◌++◌, length, take, map, refl, ap, ◌∙◌, sym, subst, append_assoc, add-zero, arith, rules}
 use Rattle.std.specs.Prelude.{◌==◌, if◌then◌else◌}
 use Rattle.schedule_file.specs.declared.event.ScheduleLine.TheVariants as said
 use Rattle.schedule_file.specs.declared.header_kind.HeaderKind.TheVariants as kind
@@ -49,7 +49,7 @@ later_whole n number stop lines = record { text = flat_map event_text (take n li
 abbrev pub events_in : Heading → List Event → Lines → List Event
 events_in h log lines = with_room is_full log (steps event_of (map (said_after kind.Pair h) (texts lines)))
 
-abbrev reading : Heading → List Event → PairRead
+abbrev pub reading : Heading → List Event → PairRead
 reading h log = record { heading = h; events = length log }
 
 -- the same, where these are the events
@@ -91,7 +91,7 @@ full_line : (number : ℕ) (r : PairRead) (text : List ℕ) (later : PairRead �
 full_line number r text later is_end = grind arith
 
 -- the events that stand in these lines, where the first says this
-abbrev events_by : Heading → List Event → Lines → Result ScheduleLine LineCause → List Event
+abbrev pub events_by : Heading → List Event → Lines → Result ScheduleLine LineCause → List Event
 events_by h log rest says = with_room is_full log (steps event_of (says ∷ map (said_after kind.Pair h) (texts rest)))
 
 none_when_full : (h : Heading) (log : List Event) (rest : Lines) (says : Result ScheduleLine LineCause) → is_full log ≡ true → events_by h log rest says ≡ []
@@ -113,7 +113,7 @@ line_told h number log text rest later false _ e d =
     ap (λ (s : Result ScheduleLine LineCause). last_whole number (stop_line number text false s)) (sym d)
     ∙ ap (λ (b : Bool). last_whole number (stop_line number text b (said_after kind.Pair h text))) (sym e) ∙ sym (no_events h number log text rest)
 
-told_events : (h : Heading) → heading_is_whole h ≡ true → (number : ℕ) (log : List Event) (lines : Lines) → told number (reading h log) lines ≡ result_of h number log lines (events_in h log lines)
+pub told_events : (h : Heading) → heading_is_whole h ≡ true → (number : ℕ) (log : List Event) (lines : Lines) → told number (reading h log) lines ≡ result_of h number log lines (events_in h log lines)
 told_events h whole number log [] = ap (λ (n : ℕ). refused_whole n NoLine) (sym (add-zero number))
 told_events h whole number log (Err why ∷ rest) = ap (λ (n : ℕ). refused_whole n why) (sym (add-zero number))
 told_events h whole number log (Ok text ∷ rest) =
@@ -128,19 +128,31 @@ pieces false lines = flat_map line_text lines
 no_part : (first : Bool) (lines : List (List ℕ)) (w : Whole) → w ≡ after_part (pieces first (take 0 lines)) w
 no_part first lines w = grind arith
 
--- how the lines of a header go on, where so many stand before them: it is done, or a line is refused
-abbrev pub Heads : ℕ → Lines → Whole → WholeHeader → Type 0
-Heads m lines whole headed =
-    (j : ℕ) × (headed.lines ≡ m + j) × (heading_is_whole headed.heading ≡ true)
-    × (whole ≡ after_part (pieces (m + 1 == 1) (take j (texts lines))) (told (headed.lines + 1) (reading headed.heading []) headed.rest))
+-- the number of the line that ends an input, by its header
+abbrev pub last_number : Result WholeHeader Stop → ℕ
+last_number (Ok headed) = line_of_end (input_after (schedule_format kind.Pair) headed)
+last_number (Err AtEnd) = 1
+last_number (Err (Refused number why)) = number
 
-abbrev pub Halts : ℕ → Lines → Whole → Stop → Type 0
-Halts m lines whole stop = (j : ℕ) × (why : InputCause) × (stop ≡ Refused (m + j + 1) why) × (whole ≡ after_part (pieces (m + 1 == 1) (take j (texts lines))) (refused_whole (m + j + 1) why))
+-- what is written after the lines of a header that ends so
+abbrev after_header : Result WholeHeader Stop → Whole
+after_header (Ok headed) = told (headed.lines + 1) (reading headed.heading []) headed.rest
+after_header (Err stop) = last_whole (last_number (Err stop)) stop
 
-halts_here : (m : ℕ) (lines : Lines) (why : InputCause) → Halts m lines (refused_whole (m + 1) why) (Refused (m + 1) why)
-halts_here m lines why =
-    let at : m + 1 ≡ m + 0 + 1 = omega arith in
-    (0, why, ap (λ (n : ℕ). Refused n why) at, ap (λ (n : ℕ). refused_whole n why) at ∙ no_part (m + 1 == 1) (texts lines) (refused_whole (m + 0 + 1) why))
+-- how many lines these are
+abbrev lines_headed : Result WholeHeader Stop → ℕ
+lines_headed (Ok headed) = headed.lines
+lines_headed (Err stop) = lines_before stop
+
+-- how the lines of a header go on, where so many stand before them
+record Goes (m : ℕ) (lines : Lines) (whole : Whole) (headed : Result WholeHeader Stop) : Type 0 where
+  j : ℕ
+  count : lines_headed headed ≡ m + j
+  ends : IfOk headed (λ whole. heading_is_whole whole.heading ≡ true)
+  is : whole ≡ after_part (pieces (m + 1 == 1) (take j (texts lines))) (after_header headed)
+
+halts_here : (m : ℕ) (lines : Lines) (why : InputCause) → Goes m lines (refused_whole (m + 1) why) (Err (Refused (m + 1) why))
+halts_here m lines why = record { j = 0; count = omega arith; ends = tt; is = no_part (m + 1 == 1) (texts lines) (refused_whole (m + 1) why) }
 
 pub two_parts : (p q : List ℕ) (w : Whole) → after_part p (after_part q w) ≡ after_part (p ++ q) w
 two_parts p q w = ap (λ (t : List ℕ). record w { text = t }) (sym (append_assoc p q w.text))
@@ -149,51 +161,30 @@ piece_before : (m : ℕ) (line : List ℕ) (rest : Lines) (j : ℕ) (whole w : W
     → after_part (header_piece (m + 1) line) whole ≡ after_part (pieces (m + 1 == 1) (line ∷ take j (texts rest))) w
 piece_before m line rest j whole w h = search (rules, two_parts)
 
-goes_later : (m : ℕ) (line : List ℕ) (rest : Lines) (whole : Whole) (r : Result WholeHeader Stop) → MatchResult r (Heads (m + 1) rest whole) (Halts (m + 1) rest whole)
-    → MatchResult r (Heads m (Ok line ∷ rest) (after_part (header_piece (m + 1) line) whole)) (Halts m (Ok line ∷ rest) (after_part (header_piece (m + 1) line) whole))
-goes_later m line rest whole (Ok headed) h =
-    (suc h.0, h.1 ∙ omega arith, h.2, piece_before m line rest h.0 whole (told (headed.lines + 1) (reading headed.heading []) headed.rest) h.3)
-goes_later m line rest whole (Err stop) h =
-    let at : m + 1 + h.0 + 1 ≡ m + suc h.0 + 1 = omega arith in (
-      suc h.0,
-      h.1,
-      h.2 ∙ ap (λ (n : ℕ). Refused n h.1) at,
-      piece_before m line rest h.0 whole (refused_whole (m + 1 + h.0 + 1) h.1) h.3 ∙ ap (λ (n : ℕ). after_part (pieces (m + 1 == 1) (line ∷ take h.0 (texts rest))) (refused_whole n h.1)) at,
-    )
-
 -- what is written of the lines of a header, which is done or goes no further
-abbrev of_heading : ℕ → PairRead → List ℕ → Lines → Result Heading LineCause → Whole
-of_heading m r line rest next = told_by (m + 1) (header_taken (m + 1) r line next) (λ next. told (m + 1 + 1) next rest)
+abbrev pub of_heading : ℕ → PairRead → List ℕ → Lines → Result Heading LineCause → Whole
+of_heading number r line rest next = told_by number (header_taken number r line next) (λ next. told (number + 1) next rest)
 
-abbrev pub Goes : ℕ → Lines → Whole → Result WholeHeader Stop → Type 0
-Goes m lines whole r = MatchResult r (Heads m lines whole) (Halts m lines whole)
+pub heading_line : (number : ℕ) (h : Heading) (line : List ℕ) (rest : Lines) → heading_is_whole h ≡ false → of_heading number (reading h []) line rest (heading_after h line) ≡ told number (reading h []) (Ok line ∷ rest)
+heading_line number h line rest open_yet = grind arith
+
+heading_goes : (m : ℕ) (line : List ℕ) (rest : Lines) (next : Heading) (done : Bool) → heading_is_whole next ≡ done
+    → (heading_is_whole next ≡ false → Goes (m + 1) rest (told (m + 1 + 1) (reading next []) rest) (header_in (schedule_format kind.Pair) (m + 1 + 1) next rest))
+    → Goes m (Ok line ∷ rest) (after_part (header_piece (m + 1) line) (told (m + 1 + 1) (reading next []) rest)) (if done then Ok (record { heading = next; lines = m + 1; rest = rest }) else header_in (schedule_format kind.Pair) (m + 1 + 1) next rest)
+heading_goes m line rest next true whole later = record { j = 1; count = refl; ends = whole; is = piece_before m line rest 0 _ _ (no_part (m + 1 + 1 == 1) (texts rest) (told (m + 1 + 1) (reading next []) rest)) }
+heading_goes m line rest next false more later = let goes = later more in record { j = suc goes.j; count = goes.count ∙ omega arith; ends = goes.ends; is = piece_before m line rest goes.j _ _ goes.is }
 
 heading_told : (m : ℕ) (h : Heading) (line : List ℕ) (rest : Lines) → ((next : Heading) → heading_is_whole next ≡ false → Goes (m + 1) rest (told (m + 1 + 1) (reading next []) rest) (header_in (schedule_format kind.Pair) (m + 1 + 1) next rest))
-    → (next : Result Heading LineCause) → Goes m (Ok line ∷ rest) (of_heading m (reading h []) line rest next) (header_step heading_is_whole (m + 1) rest (λ next. header_in (schedule_format kind.Pair) (m + 1 + 1) next rest) next)
+    → (next : Result Heading LineCause) → Goes m (Ok line ∷ rest) (of_heading (m + 1) (reading h []) line rest next) (header_step heading_is_whole (m + 1) rest (λ next. header_in (schedule_format kind.Pair) (m + 1 + 1) next rest) next)
 heading_told m h line rest later (Err cause) = halts_here m (Ok line ∷ rest) (Line cause)
-heading_told m h line rest later (Ok next) =
-    let by : (done : Bool) → heading_is_whole next ≡ done
-    → Goes m (Ok line ∷ rest) (after_part (header_piece (m + 1) line) (told (m + 1 + 1) (reading next []) rest)) (if done then Ok (record { heading = next; lines = m + 1; rest = rest }) else header_in (schedule_format kind.Pair) (m + 1 + 1) next rest) =
-    λ done. elim done as (λ d. heading_is_whole next ≡ d → Goes m (Ok line ∷ rest) (after_part (header_piece (m + 1) line) (told (m + 1 + 1) (reading next []) rest)) (if d then Ok (record { heading = next; lines = m + 1; rest = rest }) else header_in (schedule_format kind.Pair) (m + 1 + 1) next rest)) [
-      | true ↦ λ e. (1, refl, e, piece_before m line rest 0 (told (m + 1 + 1) (reading next []) rest) (told (m + 1 + 1) (reading next []) rest) (no_part (m + 1 + 1 == 1) (texts rest) (told (m + 1 + 1) (reading next []) rest)))
-      | false ↦ λ e. goes_later m line rest (told (m + 1 + 1) (reading next []) rest) (header_in (schedule_format kind.Pair) (m + 1 + 1) next rest) (later next e)
-    ]
-    in
-    by (heading_is_whole next) refl
+heading_told m h line rest later (Ok next) = heading_goes m line rest next (heading_is_whole next) refl (later next)
 
-pub told_header : (m : ℕ) (h : Heading) (lines : Lines) → heading_is_whole h ≡ false → Goes m lines (told (m + 1) (reading h []) lines) (header_in (schedule_format kind.Pair) (m + 1) h lines)
+told_header : (m : ℕ) (h : Heading) (lines : Lines) → heading_is_whole h ≡ false → Goes m lines (told (m + 1) (reading h []) lines) (header_in (schedule_format kind.Pair) (m + 1) h lines)
 told_header m h [] open_yet = halts_here m [] NoLine
 told_header m h (Err why ∷ rest) open_yet = halts_here m (Err why ∷ rest) why
 told_header m h (Ok line ∷ rest) open_yet =
-    let at : of_heading m (reading h []) line rest (heading_after h line) ≡ told (m + 1) (reading h []) (Ok line ∷ rest) = grind arith in
-    subst (λ (w : Whole). Goes m (Ok line ∷ rest) w (header_in (schedule_format kind.Pair) (m + 1) h (Ok line ∷ rest))) at
+    subst (λ (w : Whole). Goes m (Ok line ∷ rest) w (header_in (schedule_format kind.Pair) (m + 1) h (Ok line ∷ rest))) (heading_line (m + 1) h line rest open_yet)
     (heading_told m h line rest (λ next e. told_header (m + 1) next rest e) (heading_after h line))
-
--- the number of the line that ends an input, by its header
-abbrev pub last_number : Result WholeHeader Stop → ℕ
-last_number (Ok headed) = line_of_end (input_after (schedule_format kind.Pair) headed)
-last_number (Err AtEnd) = 1
-last_number (Err (Refused number why)) = number
 
 -- what an input is converted to, and how the conversion ends
 abbrev whole_by : Result WholeHeader Stop → List (List ℕ) → Whole
@@ -203,19 +194,17 @@ abbrev pub converted_whole : List ℕ → Whole
 converted_whole bytes = whole_by (header_of kind.Pair bytes) (texts (lines_of bytes))
 
 by_header : (lines : Lines) (whole : Whole) (r : Result WholeHeader Stop) → Goes 0 lines whole r → whole ≡ whole_by r (texts lines)
-by_header lines whole (Ok headed) heads =
+by_header lines whole (Ok headed) goes =
     let h : Heading = headed.heading in
     let es : List Event = events_in h [] headed.rest in
     let at : headed.lines + 1 + length es ≡ headed.lines + length es + 1 = omega arith in
-    let j : heads.0 ≡ headed.lines = omega (arith, heads.1) in
-    heads.3 ∙ ap (after_part (header_text (take heads.0 (texts lines)))) (told_events h heads.2 (headed.lines + 1) [] headed.rest)
+    let j : goes.j ≡ headed.lines = omega (arith, goes.count) in
+    goes.is ∙ ap (after_part (header_text (take goes.j (texts lines)))) (told_events h goes.ends (headed.lines + 1) [] headed.rest)
     ∙ ap (λ (n : ℕ). after_part (header_text (take n (texts lines))) (result_of h (headed.lines + 1) [] headed.rest es)) j
     ∙ ap (λ (n : ℕ). after_part (header_text (take headed.lines (texts lines))) (later_whole (length es) n (stop_at (schedule_format kind.Pair) h n (is_full es) (slice_get headed.rest (length es))) (texts headed.rest))) at
-by_header lines whole (Err stop) halts =
-    let why : InputCause = halts.1 in
-    let before : 0 + halts.0 + 1 - 1 ≡ halts.0 = omega arith in
-    halts.3 ∙ ap (λ (n : ℕ). after_part (header_text (take n (texts lines))) (refused_whole (0 + halts.0 + 1) why)) (sym before)
-    ∙ ap (λ (s : Stop). whole_by (Err s) (texts lines)) (sym halts.2)
+by_header lines whole (Err stop) goes =
+    let j : goes.j ≡ lines_before stop = omega (arith, goes.count) in
+    goes.is ∙ ap (λ (n : ℕ). after_part (header_text (take n (texts lines))) (last_whole (last_number (Err stop)) stop)) j
 
 pub told_whole : (bytes : List ℕ) → told 1 read_none (lines_of bytes) ≡ converted_whole bytes
 told_whole bytes = by_header (lines_of bytes) (told 1 read_none (lines_of bytes)) (header_of kind.Pair bytes) (told_header 0 (heading_new kind.Pair) (lines_of bytes) refl)

@@ -1,5 +1,5 @@
 -- An event that a line says to a pair fits this pair.
-use Rattle.duo_run.proofs.Common.{AllZip-left, DuoView, Event, Fits, FitsPair, Heading, IsPairOf, IsSaid, MatchOption-at_some, Option, PairsEvent, PairsHeading, PairsStand, Some, heading_profile, length_of, lengths_of, numbered, own_length, pairs_event_fits, pairs_format, pairs_of, profile_of, profiles_of, slice_get-get_or, slice_get_within}
+use Rattle.duo_run.proofs.Common.{AllZip-left, DuoView, Event, Fits, FitsPair, Heading, IsPairOf, MatchOption-at_some, MayCome, Option, PairsEvent, PairsHeading, PairsStand, Some, heading_profile, length_of, lengths_of, numbered, own_length, pairs_event_fits, pairs_format, pairs_of, profile_of, profiles_of, slice_get-get_or, slice_get_within}
 use Rattle.schedule_file.proofs.Pairs.{numbered_map}
 use Rattle.std.proofs.Common.{◌≡◌, ◌≤◌, ◌+◌, ◌-◌, ℕ, zero, suc, List, length, map, slice_get, slice_index_or, arith, ap, sym, ◌∙◌, rules}
 use Rattle.schedule_file.specs.declared.pairs_line.PairsEvent.TheVariants as common
@@ -35,9 +35,11 @@ one_by duos others made h log text (suc j) event s f =
           fits_set f.heading found.0.master found.0.slave v _ event found.2 stood.stands f.fits;
     }
 
-pub one_fits : (duos : List DuoView) (others : List (Option ℕ)) (made : ℕ) (h : PairsHeading) (log : List PairsEvent) (text : List ℕ) (k : ℕ) (event : Event) → PairsStand duos others made h log text → IsSaid pairs_format h (common.One k event) → FitsOne duos k event
-one_fits duos others made h log text k event s said =
-    one_by duos others made h log text k event s (fits_heading (pairs_of h) k event (pairs_event_fits h said.0 said.1 (common.One k event) said.2 said.3))
+pub one_fits : (duos : List DuoView) (others : List (Option ℕ)) (made k : ℕ) (event : Event) (number : ℕ) → MayCome (PairsStand duos others made) pairs_format (common.One k event) number → FitsOne duos k event
+one_fits duos others made k event number may =
+    let h = may.heading in
+    let said = may.said in
+    one_by duos others made h may.log may.text k event may.stands (fits_heading (pairs_of h) k event (pairs_event_fits h said.0 said.1 (common.One k event) said.2 said.3))
 
 -- the duo of a pair that there is stands at its place
 pub duo_there : (duos : List DuoView) (k place : ℕ) (given : DuoView) → 1 ≤ k → k ≤ length duos → place ≡ k - 1 → (k ≡ place + 1) × (slice_get duos place ≡ Some (slice_index_or duos place given))

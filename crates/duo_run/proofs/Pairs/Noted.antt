@@ -1,38 +1,12 @@
 -- The events with the first other entries of pairs are noted, one pair after another.
-use Rattle.duo_run.proofs.Common.{AllStandOver, DuoStands, DuoView, Entry, MasterSettings, NotesOthers, Option, Pair, PairsEvent, SlaveSettings, Some, events_to, first_of_both, first_other, is_some, length-set, other_event, other_events, same_Some, slice_get_within, world_of}
-use Rattle.std.proofs.Common.{◌≡◌, ◌≤◌, ◌<◌, ◌+◌, ℕ, zero, suc, List, [], ◌∷◌, length, slice_get, slice_set, refl, arith, ap, sym, subst, ◌∙◌, below_more, rules}
-use Rattle.duo_run.proofs.Pairs.At.{set_at, set_beside}
+use Rattle.duo_run.proofs.Common.{AllStandOver, DuoView, NotesOthers, Option, Pair, PairsEvent, Some, events_to, first_of_both, first_other, is_some, other_event, other_events, same_Some, slice_get_within, world_of}
+use Rattle.std.proofs.Common.{◌≡◌, ◌+◌, ℕ, zero, suc, List, [], ◌∷◌, length, slice_get, refl, arith, ap, sym, ◌∙◌, rules}
+use Rattle.duo_run.specs.PairsStanding.{Notes}
+use Rattle.duo_run.proofs.Pairs.At.{SetTo}
 use Rattle.duo_run.proofs.Pairs.Ticking.{found_at}
 
--- so many were noted
-pub record NotedTo (number i : ℕ) (duos : List DuoView) (old now : List (Option ℕ)) : Type 0 where
-  pub many : length now ≡ length old
-  pub done : (j : ℕ) → j < i → (v : DuoView) (noted : Option ℕ) (ms : MasterSettings) (ss : SlaveSettings) (w : List Entry) → slice_get duos j ≡ Some v → slice_get old j ≡ Some noted → DuoStands ms ss v w
-      → slice_get now j ≡ Some (first_of_both noted (is_some (first_other w)) number)
-  pub rest : (j : ℕ) → i ≤ j → slice_get now j ≡ slice_get old j
-
-pub noted_more : (number i : ℕ) (duos : List DuoView) (old now : List (Option ℕ)) (v : DuoView) (before other is : Option ℕ) → NotedTo number i duos old now → slice_get duos i ≡ Some v → slice_get now i ≡ Some before
-    → is ≡ first_of_both before (is_some other) number → ((ms : MasterSettings) (ss : SlaveSettings) (w : List Entry) → DuoStands ms ss v w → other ≡ first_other w) → NotedTo number (i + 1) duos old (slice_set now i is)
-noted_more number i duos old now v before other is t v-at at e tells =
-    let many : length (slice_set now i is) ≡ length now = length-set now i is in
-    record {
-      many = many ∙ t.many;
-      done = below_more _ _
-          (λ j early u noted ms ss w u-at o-at stands. set_beside now i j is (λ same. let x : i < i = subst (λ (m : ℕ). m < i) same early in omega arith) ∙ t.done j early u noted ms ss w u-at o-at stands)
-          (λ u noted ms ss w u-at o-at stands.
-          let v-same : v ≡ u = same_Some _ _ (sym v-at ∙ u-at) in
-          let o-same : before ≡ noted = same_Some _ _ (sym at ∙ t.rest i (omega arith) ∙ o-at) in
-          let told : other ≡ first_other w = tells ms ss w (subst (λ (u : DuoView). DuoStands ms ss u w) (sym v-same) stands) in
-          set_at now i is (slice_get_within now i before at)
-          ∙ ap (λ (o : Option ℕ). Some o) (e ∙ ap (λ (o : Option ℕ). first_of_both before (is_some o) number) told ∙ ap (λ (b : Option ℕ). first_of_both b (is_some (first_other w)) number) o-same));
-      rest = λ j late. set_beside now i j is (λ same. omega (arith, same, late)) ∙ t.rest j (omega (arith, late));
-    }
-
-pub noted_all : (number i : ℕ) (duos : List DuoView) (old now : List (Option ℕ)) → i ≡ length duos → NotedTo number i duos old now → NotesOthers number duos old now
-noted_all number i duos old now all t = record {
-  many = t.many;
-  each = λ j v noted ms ss w v-at at stands. t.done j (let h = slice_get_within duos j v v-at in omega (arith, h, all)) v noted ms ss w v-at at stands;
-}
+pub noted_all : (number i : ℕ) (duos : List DuoView) (old now : List (Option ℕ)) → i ≡ length old → SetTo (Notes number duos) i old now → NotesOthers number duos old now
+noted_all number i duos old now all s = record { many = s.many; each = λ j noted now at is. s.done j (let h = slice_get_within old j noted at in omega (arith, h, all)) noted now at is }
 
 -- the number of each pair's event stands in its place
 others_at : (k j : ℕ) (pairs : List Pair) (past : List PairsEvent) (p : Pair) → slice_get pairs j ≡ Some p → slice_get (other_events k pairs past) j ≡ Some (other_event (k + j) p past)
@@ -71,6 +45,8 @@ others_after pairs past event duos number old new e was stand notes =
     let n : 1 + j ≡ suc j = omega arith in
     let s = stand.each (suc j) p v.0 at v.1 in
     let before : slice_get old j ≡ Some (other_event (suc j) p past) = search (rules, others_at) in
-    notes.each j v.0 (other_event (suc j) p past) p.master p.slave (world_of (suc j) p (event ∷ past)) v.1 before s.stands
+    let now = found_at new j (let h = slice_get_within pairs j p at in omega (arith, h, notes.many, long)) in
+    now.1
+    ∙ ap (λ (o : Option ℕ). Some o) (notes.each j (other_event (suc j) p past) now.0 before now.1 v.0 p.master p.slave (world_of (suc j) p (event ∷ past)) v.1 s.stands)
     ∙ ap (λ (m : ℕ). Some (first_of_both (other_event (suc j) p past) (is_some (first_other (world_of (suc j) p (event ∷ past)))) m)) e
     ∙ ap (λ (n : ℕ). Some (other_event n p (event ∷ past))) (sym n))

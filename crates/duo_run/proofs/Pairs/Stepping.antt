@@ -1,5 +1,5 @@
 -- Several pairs go on with the next event of all.
-use Rattle.duo_run.proofs.Common.{AllStandOver, AllZip-long, CanStep, DuoView, EndsUnmet, Entry, Event, IsPairOf, Misses, NoFrame, None, NotesOthers, Option, Pair, PairsEvent, PairsHeading, PairsStand, Some, StandsOver, TellsNext, Ticks, append-nil, entries_by, entries_over, entry_after, eqb-false, eqb-true, event_lines, events_by, events_to, is_met, is_met_by, is_some, length-append, length-set, length_push, line_if, lines_of_events, numbered, one_line, pairs_of, pairs_reporting, same_Some, slice_get_within, steps_done, tick_lines, with_tick}
+use Rattle.duo_run.proofs.Common.{AllStandOver, AllZip-long, CanStep, DuoView, EndsUnmet, Entry, Event, IsPairOf, MayCome, Misses, NoFrame, None, NotesOthers, Option, Pair, PairsEvent, PairsHeading, PairsStand, Some, StandsOver, TellsNext, Ticks, append-nil, entries_by, entries_over, entry_after, eqb-false, eqb-true, event_lines, events_by, events_to, is_met, is_met_by, is_some, length-append, length-set, length_push, line_if, lines_of_events, numbered, one_line, pairs_format, pairs_of, pairs_reporting, same_Some, slice_get_within, steps_done, tick_lines, with_tick}
 use Rattle.duo_run.specs.PairsReport.{pair_line}
 use Rattle.schedule_file.specs.PairsInput.{entries_of}
 use Rattle.std.proofs.Common.{◌≡◌, ◌≤◌, ◌<◌, ◌+◌, ◌*◌, ◌^◌, ℕ, suc, Bool, true, false, List, [], ◌∷◌, ◌++◌, length, slice_get, slice_set, refl, arith, ap, sym, subst, ◌∙◌, append_assoc, rules}
@@ -25,24 +25,26 @@ events_few k [] = omega arith
 events_few k (event ∷ past) = let a = events_few k past in let b = by_few k event in omega (arith, a, b, length-append (events_to k past) (events_by k event))
 
 -- so each pair can go on
-pub can_step : (duos : List DuoView) (others : List (Option ℕ)) (made : ℕ) (h : PairsHeading) (log : List PairsEvent) (text : List ℕ) (number : ℕ) → PairsStand duos others made h log text → number ≡ length log + 1 → number ≤ 200000 → CanStep duos
-can_step duos others made h log text number k e few = record {
-  pairs = k.pairs;
-  own = λ j. events_to j k.past;
-  stand = k.stand;
-  few = λ j. let a = events_few j k.past in omega (arith, a, k.whole, e, few);
-}
+pub can_step : (duos : List DuoView) (others : List (Option ℕ)) (made : ℕ) (event : PairsEvent) (number : ℕ) → MayCome (PairsStand duos others made) pairs_format event number → CanStep duos
+can_step duos others made event number may =
+    let k = may.stands in
+    record {
+      pairs = k.pairs;
+      own = λ j. events_to j k.past;
+      stand = k.stand;
+      few = λ j. let a = events_few j k.past in omega (arith, a, k.whole, may.number_is, may.few);
+    }
 
 -- so it can when one end has ticked
-pub can_step_on : (duos new : List DuoView) (others : List (Option ℕ)) (made : ℕ) (h : PairsHeading) (log : List PairsEvent) (text before after : List ℕ) (number : ℕ) → PairsStand duos others made h log text → number ≡ length log + 1 → number ≤ 200000
-    → Ticks end_name.Slave number duos before new after → CanStep new
-can_step_on duos new others made h log text before after number k e few t =
+pub can_step_on : (duos new : List DuoView) (others : List (Option ℕ)) (made : ℕ) (next : PairsEvent) (number : ℕ) (before after : List ℕ) → MayCome (PairsStand duos others made) pairs_format next number → Ticks end_name.Slave number duos before new after → CanStep new
+can_step_on duos new others made next number before after may t =
+    let k = may.stands in
     let ticked = t.ticks k.pairs (λ j. events_to j k.past) k.stand in
     record {
       pairs = k.pairs;
       own = with_tick end_name.Slave (λ j. events_to j k.past);
       stand = ticked.stand;
-      few = λ j. let a = events_few j k.past in omega (arith, a, k.whole, e, few, length_push (events_to j k.past) (event.Tick end_name.Slave));
+      few = λ j. let a = events_few j k.past in omega (arith, a, k.whole, may.number_is, may.few, length_push (events_to j k.past) (event.Tick end_name.Slave));
     }
 
 two : (own : List Event) (a b : Event) → (own ++ a ∷ []) ++ b ∷ [] ≡ own ++ a ∷ b ∷ []
@@ -51,6 +53,27 @@ two own a b = append_assoc own (a ∷ []) (b ∷ [])
 stand_same : (pairs : List Pair) (f g : ℕ → List Event) (duos : List DuoView) → ((k : ℕ) → f k ≡ g k) → AllStandOver pairs f duos → AllStandOver pairs g duos
 stand_same pairs f g duos same stand = record { many = stand.many; each = λ k p v p-at v-at. subst (λ (own : List Event). StandsOver p own v) (same k) (stand.each k p v p-at v-at) }
 
+-- the next event of all is met by each pair
+next_goes : (old new : List DuoView) (others noted : List (Option ℕ)) (made now number : ℕ) (event : PairsEvent) (piece : List ℕ) (h : PairsHeading) (log : List PairsEvent) (text : List ℕ) (k : PairsStand old others made h log text)
+    → is_met k.pairs k.past event ≡ true → AllStandOver k.pairs (λ j. events_to j (event ∷ k.past)) new → piece ≡ event_lines number k.pairs k.past event → NotesOthers number new others noted
+    → now ≡ made + entries_by (length (pairs_of h)) event → number ≡ length log + 1 → PairsStand new noted now h (log ++ event ∷ []) (text ++ piece)
+next_goes old new others noted made now number event piece h log text k met stand lines notes count e =
+    let n : number ≡ length k.past + 1 = omega (arith, e, k.whole) in
+    let m : number ≡ suc (length k.past) = omega (arith, n) in
+    record {
+      pairs = k.pairs;
+      past = event ∷ k.past;
+      set = k.set;
+      done = done_next k.pairs log event k.past k.done k.whole met;
+      whole = omega (arith, k.whole, length_push log event);
+      stand = stand;
+      some = k.some;
+      few = k.few;
+      made_is = let all = entries-push (length (pairs_of h)) log event in omega (arith, all, k.made_is, count);
+      others_are = others_after k.pairs k.past event new number others noted m k.others_are stand notes;
+      lines = ap (λ (z : List ℕ). z ++ piece) k.lines ∙ ap (λ (z : List ℕ). lines_of_events k.pairs k.past ++ z) (lines ∙ ap (λ (n : ℕ). event_lines n k.pairs k.past event) n);
+    }
+
 -- a tick of all: all slaves ticked, and then all masters
 pub tick_goes : (old mid new : List DuoView) (others noted : List (Option ℕ)) (made now : ℕ) (number : ℕ) (first second : List ℕ) (h : PairsHeading) (log : List PairsEvent) (text : List ℕ) → Ticks end_name.Slave number old [] mid first → Ticks end_name.Master number mid first new second
     → NotesOthers number new others noted → now ≡ made + 2 * length old → number ≡ length log + 1 → PairsStand old others made h log text → PairsStand new noted now h (log ++ common.Tick ∷ []) (text ++ second)
@@ -58,25 +81,10 @@ tick_goes old mid new others noted made now number first second h log text slave
     let a = slaves.ticks k.pairs (λ j. events_to j k.past) k.stand in
     let b = masters.ticks k.pairs (with_tick end_name.Slave (λ j. events_to j k.past)) a.stand in
     let stand : AllStandOver k.pairs (λ j. events_to j (common.Tick ∷ k.past)) new = search (rules, stand_same, two) in
-    let n : number ≡ length k.past + 1 = omega (arith, e, k.whole) in
-    let m : number ≡ suc (length k.past) = omega (arith, n) in
-    let piece : second ≡ tick_lines number (λ j. events_to j k.past) end_name.Slave 1 k.pairs ++ tick_lines number (with_tick end_name.Slave (λ j. events_to j k.past)) end_name.Master 1 k.pairs =
+    let piece : second ≡ event_lines number k.pairs k.past common.Tick =
     b.lines ∙ ap (λ (z : List ℕ). z ++ tick_lines number (with_tick end_name.Slave (λ j. events_to j k.past)) end_name.Master 1 k.pairs) a.lines in
-    record {
-      pairs = k.pairs;
-      past = common.Tick ∷ k.past;
-      set = k.set;
-      done = done_next k.pairs log common.Tick k.past k.done k.whole refl;
-      whole = omega (arith, k.whole, length_push log (common.Tick));
-      stand = stand;
-      some = k.some;
-      few = k.few;
-      made_is = let p = entries-push (length (pairs_of h)) log common.Tick in let q = AllZip-long IsPairOf (pairs_of h) k.pairs k.set in omega (arith, p, q, k.made_is, count, k.stand.many);
-      others_are = others_after k.pairs k.past common.Tick new number others noted m k.others_are stand notes;
-      lines = ap (λ (z : List ℕ). z ++ second) k.lines
-          ∙ ap (λ (z : List ℕ). lines_of_events k.pairs k.past ++ z)
-          (piece ∙ ap (λ (n : ℕ). tick_lines n (λ j. events_to j k.past) end_name.Slave 1 k.pairs ++ tick_lines n (with_tick end_name.Slave (λ j. events_to j k.past)) end_name.Master 1 k.pairs) n);
-    }
+    let many = AllZip-long IsPairOf (pairs_of h) k.pairs k.set in
+    next_goes old new others noted made now number common.Tick second h log text k refl stand piece notes (omega (arith, many, count, k.stand.many)) e
 
 -- the event of one pair, which has its entry
 stand_one : (pairs : List Pair) (past : List PairsEvent) (old new : List DuoView) (pair place : ℕ) (own : Event) (p : Pair) (after : DuoView) → pair ≡ place + 1 → numbered pair pairs ≡ Some p → new ≡ slice_set old place after → numbered pair new ≡ Some after
@@ -107,9 +115,9 @@ pub one_goes : (old new : List DuoView) (others noted : List (Option ℕ)) (made
     → PairsStand new noted now h (log ++ common.One pair own ∷ []) (text ++ piece)
 one_goes old new others noted made now number pair place own v after piece h log text e v-at tells is notes count f k =
     let below : place < length old = slice_get_within old place v v-at in
-    let stood = stood_at k.pairs (events_to pair k.past) old place v k.stand.many v-at (λ p p-at. k.stand.each pair p v (named pair place k.pairs p e p-at) (named pair place old v e v-at)) in
+    let stood = stood_at k.pairs (λ j. events_to j k.past) old pair place v e k.stand v-at in
     let p : Pair = stood.0 in
-    let p-at : numbered pair k.pairs ≡ Some p = named pair place k.pairs p e stood.1 in
+    let p-at = stood.1 in
     let told = tells.tells p.master p.slave (entries_over p (events_to pair k.past)) stood.2.stands in
     let goes : StandsOver p (events_to pair k.past ++ own ∷ []) after = goes_over p (events_to pair k.past) own told.entry after stood.2.whole told.next told.stands in
     let new-at : numbered pair new ≡ Some after = named pair place new after e (ap (λ (n : List DuoView). slice_get n place) is ∙ set_at old place after below) in
@@ -118,31 +126,16 @@ one_goes old new others noted made now number pair place own v after piece h log
       many = many ∙ k.stand.many;
       each = λ j q w q-at w-at. stand_one k.pairs k.past old new pair place own p after e p-at is new-at k.stand goes j q w q-at w-at (pair == j) refl;
     } in
-    let m : number ≡ suc (length k.past) = omega (arith, f, k.whole) in
-    let n : number ≡ length k.past + 1 = omega (arith, f, k.whole) in
-    record {
-      pairs = k.pairs;
-      past = common.One pair own ∷ k.past;
-      set = k.set;
-      done = done_next k.pairs log (common.One pair own) k.past k.done k.whole (one_met k.pairs k.past pair own p (Some told.entry) p-at told.next);
-      whole = omega (arith, k.whole, length_push log (common.One pair own));
-      stand = stand;
-      some = k.some;
-      few = k.few;
-      made_is = let q = entries-push (length (pairs_of h)) log (common.One pair own) in omega (arith, q, k.made_is, count);
-      others_are = others_after k.pairs k.past (common.One pair own) new number others noted m k.others_are stand notes;
-      lines = ap (λ (z : List ℕ). z ++ piece) k.lines
-          ∙ ap (λ (z : List ℕ). lines_of_events k.pairs k.past ++ z)
-          (told.line_is ∙ ap (λ (n : ℕ). pair_line n pair told.entry) n ∙ sym (one_lines k.pairs k.past (length k.past + 1) pair own p told.entry p-at told.next));
-    }
+    let line : piece ≡ event_lines number k.pairs k.past (common.One pair own) = told.line_is ∙ sym (one_lines k.pairs k.past number pair own p told.entry p-at told.next) in
+    next_goes old new others noted made now number (common.One pair own) piece h log text k (one_met k.pairs k.past pair own p (Some told.entry) p-at told.next) stand line notes count f
 
 pub one_unsent : (old : List DuoView) (others : List (Option ℕ)) (made pair place : ℕ) (own : Event) (v : DuoView) (h : PairsHeading) (log : List PairsEvent) (text : List ℕ) → pair ≡ place + 1 → slice_get old place ≡ Some v → Misses v own
     → PairsStand old others made h log text → EndsUnmet pairs_reporting h log text (common.One pair own) NoFrame
 one_unsent old others made pair place own v h log text e v-at misses k =
-    let stood = stood_at k.pairs (events_to pair k.past) old place v k.stand.many v-at (λ p p-at. k.stand.each pair p v (named pair place k.pairs p e p-at) (named pair place old v e v-at)) in
+    let stood = stood_at k.pairs (λ j. events_to j k.past) old pair place v e k.stand v-at in
     let p : Pair = stood.0 in
     pairs_unsent old others made h log text (common.One pair own) k
-    (one_met k.pairs k.past pair own p None (named pair place k.pairs p e stood.1) (misses.misses p.master p.slave (entries_over p (events_to pair k.past)) stood.2.stands))
+    (one_met k.pairs k.past pair own p None stood.1 (misses.misses p.master p.slave (entries_over p (events_to pair k.past)) stood.2.stands))
 
 -- what an event of all needs: there are at most 16 pairs, each noted, and the entries so far are few
 by_most : (n : ℕ) (event : PairsEvent) → n ≤ 16 → entries_by n event ≤ 33
@@ -152,19 +145,19 @@ entries_most : (n : ℕ) (log : List PairsEvent) → n ≤ 16 → entries_of n l
 entries_most n [] few = omega arith
 entries_most n (event ∷ log) few = let a = entries_most n log few in let b = by_most n event few in omega (arith, a, b)
 
-pub few_duos : (duos : List DuoView) (others : List (Option ℕ)) (made : ℕ) (h : PairsHeading) (log : List PairsEvent) (text : List ℕ) → PairsStand duos others made h log text → length duos ≤ 16
-few_duos duos others made h log text k = let q = AllZip-long IsPairOf (pairs_of h) k.pairs k.set in omega (arith, q, k.stand.many, k.few)
+pub few_duos : (duos : List DuoView) (others : List (Option ℕ)) (made : ℕ) (event : PairsEvent) (number : ℕ) → MayCome (PairsStand duos others made) pairs_format event number → length duos ≤ 16
+few_duos duos others made event number may = let k = may.stands in let q = AllZip-long IsPairOf (pairs_of may.heading) k.pairs k.set in omega (arith, q, k.stand.many, k.few)
 
-pub few_entries : (duos : List DuoView) (others : List (Option ℕ)) (made : ℕ) (h : PairsHeading) (log : List PairsEvent) (text : List ℕ) (number : ℕ) → PairsStand duos others made h log text → number ≡ length log + 1 → number ≤ 200000 → made ≤ 6600000
-few_entries duos others made h log text number k e few = let m = entries_most (length (pairs_of h)) log k.few in omega (arith, m, e, few, k.made_is)
+pub few_entries : (duos : List DuoView) (others : List (Option ℕ)) (made : ℕ) (event : PairsEvent) (number : ℕ) → MayCome (PairsStand duos others made) pairs_format event number → made ≤ 6600000
+few_entries duos others made event number may = let m = entries_most (length (pairs_of may.heading)) may.log may.stands.few in omega (arith, m, may.number_is, may.few, may.stands.made_is)
 
-pub noted_each : (duos : List DuoView) (others : List (Option ℕ)) (made : ℕ) (h : PairsHeading) (log : List PairsEvent) (text : List ℕ) → PairsStand duos others made h log text → length others ≡ length duos
-noted_each duos others made h log text k = ap (length {A = Option ℕ}) k.others_are ∙ others-length 1 k.pairs k.past ∙ sym k.stand.many
+pub noted_each : (duos : List DuoView) (others : List (Option ℕ)) (made : ℕ) (event : PairsEvent) (number : ℕ) → MayCome (PairsStand duos others made) pairs_format event number → length others ≡ length duos
+noted_each duos others made event number may = let k = may.stands in ap (length {A = Option ℕ}) k.others_are ∙ others-length 1 k.pairs k.past ∙ sym k.stand.many
 
-pub one_counted : (duos : List DuoView) (others : List (Option ℕ)) (made : ℕ) (h : PairsHeading) (log : List PairsEvent) (text : List ℕ) (number place : ℕ) (v : DuoView) → PairsStand duos others made h log text → number ≡ length log + 1 → number ≤ 200000
-    → slice_get duos place ≡ Some v → steps_done v + 1 < 2 ^ 64
-one_counted duos others made h log text number place v k e few v-at =
-    let stood = stood_at k.pairs (events_to (suc place) k.past) duos place v k.stand.many v-at (λ p p-at. k.stand.each (suc place) p v p-at v-at) in
+pub one_counted : (duos : List DuoView) (others : List (Option ℕ)) (made : ℕ) (event : PairsEvent) (number : ℕ) (place : ℕ) (v : DuoView) → MayCome (PairsStand duos others made) pairs_format event number → slice_get duos place ≡ Some v → steps_done v + 1 < 2 ^ 64
+one_counted duos others made event number place v may v-at =
+    let k = may.stands in
+    let stood = stood_at k.pairs (λ j. events_to j k.past) duos (suc place) place v (omega arith) k.stand v-at in
     let counted = counted_over stood.0 (events_to (suc place) k.past) v stood.2 in
     let a = events_few (suc place) k.past in
-    omega (arith, counted, a, k.whole, e, few)
+    omega (arith, counted, a, k.whole, may.number_is, may.few)

@@ -1,6 +1,6 @@
 use Rattle.duo_run.proofs.Common.{DuoView, Some, WaitingText, length-append, slice_get-get_or}
 use Rattle.std.proofs.Common.{◌≡◌, ◌+◌, ◌++◌, ℕ, length, slice_get, slice_index_or, refl, ap, arith, rules}
-use Rattle.duo_run.proofs.Pairs.Ticking.{next_counted, next_ticks, ticked_all, ticked_more, ticked_none}
+use Rattle.duo_run.proofs.Pairs.Ticking.{next_ticks, ticked_all, ticked_more, ticked_none}
 use Rattle.duo_run.proofs.Numbers.Summarizing.{never_err}
 use Rattle.duo_run.proofs.telling.tick_all.Goals as goal
 
@@ -8,14 +8,11 @@ pub loop-i-init : goal.loop-i-init
 loop-i-init c = record { so_far = ticked_none c.args.at c.args.number c.args.duos.now c.args.telling.now.waiting.text; room = omega arith }
 
 pub tell-requires-clause-fewer : goal.tell-requires-clause-fewer
-tell-requires-clause-fewer c = search (rules, slice_get-get_or, next_counted)
+tell-requires-clause-fewer c = (next_ticks _ _ c.loop-i.i _ _ c.loop-i.duos _ _ c.requires.stand c.loop-i.invariant.so_far (slice_get-get_or c.loop-i.duos c.loop-i.i c.index-duos-i.result (omega arith))).0
 
 pub unwrap-requires : goal.unwrap-requires
 unwrap-requires c =
-    let i : ℕ = c.loop-i.i in
-    let v : DuoView = slice_index_or c.loop-i.duos i c.index-duos-i.result in
-    let v-at : slice_get c.loop-i.duos i ≡ Some v = slice_get-get_or c.loop-i.duos i c.index-duos-i.result (omega arith) in
-    never_err _ c.tell.result c.tell.ensures.misses (next_ticks _ _ i _ _ c.loop-i.duos _ v c.requires.stand c.loop-i.invariant.so_far v-at)
+    never_err _ c.tell.result c.tell.ensures.misses (next_ticks _ _ c.loop-i.i _ _ c.loop-i.duos _ _ c.requires.stand c.loop-i.invariant.so_far (slice_get-get_or c.loop-i.duos c.loop-i.i c.index-duos-i.result (omega arith))).1
 
 pub loop-i-preserved : goal.loop-i-preserved
 loop-i-preserved c =

@@ -1,44 +1,39 @@
-use Rattle.std.proofs.Common.{◌+◌, ◌*◌, ℕ, length, ap, ◌∙◌, arith, rules}
+use Rattle.std.proofs.Common.{◌+◌, ◌*◌, ℕ, length, ap, sym, ◌∙◌, arith}
 use Rattle.duo_run.proofs.Pairs.Stepping.{can_step, can_step_on, few_duos, few_entries, noted_each, tick_goes}
 use Rattle.duo_run.proofs.telling.tick_pairs.Goals as goal
 
 pub tick_all-requires-clause-stand : goal.tick_all-requires-clause-stand
-tick_all-requires-clause-stand c =
-    let k = c.requires.come in
-    can_step c.args.duos.now _ _ k.heading k.log k.text c.args.number k.stands k.number_is k.few
+tick_all-requires-clause-stand c = can_step _ _ _ _ _ c.requires.come
 
 pub tick_all-requires-clause-few : goal.tick_all-requires-clause-few
-tick_all-requires-clause-few c = search (rules, few_duos)
+tick_all-requires-clause-few c = few_duos _ _ _ _ _ c.requires.come
 
 pub tick_all-requires-clause-room : goal.tick_all-requires-clause-room
 tick_all-requires-clause-room c =
-    let k = c.requires.come in
-    let few = few_duos c.args.duos.now _ _ k.heading k.log k.text k.stands in
+    let few = few_duos _ _ _ _ _ c.requires.come in
     let none = ap (length {A = ℕ}) c.requires.empty in
     omega (arith, few, none)
 
 pub tick_all-requires-2-clause-stand : goal.tick_all-requires-2-clause-stand
-tick_all-requires-2-clause-stand c = search (rules, can_step_on)
+tick_all-requires-2-clause-stand c = can_step_on _ _ _ _ _ _ _ _ c.requires.come c.tick_all.ensures.ticks
 
 pub tick_all-requires-2-clause-few : goal.tick_all-requires-2-clause-few
-tick_all-requires-2-clause-few c = search (rules, few_duos)
+tick_all-requires-2-clause-few c = let few = few_duos _ _ _ _ _ c.requires.come in omega (arith, few, c.tick_all.auto.duos)
 
 pub tick_all-requires-2-clause-room : goal.tick_all-requires-2-clause-room
 tick_all-requires-2-clause-room c =
-    let k = c.requires.come in
-    let few = few_duos c.args.duos.now _ _ k.heading k.log k.text k.stands in
+    let few = few_duos _ _ _ _ _ c.requires.come in
     let none = ap (length {A = ℕ}) c.requires.empty in
     omega (arith, few, none, c.tick_all.auto.duos, c.tick_all.ensures.room)
 
 pub overflow_add-entries : goal.overflow_add-entries
 overflow_add-entries c =
-    let k = c.requires.come in
-    let few = few_duos c.args.duos.now _ _ k.heading k.log k.text k.stands in
-    let m = few_entries c.args.duos.now _ _ k.heading k.log k.text c.args.number k.stands k.number_is k.few in
-    omega (arith, few, m, c.tick_all.auto.duos, c.tick_all-2.auto.duos)
+    let few = few_duos _ _ _ _ _ c.requires.come in
+    let made = few_entries _ _ _ _ _ c.requires.come in
+    omega (arith, few, made, c.tick_all.auto.duos, c.tick_all-2.auto.duos)
 
 pub note_others-requires : goal.note_others-requires
-note_others-requires c = search (rules, noted_each)
+note_others-requires c = noted_each _ _ _ _ _ c.requires.come ∙ sym (c.tick_all-2.auto.duos ∙ c.tick_all.auto.duos)
 
 pub returns : goal.returns
 returns c = record {
