@@ -1,9 +1,24 @@
--- Slots of a plan without a fault lie inside the output image, and share no byte of it.
-use Rattle.process_image.proofs.Common.{Place, Plan, first_fault, first_outside, first_pair, first_with, lie_inside, overlap, pair_or, share, spans_of}
-use Rattle.std.proofs.Common.{◌≡◌, ◌≤◌, ◌⊎◌, ℕ, ◌+◌, ◌&&◌, List, [], ◌∷◌, length, Option, Some, None, Bool, true, false, nat_lt, nat_le, if◌then◌else◌, leb-true, arith, rules}
+-- The first fault of slots, test by test. Slots without one lie inside both images, and share no byte of the output
+-- image.
+use Rattle.process_image.proofs.Common.{Place, Plan, Slot, first_fault, first_outside, first_pair, first_with, lie_inside, outside_or, overlap, pair_or, places_from, plan_of, share, spans_of}
+use Rattle.std.proofs.Common.{◌≡◌, ◌≤◌, ◌<◌, ◌⊎◌, ℕ, suc, ◌+◌, ◌&&◌, List, [], ◌∷◌, length, Option, Some, None, Bool, true, false, nat_lt, nat_le, if◌then◌else◌, leb-true, refl, ap, arith, rules}
 use Rattle.std.proofs.lemmas.Bool.{and_parts, or_parts}
 use Rattle.process_image.specs.declared.fault.SlotFault.{SlotFault}
+use Rattle.process_image.specs.declared.fault.SlotFault.TheVariants as fault
 use Rattle.process_image.proofs.Giving.{len_at, AwayFrom, AreApart}
+
+pub places_count : (n : ℕ) (slots : List Slot) → length (places_from n slots) ≡ length slots
+places_count n [] = refl
+places_count n (slot ∷ slots) = ap suc (places_count (suc n) slots)
+
+-- there are more than 64
+pub too_many : (size_in size_out : ℕ) (slots : List Slot) → 64 < length slots → Some fault.TooMany ≡ first_fault (plan_of size_in size_out slots)
+too_many size_in size_out slots h = search (rules, places_count)
+
+-- there aren't: then it is what the other tests say
+pub tested : (size_in size_out : ℕ) (slots : List Slot) (o : Option ℕ) → length slots ≤ 64 → o ≡ first_outside size_in size_out (places_from 1 slots)
+    → outside_or o (first_pair (places_from 1 slots)) ≡ first_fault (plan_of size_in size_out slots)
+tested size_in size_out slots o h k = search (rules, places_count)
 
 -- a test that is followed by no fault
 chosen : {A : Type 0} (b : Bool) (x : A) (rest : Option A) → (if b then Some x else rest) ≡ None → (b ≡ false) × (rest ≡ None)
@@ -24,33 +39,16 @@ away-all p (q ∷ places) h =
     let c = chosen (overlap (spans_of p) (spans_of q)) q.number (first_with (spans_of p) places) h in
     (away p.at_out (len_at p) q.at_out (len_at q) (or_parts (share p.at_in (spans_of p).len_in q.at_in (spans_of q).len_in) (share p.at_out (len_at p) q.at_out (len_at q)) c.0).1, away-all p places c.1)
 
-apart : (size_in size_out : ℕ) (places : List Place) → first_outside size_in size_out places ≡ None → first_pair places ≡ None → AreApart size_out places
+apart : (size_in size_out : ℕ) (places : List Place) → first_outside size_in size_out places ≡ None → first_pair places ≡ None → AreApart size_in size_out places
 apart size_in size_out [] h i = tt
 apart size_in size_out (p ∷ places) h i =
     let c = passed (lie_inside size_in size_out (spans_of p)) p.number (first_outside size_in size_out places) h in
-    let d = no-pair p.number (first_with (spans_of p) places) (first_pair places) i in (
-      leb-true _ _ (and_parts (nat_le (p.at_in + (spans_of p).len_in) size_in) (nat_le (p.at_out + len_at p) size_out) c.0).1,
-      away-all p places d.0,
-      apart size_in size_out places c.1 d.1,
-    )
+    let d = no-pair p.number (first_with (spans_of p) places) (first_pair places) i in
+    let inside = and_parts (nat_le (p.at_in + (spans_of p).len_in) size_in) (nat_le (p.at_out + len_at p) size_out) c.0 in
+    (leb-true _ _ inside.1, away-all p places d.0, leb-true _ _ inside.0, apart size_in size_out places c.1 d.1)
 
-pub plan_apart : (plan : Plan) → first_fault plan ≡ None → AreApart plan.size_out plan.places
+pub plan_apart : (plan : Plan) → first_fault plan ≡ None → AreApart plan.size_in plan.size_out plan.places
 plan_apart plan h = search (rules, apart)
-
--- the frames of each slot lie inside both images
-abbrev pub AreInside : ℕ → ℕ → List Place → Type 0
-AreInside size_in size_out [] = Unit {0}
-AreInside size_in size_out (p ∷ places) = (p.at_in + (spans_of p).len_in ≤ size_in) × (p.at_out + len_at p ≤ size_out) × AreInside size_in size_out places
-
-inside-all : (size_in size_out : ℕ) (places : List Place) → first_outside size_in size_out places ≡ None → AreInside size_in size_out places
-inside-all size_in size_out [] h = tt
-inside-all size_in size_out (p ∷ places) h =
-    let c = passed (lie_inside size_in size_out (spans_of p)) p.number (first_outside size_in size_out places) h in
-    let i = and_parts (nat_le (p.at_in + (spans_of p).len_in) size_in) (nat_le (p.at_out + len_at p) size_out) c.0 in
-    (leb-true _ _ i.0, leb-true _ _ i.1, inside-all size_in size_out places c.1)
-
-pub plan_inside : (plan : Plan) → first_fault plan ≡ None → AreInside plan.size_in plan.size_out plan.places
-plan_inside plan h = search (rules, inside-all)
 
 pub few_places : (plan : Plan) → first_fault plan ≡ None → length plan.places ≤ 64
 few_places plan h = grind arith

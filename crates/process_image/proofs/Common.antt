@@ -30,10 +30,10 @@ pub use Rattle.process_image.specs.Ran.{image_format, image_reporting}
 pub use Rattle.process_image.specs.Report.{IsEndOf, IsImageReport, IsPlanOf, IsSlotOf, end_terms, entry_line, event_in, event_lines, last_lines, lines_of_events, move_line, report_of}
 pub use Rattle.process_image.specs.SlotLines.{AreLinesOf, IsLineOf, entry_told, told_line}
 pub use Rattle.process_image.specs.Sound.{IsNewSeat, IsSound, IsSoundSeat, MaySend}
-pub use Rattle.process_image.specs.Standing.{AnswersReset, AnswersSample, AnswersTick, Follows, HasSlot, HoldsFrames, ImagesView, IsBeside, IsSeatOf, Keeps, ShowsAt, ShowsFrames, StandsFor, setups_of, told}
+pub use Rattle.process_image.specs.Standing.{AnswersReset, AnswersSample, AnswersTick, Follows, HasSlot, HoldsFrames, ImagesView, IsBeside, IsSeatOf, Keeps, ShowsAt, ShowsFrames, StandsFor, TellsEach, setups_of, told}
 pub use Rattle.process_image.specs.Steps.{Does, DoesEach, IsSampleStep, IsSeatStep, IsStepOf, Makes, SeatStep, after_steps, did_in, seat_contents, told_by, with_sent}
 pub use Rattle.process_image.specs.Telling.{DoesEvent, FitsImages, IsDidOf, RunStands, RunView, TellsEvent, slot_in}
-pub use Rattle.process_image.specs.Tested.{Fit, IsApart, IsTested, and_placed, is_placed, tested_by}
+pub use Rattle.process_image.specs.Tested.{Fit, IsApart, IsTested, is_placed, tested_by}
 pub use Rattle.process_image.specs.declared.event.ImageEvent.{ImageEvent}
 pub use Rattle.process_image.specs.declared.header.SlotHeader.{SlotHeader}
 pub use Rattle.process_image.specs.declared.header.Stage.{Stage}
@@ -42,8 +42,8 @@ pub use Rattle.process_image.specs.declared.slot.Slot.{Slot}
 pub use Rattle.schedule_file.proofs.Headed.{either, headed}
 pub use Rattle.schedule_file.proofs.Sound.{Sound, after_sound, each, known, master_settings, new_sound, slave_settings}
 pub use Rattle.schedule_file.specs.Field.{bytes_said, fields_of}
-pub use Rattle.schedule_file.specs.Fields.{by_word, map_ok, next_field, no_field, number_16, number_32, one_field, one_hex_field, value_or}
-pub use Rattle.schedule_file.specs.Header.{Heading, IsMasterOf, IsSlaveOf, fields_taken, heading_after, heading_is_whole, heading_with, profile_given, profile_taken, title_taken}
+pub use Rattle.schedule_file.specs.Fields.{map_ok, next_field, no_field, number_16, number_32, one_field, one_hex_field, value_or}
+pub use Rattle.schedule_file.specs.Header.{Heading, fields_taken, heading_after, heading_is_whole, heading_with, profile_given, profile_taken, title_taken}
 pub use Rattle.schedule_file.specs.Input.{Refused, Stop, input_read}
 pub use Rattle.schedule_file.specs.NodeHeader.{is_end_line, kind_after, may_end, node_heading_after}
 pub use Rattle.schedule_file.specs.declared.line_cause.LineCause.{LineCause}

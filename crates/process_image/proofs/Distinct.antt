@@ -1,6 +1,6 @@
 -- The frames that are delivered to a slot, and samples that change nothing.
-use Rattle.process_image.proofs.Common.{ImageEvent, Move, Place, Plan, Unwritten, and_move, at_samples, contents, distinct_after, frames_in, if_named, input, move_in, moves, next_deed, option_map, output, pointwise, sampled, told, with_bytes}
-use Rattle.std.proofs.Common.{◌≡◌, ℕ, List, [], ◌∷◌, ◌++◌, replicate, Option, Some, None, Bool, nat_eq, if◌then◌else◌, refl, sym, ap, ap₂, ◌∙◌, arith, rules}
+use Rattle.process_image.proofs.Common.{ImageEvent, Move, Place, Plan, Unwritten, and_move, at_samples, contents, distinct_after, frames_in, input, move_in, moves, next_deed, option_map, output, pointwise, sampled, told, with_bytes}
+use Rattle.std.proofs.Common.{◌≡◌, ℕ, ◌==◌, List, [], ◌∷◌, ◌++◌, replicate, Option, Some, None, Bool, true, nat_eq, if◌then◌else◌, refl, sym, ap, ap₂, ◌∙◌, arith, rules}
 use Rattle.param_load.specs.declared.entry.Move.TheVariants as move
 use Rattle.process_image.specs.declared.event.ImageEvent.TheVariants as event
 
@@ -73,15 +73,8 @@ frames-push (move.Deliver bytes ∷ ms) what = ap (λ (rest : List (List ℕ)). 
 frames-push (_ ∷ ms) what = frames-push ms what
 
 -- a move that delivers nothing
-abbrev IsQuiet : Option Move → Type 0
-IsQuiet None = Unit {0}
-IsQuiet (Some what) = frames_in (what ∷ []) ≡ []
-
-quiet-frames : (o : Option Move) (ms : List Move) → IsQuiet o → frames_in (and_move o ms) ≡ frames_in ms
-quiet-frames o ms h = search (rules, frames-push)
-
-named-by : (b : Bool) (what : Move) → frames_in (what ∷ []) ≡ [] → IsQuiet (if b then Some what else None)
-named-by b what h = grind arith
+quiet-frames : (b : Bool) (what : Move) (ms : List Move) → frames_in (what ∷ []) ≡ [] → frames_in (and_move (if b then Some what else None) ms) ≡ frames_in ms
+quiet-frames b what ms h = search (rules, frames-push)
 
 sample-frames : (b : Bool) (now : List ℕ) (ms : List Move) → frames_in (and_move (if b then None else Some (move.Deliver now)) ms) ≡ frames_in ms ++ (if b then [] else now ∷ [])
 sample-frames b now ms = search (rules, frames-push)
@@ -97,8 +90,8 @@ distinct size p (event.Sample ∷ calls) =
     ∙ ap (λ (xs : List (List ℕ)). xs ++ one-if before now) (distinct size p calls)
     ∙ ap (λ (last : List ℕ). distinct_after (contents p (replicate size 0)) (at_samples size p calls) ++ one-if last now) (sym (last-is size p calls))
     ∙ sym (distinct-push (contents p (replicate size 0)) (at_samples size p calls) now)
-distinct size p (event.Tick ∷ calls) = quiet-frames (Some move.Tick) (moves size p calls) refl ∙ distinct size p calls
-distinct size p (event.Put slot load ∷ calls) = quiet-frames (if_named slot p (move.Put load)) (moves size p calls) (named-by _ (move.Put load) refl) ∙ distinct size p calls
-distinct size p (event.Hold slot failsafe ∷ calls) = quiet-frames (if_named slot p (move.Hold failsafe)) (moves size p calls) (named-by _ (move.Hold failsafe) refl) ∙ distinct size p calls
-distinct size p (event.Nonce slot id ∷ calls) = quiet-frames (if_named slot p (move.Nonce id)) (moves size p calls) (named-by _ (move.Nonce id) refl) ∙ distinct size p calls
-distinct size p (event.Reset slot ∷ calls) = quiet-frames (if_named slot p move.Local) (moves size p calls) (named-by _ move.Local refl) ∙ distinct size p calls
+distinct size p (event.Tick ∷ calls) = quiet-frames true move.Tick (moves size p calls) refl ∙ distinct size p calls
+distinct size p (event.Put slot load ∷ calls) = quiet-frames (slot == p.number) (move.Put load) (moves size p calls) refl ∙ distinct size p calls
+distinct size p (event.Hold slot failsafe ∷ calls) = quiet-frames (slot == p.number) (move.Hold failsafe) (moves size p calls) refl ∙ distinct size p calls
+distinct size p (event.Nonce slot id ∷ calls) = quiet-frames (slot == p.number) (move.Nonce id) (moves size p calls) refl ∙ distinct size p calls
+distinct size p (event.Reset slot ∷ calls) = quiet-frames (slot == p.number) move.Local (moves size p calls) refl ∙ distinct size p calls

@@ -79,16 +79,14 @@ reset-did plan calls k p did h l = grind arith
 did-of : (event : ImageEvent) (v : ImagesView) (k : ℕ) (did : Did) (e : slot_in event ≡ suc k) → IsDidOf v event did → (plan : Plan) (calls : List ImageEvent) (p : Place) → StandsFor plan v calls → slice_get plan.places k ≡ Some p
     → did ≡ (next_deed plan.size_in p calls (names event k e).0).did
 unfolding names
-did-of (event.Reset slot) v k did e d plan calls p h at = reset-did plan calls k p did at ((subst (λ (n : ℕ). AnswersReset v n did) e d).did plan calls h)
+did-of (event.Reset slot) v k did e d plan calls p h at = reset-did plan calls k p did at ((subst (λ (n : ℕ). AnswersReset v n did) e d).shows plan calls h)
 did-of (event.Put slot load) v k did e d plan calls p h at = d
 did-of (event.Hold slot failsafe) v k did e d plan calls p h at = d
 did-of (event.Nonce slot id) v k did e d plan calls p h at = d
 did-of _ v k did e d plan calls p h at = absurd (cc e)
 
-by-slot : (old new : ImagesView) (event : ImageEvent) (slot n : ℕ) (did : Did) (line : List ℕ) → 1 ≤ slot → slot_in event ≡ slot → IsDidOf old event did → Follows old event new → ShowsAt new slot line (told_line n slot did) → TellsEvent old event n line
-by-slot old new event zero n did line h e d f shows = absurd (omega arith)
-by-slot old new event (suc k) n did line h e d f shows = named-tells old new event k n (names event k e).0 did line (names event k e).1 (did-of event old k did e d) f shows
-
 pub named_tells : (old new : ImagesView) (event : ImageEvent) (slot n : ℕ) (did : Did) (line : List ℕ) → 1 ≤ slot_in event → slot ≡ slot_in event → IsDidOf old event did → Follows old event new → ShowsAt new slot line (told_line n slot did)
     → TellsEvent old event n line
-named_tells old new event slot n did line h e d f shows = by-slot old new event slot n did line (rw e h) (sym e) d f shows
+named_tells old new event zero n did line h e d f shows = absurd (omega arith)
+named_tells old new event (suc k) n did line h e d f shows =
+    let is = names event k (sym e) in named-tells old new event k n is.0 did line is.1 (did-of event old k did (sym e) d) f shows

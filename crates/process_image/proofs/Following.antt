@@ -108,6 +108,6 @@ stands_more plan old new calls call xs h parts seats now out = record {
   input_is = now;
   output_is = out
       ∙ ap (after_steps xs) h.output_is
-      ∙ steps_give (frame_of plan.size_in calls) (frame_of plan.size_in (call ∷ calls)) plan.size_out plan.places xs (replicate plan.size_out 0)
+      ∙ steps_give (frame_of plan.size_in calls) (frame_of plan.size_in (call ∷ calls)) plan.size_in plan.size_out plan.places xs (replicate plan.size_out 0)
       (gives-more plan.size_in calls call plan.places xs parts) (plan_apart plan h.made.no_fault) (seats_long plan.size_in calls plan.places old.seats h.slots) (length-replicate plan.size_out 0);
 }

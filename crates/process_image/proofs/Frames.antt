@@ -1,13 +1,13 @@
 -- What an output image has at each slot, and beside all slots.
 use Rattle.process_image.proofs.Common.{All-cons, All-head, All-nil, All-tail, HoldsFrames, ImageEvent, ImagesView, IsBeside, Place, Plan, ShowsFrames, StandsFor, WritesFit, bytes_at, common_steps, contents, input, length-replicate, output, share, spans_of, with_bytes, with_frames}
-use Rattle.std.proofs.Common.{◌≡◌, ◌≤◌, ◌+◌, ◌-◌, ◌⊎◌, ℕ, zero, suc, List, [], ◌∷◌, ◌++◌, length, take, drop, All, false, refl, sym, ap, subst, ◌∙◌, arith, rules}
-use Rattle.std.proofs.lemmas.List.{drop-drop, drop_at}
+use Rattle.std.proofs.Common.{◌≡◌, ◌≤◌, ◌+◌, ◌-◌, ◌⊎◌, ℕ, List, [], ◌∷◌, length, take, drop, All, false, refl, sym, ap, ◌∙◌, arith, rules}
+use Rattle.std.proofs.lemmas.List.{drop-take}
 use Rattle.process_image.specs.declared.event.ImageEvent.TheVariants as event
 use Rattle.process_image.proofs.Apart.{plan_apart}
 use Rattle.process_image.proofs.Beginning.{zeros_at}
 use Rattle.process_image.proofs.Following.{seats_long}
 use Rattle.process_image.proofs.Giving.{len_at, IsAway, AwayFrom, AreApart, AreLong, frames_long}
-use Rattle.process_image.proofs.WithBytes.{later, same_size}
+use Rattle.process_image.proofs.WithBytes.{same_size, stay_behind}
 
 -- so many bytes from a place on, said by their number
 bytes-are : (at len : ℕ) (image : List ℕ) → bytes_at at len image ≡ take len (drop at image)
@@ -21,20 +21,7 @@ front-stays : (len b : ℕ) (f image : List ℕ) → len ≤ b → b + length f 
 front-stays len b f image h k = grind (arith, common_steps)
 
 pub stay_before : (at len b : ℕ) (f image : List ℕ) → at + len ≤ b → b + length f ≤ length image → take len (drop at (with_bytes b f image)) ≡ take len (drop at image)
-stay_before zero len b f image h inside = front-stays len b f image (omega arith) inside
-stay_before (suc at) len (suc b) f (x ∷ image) h inside = ap (λ (bytes : List ℕ). take len (drop (suc at) bytes)) (later b f x image) ∙ stay_before at len b f image (omega arith) (omega arith)
-stay_before (suc at) len _ f _ h inside = absurd (omega arith)
-
--- and those behind them
-drop-past : (at : ℕ) (f image : List ℕ) → length f ≤ at → drop at (f ++ drop (length f) image) ≡ drop at image
-drop-past at f image h =
-    let e : length f + (at - length f) ≡ at = omega arith in
-    let there : drop (length f) (f ++ drop (length f) image) ≡ drop (length f) image = drop_at f (drop (length f) image) (length f) refl in
-    subst (λ (n : ℕ). drop n (f ++ drop (length f) image) ≡ drop n image) e
-    (sym (drop-drop (at - length f) (length f) (f ++ drop (length f) image)) ∙ ap (drop (at - length f)) there ∙ drop-drop (at - length f) (length f) image)
-
-pub stay_behind : (at b : ℕ) (f image : List ℕ) → b + length f ≤ at → b + length f ≤ length image → drop at (with_bytes b f image) ≡ drop at image
-stay_behind at b f image h k = grind (arith, common_steps, drop-past)
+stay_before at len b f image h inside = sym (drop-take at len (with_bytes b f image)) ∙ ap (drop at) (front-stays (at + len) b f image h inside) ∙ drop-take at len image
 
 -- bytes beside those that were written stay
 pub stays : (at len b : ℕ) (f image : List ℕ) → ((at + len ≤ b) ⊎ (b + length f ≤ at)) → b + length f ≤ length image → bytes_at at len (with_bytes b f image) ≡ bytes_at at len image
@@ -56,32 +43,32 @@ kept frame p f image (q ∷ places) away e inside has =
     All-cons (Has frame (with_bytes p.at_out f image)) q places (stays q.at_out (len_at q) p.at_out f image apart inside ∙ All-head (Has frame image) q places has)
     (kept frame p f image places away.1 e inside (All-tail (Has frame image) q places has))
 
-pub frames_there : (frame : Place → List ℕ) (size : ℕ) (places : List Place) (image : List ℕ) → AreApart size places → AreLong frame places → length image ≡ size → All (Has frame (with_frames frame places image)) places
-frames_there frame size [] image apart long n = All-nil (Has frame image)
-frames_there frame size (p ∷ places) image apart long n =
+pub frames_there : (frame : Place → List ℕ) (size_in size : ℕ) (places : List Place) (image : List ℕ) → AreApart size_in size places → AreLong frame places → length image ≡ size → All (Has frame (with_frames frame places image)) places
+frames_there frame size_in size [] image apart long n = All-nil (Has frame image)
+frames_there frame size_in size (p ∷ places) image apart long n =
     let e : length (frame p) ≡ len_at p = All-head (λ p. length (frame p) ≡ len_at p) p places long in
     let rest : List ℕ = with_frames frame places image in
     let more : AreLong frame places = All-tail (λ p. length (frame p) ≡ len_at p) p places long in
-    let m : length rest ≡ size = frames_long frame size places image apart.2 more n in
+    let m : length rest ≡ size = frames_long frame size_in size places image apart.3 more n in
     let inside : p.at_out + length (frame p) ≤ length rest = rw (e, m) apart.0 in
     All-cons (Has frame (with_frames frame (p ∷ places) image)) p places
     (bytes-are p.at_out (len_at p) (with_bytes p.at_out (frame p) rest) ∙ ap (λ (k : ℕ). take k (drop p.at_out (with_bytes p.at_out (frame p) rest))) (sym e) ∙ there p.at_out (frame p) rest inside)
-    (kept frame p (frame p) rest places apart.1 e inside (frames_there frame size places image apart.2 more n))
+    (kept frame p (frame p) rest places apart.1 e inside (frames_there frame size_in size places image apart.3 more n))
 
 -- bytes beside all slots are those of the image without frames
 unshared : (at len b lb : ℕ) → share at len b lb ≡ false → (at + len ≤ b) ⊎ (b + lb ≤ at)
 unshared at len b lb h = grind arith
 
-pub beside_all : (frame : Place → List ℕ) (size : ℕ) (places : List Place) (image : List ℕ) (at len : ℕ) → AreApart size places → AreLong frame places → length image ≡ size → All (IsBeside at len) places
+pub beside_all : (frame : Place → List ℕ) (size_in size : ℕ) (places : List Place) (image : List ℕ) (at len : ℕ) → AreApart size_in size places → AreLong frame places → length image ≡ size → All (IsBeside at len) places
     → bytes_at at len (with_frames frame places image) ≡ bytes_at at len image
-beside_all frame size [] image at len apart long n beside = refl
-beside_all frame size (p ∷ places) image at len apart long n beside =
+beside_all frame size_in size [] image at len apart long n beside = refl
+beside_all frame size_in size (p ∷ places) image at len apart long n beside =
     let e : length (frame p) ≡ len_at p = All-head (λ p. length (frame p) ≡ len_at p) p places long in
     let rest : List ℕ = with_frames frame places image in
     let more : AreLong frame places = All-tail (λ p. length (frame p) ≡ len_at p) p places long in
-    let m : length rest ≡ size = frames_long frame size places image apart.2 more n in
+    let m : length rest ≡ size = frames_long frame size_in size places image apart.3 more n in
     let one : (at + len ≤ p.at_out) ⊎ (p.at_out + length (frame p) ≤ at) = rw e (unshared at len p.at_out (len_at p) (All-head (IsBeside at len) p places beside)) in
-    stays at len p.at_out (frame p) rest one (rw (e, m) apart.0) ∙ beside_all frame size places image at len apart.2 more n (All-tail (IsBeside at len) p places beside)
+    stays at len p.at_out (frame p) rest one (rw (e, m) apart.0) ∙ beside_all frame size_in size places image at len apart.3 more n (All-tail (IsBeside at len) p places beside)
 
 -- so of images that stand for calls
 pub holds_frames : (plan : Plan) (v : ImagesView) (calls : List ImageEvent) → StandsFor plan v calls → HoldsFrames plan calls (output plan calls)

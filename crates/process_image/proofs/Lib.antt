@@ -3,7 +3,6 @@ pub mod Beginning
 pub mod Counts
 pub mod Distinct
 pub mod Events
-pub mod Faults
 pub mod Following
 pub mod Frames
 pub mod Giving
@@ -11,7 +10,6 @@ pub mod ImageText
 pub mod Keeping
 pub mod Looping
 pub mod One
-pub mod Planned
 pub mod Reading
 pub mod Seats
 pub mod Runs
@@ -22,7 +20,6 @@ pub mod Telling
 pub mod Tested
 pub mod ToldLines
 pub mod WithBytes
-pub mod Worked
 pub mod Written
 pub mod Zips
 pub mod Common

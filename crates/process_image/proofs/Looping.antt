@@ -1,8 +1,8 @@
 -- Loops over all slots, step by step.
-use Rattle.process_image.proofs.Common.{All-get_or, All-nil, All-push, Does, DoesEach, Seat, SeatStep, after_steps, take_all, take_more, with_bytes, with_sent}
-use Rattle.std.proofs.Common.{◌≡◌, ◌≤◌, ℕ, ◌+◌, ◌<◌, List, [], ◌∷◌, ◌++◌, map, length, take, drop, get_or, slice_set, All, ◌==◌, Bool, if◌then◌else◌, refl, sym, ap, ap₂, ◌∙◌, arith, rules}
+use Rattle.process_image.proofs.Common.{All-get_or, All-nil, All-push, Does, DoesEach, Seat, SeatStep, after_steps, take_all, take_more, with_sent}
+use Rattle.std.proofs.Common.{◌≡◌, ◌≤◌, ℕ, ◌+◌, ◌<◌, List, [], ◌∷◌, ◌++◌, map, length, take, drop, get_or, slice_set, All, ◌==◌, refl, sym, ap, ap₂, ◌∙◌, arith}
 use Rattle.std.proofs.lemmas.List.{drop-drop, drop-set-lt, get_or-drop, map-append, take_more_set}
-use Rattle.process_image.proofs.WithBytes.{same_size}
+use Rattle.process_image.proofs.Giving.{sent_size}
 
 -- one step more
 push : {S A : Type 0} (f : S → A) (steps : List S) (x : S) (front : List A) (a : A) → map f steps ≡ front → f x ≡ a → map f (steps ++ x ∷ []) ≡ front ++ a ∷ []
@@ -12,23 +12,14 @@ steps-push : (steps : List SeatStep) (x : SeatStep) (image : List ℕ) → after
 steps-push [] x image = refl
 steps-push (y ∷ steps) x image = steps-push steps x (with_sent y.old y.sent image)
 
--- the number of bytes of the output image stays
-kept-by : (at len : ℕ) (sent image : List ℕ) (b : Bool) → (length sent == len) ≡ b → at + len ≤ length image → length (if b then with_bytes at sent image else image) ≡ length image
-kept-by at len sent image b h k = search (rules, same_size)
-
 -- the first of the slots did their part, so many, and this is told of them
 pub record DoneSoFar {T : Type 0} (Q : SeatStep → Type 0) (tell : SeatStep → T) (old : List Seat) (before : List ℕ) (new : List Seat) (after : List ℕ) (told : List T) (i : ℕ) : Type 0 where
-  pub steps : List SeatStep
-  pub each : All Q steps
-  pub old_are : map (λ x. x.old) steps ≡ take i old
-  pub new_are : map (λ x. x.new) steps ≡ take i new
-  pub told_are : map tell steps ≡ take i told
+  pub done : DoesEach Q tell (take i old) before (take i new) after (take i told)
   pub left : drop i new ≡ drop i old
-  pub output_is : after ≡ after_steps steps before
   pub size : length after ≡ length before
 
 pub does_begun : {T : Type 0} (Q : SeatStep → Type 0) (tell : SeatStep → T) (old : List Seat) (image : List ℕ) (told : List T) → DoneSoFar Q tell old image old image told 0
-does_begun Q tell old image told = record { steps = []; each = All-nil Q; old_are = refl; new_are = refl; told_are = refl; left = refl; output_is = refl; size = refl }
+does_begun Q tell old image told = record { done = record { steps = []; each = All-nil Q; old_are = refl; new_are = refl; told_are = refl; output_is = refl }; left = refl; size = refl }
 
 -- the next of them is as it was
 next-slot : (old new : List Seat) (i : ℕ) (seat : Seat) → drop i new ≡ drop i old → get_or new i seat ≡ get_or old i seat
@@ -47,25 +38,21 @@ pub does_more : {T : Type 0} (Q : SeatStep → Type 0) (tell : SeatStep → T) (
     → DoneSoFar Q tell old before (slice_set new i seat') after' (slice_set told i t') (i + 1)
 does_more Q tell old before new after after' told i seat seat' t' in-old in-new in-told inside p d =
     let now : Seat = get_or new i seat in
+    let q = p.done in
     record {
-      steps = p.steps ++ d.step ∷ [];
-      each = All-push Q p.steps d.step p.each d.is;
-      old_are = push (λ (x : SeatStep). x.old) p.steps d.step (take i old) (get_or old i seat) p.old_are (d.old_is ∙ next-slot old new i seat p.left) ∙ sym (take_more old i seat in-old);
-      new_are = push (λ (x : SeatStep). x.new) p.steps d.step (take i new) seat' p.new_are d.new_is ∙ sym (take_more_set new i seat' in-new);
-      told_are = push tell p.steps d.step (take i told) t' p.told_are (sym d.told_is) ∙ sym (take_more_set told i t' in-told);
+      done = record {
+        steps = q.steps ++ d.step ∷ [];
+        each = All-push Q q.steps d.step q.each d.is;
+        old_are = push (λ (x : SeatStep). x.old) q.steps d.step (take i old) (get_or old i seat) q.old_are (d.old_is ∙ next-slot old new i seat p.left) ∙ sym (take_more old i seat in-old);
+        new_are = push (λ (x : SeatStep). x.new) q.steps d.step (take i new) seat' q.new_are d.new_is ∙ sym (take_more_set new i seat' in-new);
+        told_are = take_more_set told i t' in-told ∙ sym (push tell q.steps d.step (take i told) t' (sym q.told_are) (sym d.told_is));
+        output_is = d.output_is ∙ ap (λ s. with_sent s d.step.sent after) (sym d.old_is) ∙ ap (with_sent d.step.old d.step.sent) q.output_is ∙ sym (steps-push q.steps d.step before);
+      };
       left = drop-set-lt (i + 1) new i seat' (omega arith) ∙ sym (drop-drop 1 i new) ∙ ap (drop 1) p.left ∙ drop-drop 1 i old;
-      output_is = d.output_is ∙ ap (λ s. with_sent s d.step.sent after) (sym d.old_is) ∙ ap (with_sent d.step.old d.step.sent) p.output_is ∙ sym (steps-push p.steps d.step before);
-      size = ap length d.output_is ∙ kept-by now.at_out now.len_out d.step.sent after (length d.step.sent == now.len_out) refl inside ∙ p.size;
+      size = ap length d.output_is ∙ sent_size now.at_out now.len_out d.step.sent after (length d.step.sent == now.len_out) refl inside ∙ p.size;
     }
 
 -- all of them did
 pub does_whole : {T : Type 0} {Q : SeatStep → Type 0} {tell : SeatStep → T} {old new : List Seat} {before after : List ℕ} {told : List T} {i : ℕ} → DoneSoFar Q tell old before new after told i → length old ≤ i → length new ≤ i → length told ≤ i
     → DoesEach Q tell old before new after told
-does_whole {T} {Q} {tell} {old} {new} {before} {after} {told} {i} p h k l = record {
-  steps = p.steps;
-  each = p.each;
-  old_are = p.old_are ∙ take_all i old h;
-  new_are = p.new_are ∙ take_all i new k;
-  told_are = sym (p.told_are ∙ take_all i told l);
-  output_is = p.output_is;
-}
+does_whole {T} {Q} {tell} {old} {new} {before} {after} {told} {i} p h k l = rw (take_all i old h, take_all i new k, take_all i told l) at p.done

@@ -1,10 +1,9 @@
 -- A call that is a move of one slot, or of none.
-use Rattle.process_image.proofs.Common.{All-head, All-tail, AllZip, AreNumbered, Core, Did, Follows, ImageEvent, ImagesView, IsSeatOf, IsSoundSeat, IsStepOf, Move, Place, Seat, SeatStep, after_steps, contents, if_named, input, move_in, nat_tests, sampled, with_bytes, with_sent}
+use Rattle.process_image.proofs.Common.{All-head, All-tail, AllZip, AreNumbered, Follows, ImageEvent, ImagesView, IsSeatOf, IsSoundSeat, IsStepOf, Move, Place, Seat, SeatStep, after_steps, contents, if_named, input, move_in, nat_tests, sampled, with_bytes, with_sent}
 use Rattle.std.proofs.Common.{◌≡◌, ◌≤◌, ℕ, zero, suc, ◌+◌, ◌==◌, List, [], ◌∷◌, map, slice_get, slice_set, All, Some, None, true, false, if◌then◌else◌, refl, sym, ap, subst, ◌∙◌, arith}
-use Rattle.param_load.specs.declared.entry.Move.TheVariants as move
 use Rattle.process_image.specs.declared.event.ImageEvent.TheVariants as event
 use Rattle.process_image.proofs.Following.{IsPart, stands_more}
-use Rattle.process_image.proofs.Seats.{Moved, named_step, stays, step_to, still, still_step}
+use Rattle.process_image.proofs.Seats.{stays, still, still_step}
 
 -- a call after which the slots have seen what they saw before
 abbrev pub Unsampled : ℕ → List ImageEvent → ImageEvent → Type 0
@@ -113,10 +112,3 @@ one_follows si so k slot what call old new x s e at x-is names same unwritten se
       (one-parts plan.size_in si so 1 k slot what calls call plan.places old.seats x h.slots s h.made.numbers e at x-is names (same plan.size_in calls))
       (one-new k old.seats x ∙ sym seats) (now ∙ h.input_is ∙ sym (unwritten plan.size_in calls)) (out ∙ one-out si so k old.seats x old.output s at);
 }
-
-pub reset_follows : (si so k slot : ℕ) (old new : ImagesView) (seat : Seat) (end : Core) (did : Did) (sent : List ℕ) → All (IsSoundSeat si so) old.seats → slot ≡ 1 + k
-    → slice_get old.seats k ≡ Some seat → Moved move.Local seat end did sent → new.seats ≡ slice_set old.seats k (record seat { core = end }) → new.input ≡ old.input
-    → new.output ≡ with_sent seat sent old.output → Follows old (event.Reset slot) new
-reset_follows si so k slot old new seat end did sent s e at m seats now out =
-    one_follows si so k slot move.Local (event.Reset slot) old new (step_to move.Local seat end seat.seen did sent) s e at (named_step move.Local seat end did sent m)
-    (λ size p calls. refl) (λ size calls. refl) (λ size calls. refl) seats now out

@@ -1,8 +1,7 @@
 -- What is shown of one slot.
-use Rattle.process_image.proofs.Common.{AnswersReset, Deed, Did, ImageEvent, ImagesView, IsSeatOf, IsSoundSeat, Place, Plan, Seat, Setup, ShowsAt, bytes_at, deeds, entry_told, frame_len, frame_of, last_frame, numbered, output, sends, setup_is, setup_of, setups_of, told_line}
+use Rattle.process_image.proofs.Common.{Deed, Did, ImageEvent, ImagesView, IsSeatOf, IsSoundSeat, Place, Plan, Seat, Setup, ShowsAt, bytes_at, deeds, entry_told, frame_len, frame_of, last_frame, numbered, output, sends, setup_is, setup_of, setups_of, told_line}
 use Rattle.std.proofs.Common.{◌≡◌, ℕ, zero, suc, arith, Bool, true, false, List, [], All, Option, Some, IfSome, option_map, sym, ap, subst, ◌∙◌}
 use Rattle.std.specs.Prelude.{if◌then◌else◌}
-use Rattle.param_load.specs.declared.entry.Move.TheVariants as move
 use Rattle.end_core.specs.Standing as end_core
 use Rattle.process_image.proofs.Counts.{at_setup}
 use Rattle.process_image.proofs.Frames.{holds_frames}
@@ -15,14 +14,6 @@ shown_at v slot seat shown word at s = record {
   shows = λ plan calls h.
       let p = at_number (IsSeatOf plan.size_in calls) plan.places v.seats slot seat h.slots at in
       rw p.is (ap (λ x. Some x) (sym (s.shows p.there.setup (deeds plan.size_in p.there calls) p.holds.end_is)));
-}
-
--- what the end of a slot did at a reset is what is told of it
-pub reset_answers : (v : ImagesView) (slot : ℕ) (seat : Seat) (did : Did) (sent : List ℕ) → numbered slot v.seats ≡ Some seat → end_core.Answers seat.core move.Local did sent → AnswersReset v slot did
-reset_answers v slot seat did sent at a = record {
-  did = λ plan calls h.
-      let p = at_number (IsSeatOf plan.size_in calls) plan.places v.seats slot seat h.slots at in
-      rw p.is (ap (λ (d : Did). Some d) (sym (a.did p.there.setup (deeds plan.size_in p.there calls) p.holds.end_is)));
 }
 
 -- what is known of the setup of the end of a slot

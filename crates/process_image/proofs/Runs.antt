@@ -1,5 +1,5 @@
 -- A run of images over the events of an input.
-use Rattle.process_image.proofs.Common.{All, All-cons, All-nil, AllZip, DoesEvent, Err, FitsImages, HasSlot, IfOk, ImageEvent, ImageHeading, ImagesView, IsEndOf, IsMadeOf, IsNew, IsPlanOf, IsPrefix, IsSeatOf, IsSlotOf, IsTrue, LineCause, Ok, Place, Plan, Refused, ReportsSoFar, Result, RunStands, RunView, Seat, Setup, Slot, SlotHeader, StandsFor, allows_id, append-nil, bytes_said, common_steps, deeds, each, end_at, end_terms, ended_at, event_in, event_lines, fields_of, id_at, image_format, image_line, image_reporting, image_said, known, last_lines, lines_of_events, map_ok, nat_le, next_field, no_field, number_16, number_32, numbered, one_field, places_from, plan_of, profile_of, report_of, reverse-append, sends, setup_is, setup_of, setups_of, slots_of, value_or, word_of}
+use Rattle.process_image.proofs.Common.{All, All-cons, All-nil, AllZip, DoesEvent, Err, FitsImages, HasSlot, IfOk, ImageEvent, ImageHeading, ImagesView, IsEndOf, IsMadeOf, IsNew, IsPlanOf, IsPrefix, IsSeatOf, IsSlotOf, IsTrue, LineCause, Ok, Place, Plan, Refused, ReportsSoFar, Result, RunStands, Seat, Setup, Slot, SlotHeader, StandsFor, allows_id, append-nil, bytes_said, common_steps, deeds, each, end_at, end_terms, ended_at, event_in, event_lines, fields_of, id_at, image_format, image_line, image_reporting, image_said, known, last_lines, lines_of_events, map_ok, nat_le, next_field, no_field, number_16, number_32, numbered, one_field, places_from, plan_of, profile_of, report_of, reverse-append, sends, setup_is, setup_of, setups_of, slots_of, value_or, word_of}
 use Rattle.schedule_file.specs.EventLine.{switch_of}
 use Rattle.std.proofs.Common.{◌≡◌, ◌+◌, ◌==◌, ℕ, zero, suc, List, [], ◌∷◌, ◌++◌, Bool, true, false, length, map, reverse, slice_get, Option, Some, None, IfSome, append_assoc, leb-true, eqb-true, refl, sym, ap, subst, ◌∙◌, arith}
 use Rattle.std.specs.Prelude.{◌<◌, if◌then◌else◌}
@@ -23,7 +23,7 @@ lines-begin plan (e ∷ more) calls =
     let own : List ℕ = event_lines plan.size_in (more ++ calls) e plan.places in
     (rest.0 ++ own, ap (λ (xs : List ℕ). xs ++ own) rest.1 ∙ append_assoc (lines_of_events plan calls) rest.0 own)
 
-pub so_far : (v : RunView) (h : ImageHeading) (log : List ImageEvent) (text : List ℕ) → RunStands v h log text → ReportsSoFar image_reporting h log text
+pub so_far : (v : ImagesView) (h : ImageHeading) (log : List ImageEvent) (text : List ℕ) → RunStands v h log text → ReportsSoFar image_reporting h log text
 so_far v h log text r = record {
   begins = λ lines more stop.
       let all : List ImageEvent = log ++ more in
@@ -43,19 +43,9 @@ so_far v h log text r = record {
 }
 
 -- one event more
-pub takes_more : (v w : RunView) (h : ImageHeading) (log : List ImageEvent) (text piece : List ℕ) (e : ImageEvent) (n : ℕ) → DoesEvent v.images e n w.images piece → n ≡ length log + 1 → RunStands v h log text
+pub takes_more : (v w : ImagesView) (h : ImageHeading) (log : List ImageEvent) (text piece : List ℕ) (e : ImageEvent) (n : ℕ) → DoesEvent v e n w piece → n ≡ length log + 1 → RunStands v h log text
     → RunStands w h (log ++ e ∷ []) (text ++ piece)
 takes_more v w h log text piece e n k l m = grind (arith, common_steps)
-
--- the same images, and the same text said another way
-pub same_images : (v w : RunView) (h : ImageHeading) (log : List ImageEvent) (text text' : List ℕ) → v.images ≡ w.images → text' ≡ text → RunStands v h log text → RunStands w h log text'
-same_images v w h log text text' e is r = record {
-  plan = r.plan;
-  made = r.made;
-  images = subst (λ (m : ImagesView). StandsFor r.plan m (reverse log)) e r.images;
-  lines = is ∙ r.lines;
-  size_in = subst (λ (m : ImagesView). length m.input ≡ r.plan.size_in) e r.size_in;
-}
 
 -- an event of a line fits images whose slots have these ends
 pub record HaveEnds (size : ℕ) (ends : List SlotEnd) (v : ImagesView) : Type 0 where
@@ -138,16 +128,16 @@ ends-numbered v h plan calls (suc k) end made stands at =
     let rest = ends-at plan.size_in calls (slots_of h) plan.places v.seats k end made.slots stands.slots at in
     (record { first = omega arith; last = omega (arith, rest.0) }, rest.1)
 
-pub run_fits : (v : RunView) (h : ImageHeading) (log : List ImageEvent) (text : List ℕ) (e : ImageEvent) → RunStands v h log text → IsSaid image_format h e → FitsImages v.images e
+pub run_fits : (v : ImagesView) (h : ImageHeading) (log : List ImageEvent) (text : List ℕ) (e : ImageEvent) → RunStands v h log text → IsSaid image_format h e → FitsImages v e
 run_fits v h log text e r said =
-    let have : HaveEnds h.size_in (map end_terms (slots_of h)) v.images =
-    record { size_is = r.size_in ∙ r.made.size_in_is; ends_are = λ slot end at. ends-numbered v.images h r.plan (reverse log) slot end r.made r.images at }
+    let have : HaveEnds h.size_in (map end_terms (slots_of h)) v =
+    record { size_is = r.size_in ∙ r.made.size_in_is; ends_are = λ slot end at. ends-numbered v h r.plan (reverse log) slot end r.made r.images at }
     in
-    let fits : IfOk (image_line h.size_in (map end_terms (slots_of h)) said.0) (OnStep (FitsImages v.images)) =
-    worded cause.Word _ _ (λ first fields. said-fits h.size_in (map end_terms (slots_of h)) v.images (word_of first) fields have) (fields_of said.0)
+    let fits : IfOk (image_line h.size_in (map end_terms (slots_of h)) said.0) (OnStep (FitsImages v)) =
+    worded cause.Word _ _ (λ first fields. said-fits h.size_in (map end_terms (slots_of h)) v (word_of first) fields have) (fields_of said.0)
     in
-    let one : OnStep (FitsImages v.images) said.1 = subst (λ (x : Result ImageLine LineCause). IfOk x (OnStep (FitsImages v.images))) said.2 fits in
-    step-fits (FitsImages v.images) said.1 e said.3 one
+    let one : OnStep (FitsImages v) said.1 = subst (λ (x : Result ImageLine LineCause). IfOk x (OnStep (FitsImages v))) said.2 fits in
+    step-fits (FitsImages v) said.1 e said.3 one
 
 -- at the beginning
 pub all_new : (ss : List SlotHeader) (slots : List Slot) → AllZip IsMadeOf ss slots → All (λ slot. IsNew slot.core) slots
@@ -160,8 +150,8 @@ planned n [] [] z = tt
 planned n (s ∷ ss) (slot ∷ slots) z = (record { at_in_is = z.0.at_in_is; at_out_is = z.0.at_out_is; end_is = z.0.end_is }, planned (suc n) ss slots z.1)
 planned n _ _ z = absurd z
 
-pub begins_so : (v : RunView) (h : ImageHeading) (slots : List Slot) (size_in size_out : ℕ) → size_in ≡ h.size_in → size_out ≡ h.size_out → AllZip IsMadeOf (slots_of h) slots → StandsFor (plan_of size_in size_out slots) v.images []
-    → length v.images.input ≡ size_in → RunStands v h [] []
+pub begins_so : (v : ImagesView) (h : ImageHeading) (slots : List Slot) (size_in size_out : ℕ) → size_in ≡ h.size_in → size_out ≡ h.size_out → AllZip IsMadeOf (slots_of h) slots → StandsFor (plan_of size_in size_out slots) v []
+    → length v.input ≡ size_in → RunStands v h [] []
 begins_so v h slots size_in size_out e f made stands n = record {
   plan = plan_of size_in size_out slots;
   made = record { size_in_is = e; size_out_is = f; slots = planned 1 (slots_of h) slots made; numbers = numbered_so 1 slots };

@@ -1,7 +1,7 @@
 -- The slots of a header fit its images, line by line.
-use Rattle.process_image.proofs.Common.{AllZip, Err, Fit, Heading, IfOk, ImageHeading, IsApart, IsMadeOf, IsTested, IsTrue, LineCause, None, Ok, Option, Result, Slot, SlotHeader, Some, and_placed, bytes_eq, common_steps, either, fields_of, fields_taken, first_fault, first_outside, first_pair, first_with, fits_images, heading_after, heading_is_whole, heading_spans, heading_with, image_heading_is_whole, is_end_line, is_placed, kind_after, lie_inside, list_any, map_ok, no_field, node_heading_after, not, one_hex_field, overlap, pair_or, places_from, plan_of, profile_given, profile_taken, slot_spans, slots_of, tested_by, title_taken}
+use Rattle.process_image.proofs.Common.{AllZip, AllZip-long, Fit, Heading, IfOk, ImageHeading, IsApart, IsMadeOf, IsTested, IsTrue, LineCause, None, Ok, Option, Result, Slot, SlotHeader, Some, bytes_eq, common_steps, either, fields_of, fields_taken, first_fault, first_outside, first_pair, first_with, fits_images, heading_after, heading_is_whole, heading_spans, heading_with, image_heading_is_whole, is_end_line, is_placed, kind_after, length-append, lie_inside, list_any, map_ok, no_field, node_heading_after, not, one_hex_field, overlap, pair_or, places_from, plan_of, profile_given, profile_taken, slot_spans, slots_of, tested_by, title_taken}
 use Rattle.schedule_file.specs.Fields.{◌>>=◌}
-use Rattle.std.proofs.Common.{◌≡◌, ◌≤◌, ◌⊎◌, inl, inr, ℕ, suc, List, [], ◌∷◌, ◌++◌, Bool, true, false, length, map, refl, sym, ap, subst, ◌∙◌, arith, rules}
+use Rattle.std.proofs.Common.{◌≡◌, ◌≤◌, ◌<◌, ◌⊎◌, inl, inr, ℕ, suc, List, [], ◌∷◌, ◌++◌, Bool, true, false, length, map, refl, sym, ap, subst, ◌∙◌, arith, rules}
 use Rattle.std.specs.Prelude.{◌&&◌, if◌then◌else◌}
 use Rattle.std.proofs.lemmas.Bool.{or_parts}
 use Rattle.std.proofs.lemmas.Result.{IfOk-weaker}
@@ -19,7 +19,9 @@ use Rattle.schedule_file.specs.declared.place.Word.{Word}
 use Rattle.schedule_file.specs.declared.place.Word.TheVariants as word
 use Rattle.process_image.specs.declared.header.Stage.TheVariants as stage
 use Rattle.process_image.specs.declared.spans.Spans.{Spans}
-use Rattle.process_image.proofs.Faults.{tested}
+use Rattle.process_image.proofs.Apart.{tested}
+use Rattle.process_image.proofs.Zips.{zip_same}
+use Rattle.schedule_file.proofs.Sound.{IfOk-every, IfOk-map, known, ok_if}
 
 -- the tests of a slot
 and-parts : (a b : Bool) → (a && not b) ≡ true → (a ≡ true) × (b ≡ false)
@@ -50,13 +52,13 @@ same-spans : (ss : List SlotHeader) (t u : SlotHeader) → heading_spans t ≡ h
 same-spans ss t u h = grind (arith, common_steps)
 
 -- the last slot counts, or doesn't
-fit-before : (si so : ℕ) (b : Bool) (ss : List SlotHeader) (t : SlotHeader) → Fit si so (map heading_spans (and_placed b ss t)) → Fit si so (map heading_spans ss)
+fit-before : (si so : ℕ) (b : Bool) (ss : List SlotHeader) (t : SlotHeader) → Fit si so (map heading_spans (if b then ss ++ t ∷ [] else ss)) → Fit si so (map heading_spans ss)
 fit-before si so b ss t h = search (rules, fit-front)
 
-fit-either : (si so : ℕ) (b : Bool) (ss : List SlotHeader) (t : SlotHeader) → Fit si so (map heading_spans (ss ++ t ∷ [])) → Fit si so (map heading_spans (and_placed b ss t))
+fit-either : (si so : ℕ) (b : Bool) (ss : List SlotHeader) (t : SlotHeader) → Fit si so (map heading_spans (ss ++ t ∷ [])) → Fit si so (map heading_spans (if b then ss ++ t ∷ [] else ss))
 fit-either si so b ss t h = search (rules, fit-front)
 
-fit-placed : (si so : ℕ) (b : Bool) (ss : List SlotHeader) (t : SlotHeader) → b ≡ true → Fit si so (map heading_spans (and_placed b ss t)) → Fit si so (map heading_spans (ss ++ t ∷ []))
+fit-placed : (si so : ℕ) (b : Bool) (ss : List SlotHeader) (t : SlotHeader) → b ≡ true → Fit si so (map heading_spans (if b then ss ++ t ∷ [] else ss)) → Fit si so (map heading_spans (ss ++ t ∷ []))
 fit-placed si so b ss t h k = grind arith
 
 -- what a line makes of an end: it places it; or it isn't placed yet; or it was, and stays there
@@ -78,10 +80,6 @@ each-taken : {A : Type 0} (r : Result A LineCause) (f : A → HeaderLine) (given
 each-taken (Ok x) f (Ok it) h P all = all x
 each-taken _ f _ h P all = tt
 
-mapped : {A B : Type 0} (r : Result A LineCause) (f : A → B) (P : B → Type 0) → ((x : A) → P (f x)) → IfOk (map_ok f r) P
-mapped (Ok x) f P all = all x
-mapped (Err e) f P all = tt
-
 profile-goes : (p : Place) (h : Heading) (n : ℕ) → is_placed h.place ≡ true → Goes h (profile_taken p h n)
 profile-goes p h n k = grind arith
 
@@ -92,38 +90,30 @@ word-goes h word.Slave fields stands = each-taken (slave_line fields) says.Slave
 word-goes h word.Profile fields stands = each-taken (profile_line fields) says.Profile (profile_given h word.Profile) h (Goes h) (λ n. profile-goes h.place h n (placed-by h.kind h.place word.Profile refl stands))
 word-goes h word.App fields stands =
     each-taken (one_hex_field 256 fields) says.App (profile_given h word.App) h (Goes h)
-    (λ bytes. mapped (master_with_app h.master bytes) (λ master. record h { place = place.App; master = master }) (Goes h) (λ master. inr (inr (placed-by h.kind h.place word.App refl stands, refl, refl))))
+    (λ bytes. IfOk-map (master_with_app h.master bytes) _ (Goes h) (IfOk-every (master_with_app h.master bytes) _ (λ master. inr (inr (placed-by h.kind h.place word.App refl stands, refl, refl)))))
 word-goes h word.Rule fields stands =
     each-taken (rule_line fields) says.Rule (profile_given h word.Rule) h (Goes h) (λ line. inr (inr (placed-by h.kind h.place word.Rule refl stands, refl, refl)))
 word-goes h word.Bytes fields stands =
     each-taken (one_hex_field 256 fields) says.Bytes (profile_given h word.Bytes) h (Goes h)
-    (λ bytes. mapped (slave_with_bytes h.slave bytes) (λ slave. record h { place = place.RuleExact; slave = slave }) (Goes h) (λ slave. inr (inr (placed-by h.kind h.place word.Bytes refl stands, refl, refl))))
+    (λ bytes. IfOk-map (slave_with_bytes h.slave bytes) _ (Goes h) (IfOk-every (slave_with_bytes h.slave bytes) _ (λ slave. inr (inr (placed-by h.kind h.place word.Bytes refl stands, refl, refl)))))
 word-goes h word.Range fields stands =
     each-taken (range_line fields) says.Range (profile_given h word.Range) h (Goes h)
-    (λ pairs. mapped (slave_with_pairs h.slave pairs) (λ slave. record h { place = place.RuleRanges; slave = slave }) (Goes h) (λ slave. inr (inr (placed-by h.kind h.place word.Range refl stands, refl, refl))))
+    (λ pairs. IfOk-map (slave_with_pairs h.slave pairs) _ (Goes h) (IfOk-every (slave_with_pairs h.slave pairs) _ (λ slave. inr (inr (placed-by h.kind h.place word.Range refl stands, refl, refl)))))
 word-goes h word.Go fields stands =
     each-taken (no_field fields) (λ none. says.Go) (profile_given h word.Go) h (Goes h) (λ none. inr (inr (placed-by h.kind h.place word.Go refl stands, refl, refl)))
 
-allowed : (b : Bool) (w : Word) (next : Word → Result Heading LineCause) (P : Heading → Type 0) → (b ≡ true → IfOk (next w) P) → IfOk ((if b then Ok w else Err cause.Header) >>= next) P
-allowed true w next P h = h refl
-allowed false w next P h = tt
-
-admitted-goes : (h : Heading) (o : Option Word) (fields : List (List ℕ))
-    → IfOk (admitted h.kind h.place o >>= (λ w. header_line w fields >>= (λ line. profile_given h w >>= (λ it. heading_with h line)))) (Goes h)
-admitted-goes h None fields = tt
-admitted-goes h (Some w) fields =
-    allowed (may_stand h.kind h.place w) w (λ w. header_line w fields >>= (λ line. profile_given h w >>= (λ it. heading_with h line))) (Goes h) (λ stands. word-goes h w fields stands)
+stands-at : (kind : HeaderKind) (p : Place) (o : Option Word) → IfOk (admitted kind p o) (λ w. IsTrue (may_stand kind p w))
+stands-at kind p None = tt
+stands-at kind p (Some w) = ok_if (may_stand kind p w) w cause.Header _ (λ stands. stands)
 
 fields-goes : (h : Heading) (fields : List (List ℕ)) → IfOk (fields_taken h fields) (Goes h)
 fields-goes h [] = tt
-fields-goes h (first ∷ fields) = admitted-goes h (header_word_of first) fields
-
-titled : (h : Heading) (b : Bool) → IfOk (if b then Ok (record h { place = place.Title }) else Err cause.Header) (Goes h)
-titled h true = inr (inl refl)
-titled h false = tt
+fields-goes h (first ∷ fields) = known (admitted h.kind h.place (header_word_of first)) _ _ (Goes h) (stands-at h.kind h.place (header_word_of first)) (λ w stands. word-goes h w fields stands)
 
 after-goes : (h : Heading) (text : List ℕ) → IfOk (heading_after h text) (Goes h)
-after-goes h text = either (is_start h.place) (title_taken h text) (fields_taken h (fields_of text)) (Goes h) (titled h (bytes_eq text (title_of h.kind))) (fields-goes h (fields_of text))
+after-goes h text =
+    either (is_start h.place) (title_taken h text) (fields_taken h (fields_of text)) (Goes h) (ok_if (bytes_eq text (title_of h.kind)) (record h { place = place.Title }) cause.Header (Goes h) (λ e. inr (inl refl)))
+    (fields-goes h (fields_of text))
 
 kind-stays : (p : Place) (fields : List (List ℕ)) (kind : HeaderKind) → is_placed p ≡ true → kind_after p fields kind ≡ kind
 kind-stays p fields kind h = grind arith
@@ -143,21 +133,21 @@ last-placed : (p : Place) → is_last p ≡ true → is_placed p ≡ true
 last-placed p h = grind arith
 
 -- a line of the last slot
-fits-on : (si so : ℕ) (ss : List SlotHeader) (last : SlotHeader) (own : Heading) → Fit si so (map heading_spans (and_placed (is_placed last.own.place) ss last)) → Goes last.own own
+fits-on : (si so : ℕ) (ss : List SlotHeader) (last : SlotHeader) (own : Heading) → Fit si so (map heading_spans (if is_placed last.own.place then ss ++ last ∷ [] else ss)) → Goes last.own own
     → (is_end_line own.place ≡ true → (lie_inside si so (heading_spans (record last { own = own })) && not (list_any (λ t. overlap (heading_spans t) (heading_spans (record last { own = own }))) ss)) ≡ true)
-    → Fit si so (map heading_spans (and_placed (is_placed own.place) ss (record last { own = own })))
+    → Fit si so (map heading_spans (if is_placed own.place then ss ++ (record last { own = own }) ∷ [] else ss))
 fits-on si so ss last own f (inl end) fits =
     let t : SlotHeader = record last { own = own } in
     let h = and-parts (lie_inside si so (heading_spans t)) (list_any (λ s. overlap (heading_spans s) (heading_spans t)) ss) (fits end) in
     fit-either si so (is_placed own.place) ss t (fit-push si so ss t (fit-before si so (is_placed last.own.place) ss last f) h.0 h.1)
 fits-on si so ss last own f (inr (inl not_yet)) fits =
-    subst (λ b. Fit si so (map heading_spans (and_placed b ss (record last { own = own })))) (sym not_yet) (fit-before si so (is_placed last.own.place) ss last f)
+    subst (λ b. Fit si so (map heading_spans (if b then ss ++ (record last { own = own }) ∷ [] else ss))) (sym not_yet) (fit-before si so (is_placed last.own.place) ss last f)
 fits-on si so ss last own f (inr (inr stays)) fits =
     let t : SlotHeader = record last { own = own } in
     fit-either si so (is_placed own.place) ss t
     (subst (Fit si so) (same-spans ss last t (sym (spans-stay last own stays.1 stays.2))) (fit-placed si so (is_placed last.own.place) ss last stays.0 f))
 
-tested-at : (si so : ℕ) (done : Bool) (ss : List SlotHeader) (t : SlotHeader) → (done ≡ true → is_placed t.own.place ≡ true) → Fit si so (map heading_spans (and_placed (is_placed t.own.place) ss t))
+tested-at : (si so : ℕ) (done : Bool) (ss : List SlotHeader) (t : SlotHeader) → (done ≡ true → is_placed t.own.place ≡ true) → Fit si so (map heading_spans (if is_placed t.own.place then ss ++ t ∷ [] else ss))
     → Fit si so (map heading_spans (tested_by (if done then stage.Done else stage.Slots) ss t))
 tested-at si so done ss t h k = grind arith
 
@@ -172,31 +162,30 @@ made-spans : (s : SlotHeader) (slot : Slot) → IsMadeOf s slot → slot_spans s
 made-spans s slot h = grind arith
 
 -- so no test finds a fault
-none-outside : (si so n : ℕ) (ss : List SlotHeader) (slots : List Slot) → Fit si so (map heading_spans ss) → AllZip IsMadeOf ss slots → first_outside si so (places_from n slots) ≡ None
-none-outside si so n [] [] f z = refl
-none-outside si so n (s ∷ ss) (slot ∷ slots) f z =
-    let inside : lie_inside si so (slot_spans slot) ≡ true = ap (lie_inside si so) (made-spans s slot z.0) ∙ f.0 in
-    ap (λ b. if b then first_outside si so (places_from (suc n) slots) else Some n) inside ∙ none-outside si so (suc n) ss slots f.2 z.1
-none-outside si so n _ _ f z = absurd z
+none-outside : (si so n : ℕ) (slots : List Slot) → Fit si so (map slot_spans slots) → first_outside si so (places_from n slots) ≡ None
+none-outside si so n [] f = refl
+none-outside si so n (slot ∷ slots) f = ap (λ b. if b then first_outside si so (places_from (suc n) slots) else Some n) f.0 ∙ none-outside si so (suc n) slots f.2
 
-none-with : (s : Spans) (n : ℕ) (ss : List SlotHeader) (slots : List Slot) → IsApart s (map heading_spans ss) → AllZip IsMadeOf ss slots → first_with s (places_from n slots) ≡ None
-none-with s n [] [] a z = refl
-none-with s n (t ∷ ss) (slot ∷ slots) a z =
-    let apart : overlap s (slot_spans slot) ≡ false = ap (overlap s) (made-spans t slot z.0) ∙ a.0 in
-    ap (λ b. if b then Some n else first_with s (places_from (suc n) slots)) apart ∙ none-with s (suc n) ss slots a.1 z.1
-none-with s n _ _ a z = absurd z
+none-with : (s : Spans) (n : ℕ) (slots : List Slot) → IsApart s (map slot_spans slots) → first_with s (places_from n slots) ≡ None
+none-with s n [] a = refl
+none-with s n (slot ∷ slots) a = ap (λ b. if b then Some n else first_with s (places_from (suc n) slots)) a.0 ∙ none-with s (suc n) slots a.1
 
-none-pair : (si so n : ℕ) (ss : List SlotHeader) (slots : List Slot) → Fit si so (map heading_spans ss) → AllZip IsMadeOf ss slots → first_pair (places_from n slots) ≡ None
-none-pair si so n [] [] f z = refl
-none-pair si so n (s ∷ ss) (slot ∷ slots) f z =
-    let alone : first_with (slot_spans slot) (places_from (suc n) slots) ≡ None = search (rules, made-spans, none-with) in
-    ap (λ (o : Option ℕ). pair_or n o (first_pair (places_from (suc n) slots))) alone ∙ none-pair si so (suc n) ss slots f.2 z.1
-none-pair si so n _ _ f z = absurd z
+none-pair : (si so n : ℕ) (slots : List Slot) → Fit si so (map slot_spans slots) → first_pair (places_from n slots) ≡ None
+none-pair si so n [] f = refl
+none-pair si so n (slot ∷ slots) f = ap (λ (o : Option ℕ). pair_or n o (first_pair (places_from (suc n) slots))) (none-with (slot_spans slot) (suc n) slots f.1) ∙ none-pair si so (suc n) slots f.2
 
 none-at : (si so : ℕ) (ss : List SlotHeader) (slots : List Slot) → Fit si so (map heading_spans ss) → AllZip IsMadeOf ss slots → length slots ≤ 64 → first_fault (plan_of si so slots) ≡ None
 none-at si so ss slots f z few =
-    sym (tested si so slots None few (sym (none-outside si so 1 ss slots f z))) ∙ none-pair si so 1 ss slots f z
+    let fit : Fit si so (map slot_spans slots) = rw (zip_same IsMadeOf heading_spans slot_spans ss slots made-spans z) f in
+    sym (tested si so slots None few (sym (none-outside si so 1 slots fit))) ∙ none-pair si so 1 slots fit
 
--- the slots of a whole header have no fault
-pub whole_fit : (h : ImageHeading) (slots : List Slot) → IsTested h → AllZip IsMadeOf (slots_of h) slots → length slots ≤ 64 → IsTrue (image_heading_is_whole h) → first_fault (plan_of h.size_in h.size_out slots) ≡ None
-whole_fit h slots k l m n = search (rules, none-at)
+-- the slots of a whole header are those before the last one, and the last one
+pub whole_slots : (h : ImageHeading) → IsTrue (image_heading_is_whole h) → slots_of h ≡ h.before ++ h.last ∷ []
+whole_slots h whole = grind arith
+
+few : (h : ImageHeading) (slots : List Slot) → AllZip IsMadeOf (slots_of h) slots → length h.before < 64 → IsTrue (image_heading_is_whole h) → length slots ≤ 64
+few h slots z n whole = omega (arith, AllZip-long IsMadeOf (slots_of h) slots z, ap length (whole_slots h whole), length-append h.before (h.last ∷ []))
+
+-- they have no fault
+pub whole_fit : (h : ImageHeading) (slots : List Slot) → IsTested h → AllZip IsMadeOf (slots_of h) slots → length h.before < 64 → IsTrue (image_heading_is_whole h) → first_fault (plan_of h.size_in h.size_out slots) ≡ None
+whole_fit h slots k l m n = search (rules, none-at, few)

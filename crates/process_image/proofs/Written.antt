@@ -1,13 +1,11 @@
 -- A line of bytes that are written, of which the digits are read first.
 use Rattle.process_image.proofs.Common.{Err, LineCause, Ok, Result, bytes_said, fields_of, next_field, number_16, one_hex_field, value_or, write_behind, write_line, written_at}
 use Rattle.schedule_file.specs.Fields.{◌>>=◌}
-use Rattle.std.proofs.Common.{◌≡◌, ℕ, ◌+◌, ◌<◌, ◌≤◌, List, length, ap, ◌∙◌, arith, rules}
+use Rattle.std.proofs.Common.{◌≡◌, ℕ, List, ap, ◌∙◌, arith, rules}
 use Rattle.schedule_file.proofs.HexAlone.{said_alone, unsaid_alone}
 use Rattle.schedule_file.specs.FieldsRead.{not_hex}
 use Rattle.schedule_file.specs.declared.line_cause.LineCause.TheVariants as cause
 use Rattle.process_image.specs.Said.{not_written, cause_or}
-use Rattle.process_image.specs.declared.event.ImageEvent.TheVariants as event
-use Rattle.process_image.specs.declared.event.ImageLine.TheVariants as line
 
 -- the fields behind a place
 pub placed : (size : ℕ) (fields behind : List (List ℕ)) (place : List ℕ) → next_field fields ≡ Ok (place, behind) → write_line size fields ≡ write_behind size place behind
@@ -17,19 +15,8 @@ said : (size : ℕ) (place digits bytes : List ℕ) → value_or cause.Hex (byte
 said size place digits bytes h = grind (arith, said_alone)
 
 -- bytes from a place on, inside the image or not
-inside : (size at : ℕ) (bytes : List ℕ) → at + length bytes ≤ size → written_at size bytes at ≡ Ok (line.Step (event.Write at bytes))
-inside size at bytes h = grind arith
-
-outside : (size at : ℕ) (bytes : List ℕ) → size < at + length bytes → written_at size bytes at ≡ Err cause.Position
-outside size at bytes h = grind arith
-
-pub written : (size at : ℕ) (place digits bytes : List ℕ) → value_or cause.Hex (bytes_said 256 digits) ≡ Ok bytes → number_16 place ≡ Ok at → at + length bytes ≤ size
-    → write_behind size place (fields_of digits) ≡ Ok (line.Step (event.Write at bytes))
-written size at place digits bytes h n le = said size place digits bytes h ∙ ap (λ (r : Result ℕ LineCause). r >>= written_at size bytes) n ∙ inside size at bytes le
-
-pub beyond : (size at : ℕ) (place digits bytes : List ℕ) → value_or cause.Hex (bytes_said 256 digits) ≡ Ok bytes → number_16 place ≡ Ok at → size < at + length bytes
-    → write_behind size place (fields_of digits) ≡ Err cause.Position
-beyond size at place digits bytes h n lt = said size place digits bytes h ∙ ap (λ (r : Result ℕ LineCause). r >>= written_at size bytes) n ∙ outside size at bytes lt
+pub written : (size at : ℕ) (place digits bytes : List ℕ) → value_or cause.Hex (bytes_said 256 digits) ≡ Ok bytes → number_16 place ≡ Ok at → write_behind size place (fields_of digits) ≡ written_at size bytes at
+written size at place digits bytes h n = said size place digits bytes h ∙ ap (λ (r : Result ℕ LineCause). r >>= written_at size bytes) n
 
 pub unplaced : (size : ℕ) (place digits bytes : List ℕ) (why : LineCause) → value_or cause.Hex (bytes_said 256 digits) ≡ Ok bytes → number_16 place ≡ Err why
     → write_behind size place (fields_of digits) ≡ Err why

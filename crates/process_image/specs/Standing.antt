@@ -5,6 +5,7 @@ use Rattle.fsoe_base.specs.declared.did.Did.{Did}
 use Rattle.param_load.specs.declared.entry.Move.TheVariants as move
 use Rattle.end_model.specs.Setup.{Setup}
 use Rattle.end_model.specs.Deed.{Deed}
+use Rattle.end_model.specs.Step.{step}
 use Rattle.end_core.specs.Core.{setup_of}
 use Rattle.end_core.specs.Standing.{IsAfter}
 use Rattle.process_image.specs.Calls.{contents, move_in, deeds, next_deed, frame_of, output}
@@ -62,23 +63,26 @@ pub record Keeps (old new : ImagesView) : Type 0 where
 abbrev pub told : ℕ → List ImageEvent → ImageEvent → Place → Option Did
 told size calls call p = option_map (λ what. (next_deed size p calls what).did) (move_in size p calls call)
 
+-- what is told of the slots is this word of each
+pub record TellsEach {T : Type 0} (old : ImagesView) (dids : List T) (word : ℕ → List ImageEvent → Place → T) : Type 0 where
+  pub told_are : (plan : Plan) (calls : List ImageEvent) → StandsFor plan old calls → dids ≡ map (word plan.size_in calls) plan.places
+
 -- a sample tells of each slot what is told of it
-pub record AnswersSample (old : ImagesView) (dids : List (Option Did)) : Type 0 where
-  pub told_are : (plan : Plan) (calls : List ImageEvent) → StandsFor plan old calls → dids ≡ map (told plan.size_in calls event.Sample) plan.places
+abbrev pub AnswersSample : ImagesView → List (Option Did) → Type 0
+AnswersSample old dids = TellsEach old dids (λ size calls. told size calls event.Sample)
 
 -- a tick tells of each slot what its end did
-pub record AnswersTick (old : ImagesView) (dids : List Did) : Type 0 where
-  pub told_are : (plan : Plan) (calls : List ImageEvent) → StandsFor plan old calls → dids ≡ map (λ p. (next_deed plan.size_in p calls move.Tick).did) plan.places
-
--- a reset of a slot tells what its end did
-pub record AnswersReset (old : ImagesView) (slot : ℕ) (done : Did) : Type 0 where
-  pub did : (plan : Plan) (calls : List ImageEvent) → StandsFor plan old calls
-      → option_map (λ p. (next_deed plan.size_in p calls move.Local).did) (numbered slot plan.places) ≡ Some done
+abbrev pub AnswersTick : ImagesView → List Did → Type 0
+AnswersTick old dids = TellsEach old dids (λ size calls p. (next_deed size p calls move.Tick).did)
 
 -- what is shown of a slot is this word of what its end did
 pub record ShowsAt {X : Type 0} (v : ImagesView) (slot : ℕ) (shown : X) (word : Setup → List Deed → X) : Type 0 where
   pub shows : (plan : Plan) (calls : List ImageEvent) → StandsFor plan v calls
       → option_map (λ p. word p.setup (deeds plan.size_in p calls)) (numbered slot plan.places) ≡ Some shown
+
+-- a reset of a slot tells what its end did
+abbrev pub AnswersReset : ImagesView → ℕ → Did → Type 0
+AnswersReset old slot done = ShowsAt old slot done (λ s e. (step s e move.Local).did)
 
 -- what is shown is this word of the calls
 pub record ShowsImage (v : ImagesView) (shown : List ℕ) (word : Plan → List ImageEvent → List ℕ) : Type 0 where

@@ -52,9 +52,9 @@ pub record RunView : Type 0 where
   pub waiting : WaitingText
 
 -- images that were made as a header says stand for these events, of which this text has the lines
-pub record RunStands (v : RunView) (h : ImageHeading) (log : List ImageEvent) (text : List ℕ) : Type 0 where
+pub record RunStands (v : ImagesView) (h : ImageHeading) (log : List ImageEvent) (text : List ℕ) : Type 0 where
   pub plan : Plan
   pub made : IsPlanOf h plan
-  pub images : StandsFor plan v.images (reverse log)
+  pub images : StandsFor plan v (reverse log)
   pub lines : text ≡ lines_of_events plan (reverse log)
-  pub size_in : length v.images.input ≡ plan.size_in
+  pub size_in : length v.input ≡ plan.size_in

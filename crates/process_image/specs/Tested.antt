@@ -1,5 +1,5 @@
 -- Which slots of a header were tested, and that there are images with them.
-use Rattle.std.specs.Prelude.{◌≡◌, ℕ, Bool, true, false, List, [], ◌∷◌, ◌++◌, map}
+use Rattle.std.specs.Prelude.{◌≡◌, ℕ, Bool, true, false, List, [], ◌∷◌, ◌++◌, map, if◌then◌else◌}
 use Rattle.schedule_file.specs.declared.place.Place.{Place}
 use Rattle.schedule_file.specs.declared.place.Place.TheVariants as place
 use Rattle.process_image.specs.Header.{ImageHeading, heading_spans}
@@ -27,14 +27,9 @@ is_placed place.Title = false
 is_placed place.Lengths = false
 is_placed other = true
 
--- slots, the last of which counts once it is placed
-abbrev pub and_placed : Bool → List SlotHeader → SlotHeader → List SlotHeader
-and_placed true before last = before ++ last ∷ []
-and_placed false before last = before
-
--- the slots of a header that were tested, by how far it is
+-- the slots of a header that were tested, by how far it is: the last one once it is placed
 abbrev pub tested_by : Stage → List SlotHeader → SlotHeader → List SlotHeader
-tested_by stage.Slots before last = and_placed (is_placed last.own.place) before last
+tested_by stage.Slots before last = if is_placed last.own.place then before ++ last ∷ [] else before
 tested_by stage.Done before last = before ++ last ∷ []
 tested_by other before last = []
 

@@ -5,10 +5,11 @@ use Rattle.param_load.specs.declared.profile.Profile.TheVariants as profile
 use Rattle.schedule_file.specs.Fields.{◌>>=◌, map_ok}
 use Rattle.schedule_file.specs.Input.{AtEnd}
 use Rattle.schedule_file.specs.declared.line_cause.LineCause.{LineCause}
+use Rattle.end_model.specs.Setup.{Setup}
 use Rattle.end_model.specs.WorkedRuns.{a_slave, a_master, if_bytes}
 use Rattle.process_image.specs.EventLine.{image_line}
 use Rattle.process_image.specs.Header.{ImageHeading, image_heading_new, image_heading_after}
-use Rattle.process_image.specs.Places.{Plan}
+use Rattle.process_image.specs.Places.{Place, Plan}
 use Rattle.process_image.specs.Report.{report_of}
 use Rattle.process_image.specs.declared.event.ImageEvent.{ImageEvent}
 use Rattle.process_image.specs.declared.event.ImageLine.{ImageLine}
@@ -24,57 +25,41 @@ after_lines h (text ∷ texts) = after_lines (h >>= (λ heading. image_heading_a
 abbrev pub w : ℕ → List ℕ → ImageEvent
 w at text = event.Write at (if_bytes (decode_of text))
 
+-- the slot of this number, whose frames begin here in both images
+abbrev pub slot_at : ℕ → ℕ → ℕ → Setup → Place
+slot_at number at_in at_out setup = record { number = number; at_in = at_in; at_out = at_out; setup = setup }
+
+-- this is the report of these events, the first of which comes first
+unfoldable pub Reports : Plan → List ImageEvent → List ℕ → Type 0
+Reports plan events text = report_of plan (reverse events) AtEnd ≡ text
+
 -- one slave, whose frames fill both images
 abbrev pub one_slave : Plan
-one_slave = record { size_in = 7; size_out = 7; places = record { number = 1; at_in = 0; at_out = 0; setup = a_slave } ∷ [] }
+one_slave = record { size_in = 7; size_out = 7; places = slot_at 1 0 0 a_slave ∷ [] }
 
 -- a Reset frame, which is sampled twice, and a Session frame
 abbrev pub two_frames : List ImageEvent
 two_frames = w 0 (codes "2a0000c42d0000") ∷ event.Sample ∷ event.Sample ∷ w 0 (codes "4e0100123e0000") ∷ event.Sample ∷ []
 
--- a slot is delivered exactly where its bytes changed
-unfoldable pub ChangesAlone : Type 0
-ChangesAlone =
-    report_of one_slave (reverse two_frames) AtEnd
-    ≡ codes "2 1 took Reset Reset 0000 > 2a0000c42d0000\n5 1 took Session Session 0000 > 4e020090470000\nevents 5\nout 4e020090470000\n"
-
 -- the Session frame in two writes with a sample between them: the half of it is told as the frame that it is
 abbrev pub two_halves : List ImageEvent
 two_halves = w 0 (codes "2a0000c42d0000") ∷ event.Sample ∷ w 0 (codes "4e0100") ∷ event.Sample ∷ w 3 (codes "123e0000") ∷ event.Sample ∷ []
 
-unfoldable pub HalfWritten : Type 0
-HalfWritten =
-    report_of one_slave (reverse two_halves) AtEnd
-    ≡ codes "2 1 took Reset Reset 0000 > 2a0000c42d0000\n4 1 drop InReset Reset 0000\n6 1 took Session Session 0000 > 4e020090470000\nevents 6\nout 4e020090470000\n"
-
 -- a master and a slave side by side, without a gap
 abbrev pub side_by_side : Plan
-side_by_side = record {
-  size_in = 14;
-  size_out = 14;
-  places = record { number = 1; at_in = 0; at_out = 0; setup = a_master } ∷ record { number = 2; at_in = 7; at_out = 7; setup = a_slave } ∷ [];
-}
+side_by_side = record { size_in = 14; size_out = 14; places = slot_at 1 0 0 a_master ∷ slot_at 2 7 7 a_slave ∷ [] }
 
 -- the master's Reset frame comes to the slave, and the slave's answer to the master: each goes on by itself
 abbrev pub first_exchange : List ImageEvent
 first_exchange = event.Tick ∷ w 7 (codes "2a0000c42d0000") ∷ event.Sample ∷ w 0 (codes "2a0000c42d0000") ∷ event.Sample ∷ []
 
-unfoldable pub BothEnds : Type 0
-BothEnds =
-    report_of side_by_side (reverse first_exchange) AtEnd
-    ≡ codes "1 1 again Reset 0000 > 2a0000c42d0000\n1 2 quiet Reset 0000\n3 2 took Reset Reset 0000 > 2a0000c42d0000\n5 1 took Reset Session 0000 > 4e0100123e0000\nevents 5\nout 4e0100123e00002a0000c42d0000\n"
-
 -- two slots of seven bytes that share the last byte of the first
 abbrev pub sharing : Plan
-sharing = record {
-  size_in = 14;
-  size_out = 14;
-  places = record { number = 1; at_in = 0; at_out = 0; setup = a_slave } ∷ record { number = 2; at_in = 6; at_out = 7; setup = a_slave } ∷ [];
-}
+sharing = record { size_in = 14; size_out = 14; places = slot_at 1 0 0 a_slave ∷ slot_at 2 6 7 a_slave ∷ [] }
 
 -- 65 slots that share all bytes and lie outside of the output image
 abbrev pub crowded : Plan
-crowded = record { size_in = 7; size_out = 6; places = replicate 65 (record { number = 1; at_in = 0; at_out = 0; setup = a_slave }) }
+crowded = record { size_in = 7; size_out = 6; places = replicate 65 (slot_at 1 0 0 a_slave) }
 
 -- the lines of two slots that a slave has, the second of which begins here
 abbrev pub two_slots : List ℕ → List (List ℕ)

@@ -1,7 +1,7 @@
 //! Lines of events.
 ghost use Rattle.std.specs.Prelude.{◌≡◌};
 ghost use Rattle.schedule_file.specs.FieldsRead.{fields_after, Becomes};
-ghost use Rattle.process_image.specs.EventLine.{IsSlotAndField, end_at, slot_and_field, write_line, put_line, hold_line, nonce_line, reset_line, image_line};
+ghost use Rattle.process_image.specs.EventLine.{IsSlotAndField, slot_and_field, write_line, put_line, hold_line, nonce_line, reset_line, image_line};
 ghost use Rattle.process_image.specs.Places.{numbered};
 
 use crate::event::ImageEvent;
@@ -66,13 +66,6 @@ fn find_end(slot: u16, ends: &[SlotEnd]) -> Option<SlotEnd>
     ends.get(usize::from(slot) - 1).copied()
 }
 
-/// The end of the slot of this number. `NoLink` where there is none.
-fn end_at(slot: u16, ends: &[SlotEnd]) -> Result<SlotEnd, LineCause>
-    ensures { result ≡ end_at slot ends.now }
-{
-    find_end(slot, ends).ok_or(LineCause::NoLink)
-}
-
 /// `<at> <hex>`: from 1 to 256 bytes inside the input image.
 #[tactic(auto, using(crate::proofs::Written::placed))]
 fn read_write(size: u16, fields: Option<&[u8]>, says: &mut Said) -> Result<(), LineCause>
@@ -99,7 +92,7 @@ fn read_put(ends: &[SlotEnd], fields: Option<&[u8]>, says: &mut Said) -> Result<
     ensures { Becomes result says.new (put_line ends.now (fields_after fields.entry)) }
 {
     let (slot, digits) = slot_and_field(fields)?;
-    let end = end_at(slot, ends)?;
+    let end = find_end(slot, ends).ok_or(LineCause::NoLink)?;
     let mut load = Image::new();
     read_bytes(digits, &mut load)?;
     if load.len() != end.sends {
@@ -115,7 +108,7 @@ fn read_hold(ends: &[SlotEnd], fields: Option<&[u8]>, says: &mut Said) -> Result
 {
     let (slot, field) = slot_and_field(fields)?;
     let failsafe = read_switch(field).ok_or(LineCause::Number)?;
-    end_at(slot, ends)?;
+    find_end(slot, ends).ok_or(LineCause::NoLink)?;
     says.set(ImageEvent::Hold { slot, failsafe });
     Ok(())
 }
@@ -142,7 +135,7 @@ fn read_reset(ends: &[SlotEnd], fields: Option<&[u8]>, says: &mut Said) -> Resul
 {
     let field = one_field(fields)?;
     let slot = number_16(field)?;
-    end_at(slot, ends)?;
+    find_end(slot, ends).ok_or(LineCause::NoLink)?;
     says.set(ImageEvent::Reset { slot });
     Ok(())
 }

@@ -1,10 +1,10 @@
 //! The header of images, line by line.
-ghost use Rattle.std.specs.Prelude.{◌≡◌, ◌≤◌, ◌<◌, ◌⊎◌, [], ◌∷◌, ◌++◌, IsTrue, IfOk, OnErr, OnOk, None, length, map};
+ghost use Rattle.std.specs.Prelude.{◌≡◌, ◌≤◌, ◌<◌, ◌⊎◌, IsTrue, IfOk, OnErr, OnOk, None, length, map};
 ghost use Rattle.std.specs.List.{AllZip, list_any};
 ghost use Rattle.schedule_file.specs.FieldsRead.{fields_after, Becomes};
 ghost use Rattle.schedule_file.specs.NodeHeader.{may_end};
 ghost use Rattle.process_image.specs.Fault.{first_fault, plan_of, IsMadeOf};
-ghost use Rattle.process_image.specs.Header.{image_heading_new, image_heading_is_whole, image_heading_after, size_line, slot_line, slot_begun, size_taken, slot_taken, two_numbers, own_taken, slots_of, fits_images, heading_spans, end_of, is_size};
+ghost use Rattle.process_image.specs.Header.{image_heading_new, image_heading_is_whole, image_heading_after, size_line, slot_line, slot_begun, size_taken, slot_taken, two_numbers, own_taken, slots_of, fits_images, heading_spans, end_of};
 ghost use Rattle.process_image.specs.LinesLeft.{image_lines_left};
 ghost use Rattle.process_image.specs.Places.{overlap};
 ghost use Rattle.process_image.specs.Report.{end_terms};
@@ -88,7 +88,7 @@ impl SlotHeader {
     }
 
     /// The slot with a new end that is set to what its lines say.
-    #[tactic(auto, using(crate::proofs::Planned::made))]
+    #[tactic(auto, using(crate::proofs::Beginning::made))]
     fn slot(&self) -> Slot
         ensures { IsMadeOf self.now result }
     {
@@ -172,14 +172,6 @@ impl Model for ImageHeader {
         }) };
 }
 
-/// Whether an image may have so many bytes.
-fn is_size(n: u16) -> bool
-    ensures value { result ≡ is_size n }
-    ensures most { IsTrue result → n ≤ MOST_SIZE }
-{
-    n >= 1 && n <= MOST_SIZE
-}
-
 /// Two numbers.
 fn read_two(fields: Option<&[u8]>) -> Result<(u16, u16), LineCause>
     ensures { result ≡ two_numbers (fields_after fields.entry) }
@@ -195,7 +187,7 @@ fn read_size(fields: Option<&[u8]>) -> Result<(u16, u16), LineCause>
     ensures most { IfOk result (λ sizes. sizes.1 ≤ MOST_SIZE) }
 {
     let (size_in, size_out) = read_two(fields)?;
-    if is_size(size_in) && is_size(size_out) {
+    if size_in >= 1 && size_in <= MOST_SIZE && size_out >= 1 && size_out <= MOST_SIZE {
         Ok((size_in, size_out))
     } else {
         Err(LineCause::Range)
@@ -358,14 +350,13 @@ impl ImageHeader {
         (self.size_in, self.size_out)
     }
 
-    /// What lines of events look at of the ends of the slots, in their order.
+    /// What lines of events look at of the ends of a complete header's slots, in their order.
+    #[tactic(auto, using(crate::proofs::Tested::whole_slots))]
     pub(crate) fn ends(&self) -> ArrayVec<SlotEnd, MOST_SLOTS>
+        requires { IsTrue (image_heading_is_whole self.now) }
         ensures { result.items ≡ map end_terms (slots_of self.now) }
     {
         let mut ends = ArrayVec::new();
-        if self.count() == 0 {
-            return ends;
-        }
         for slot in self.before.as_slice() {
             ends.push(slot.end_terms());
         }
@@ -373,23 +364,20 @@ impl ImageHeader {
         ends
     }
 
-    /// Returns the slots, in their order, each with a new end with the settings of its lines. Those of a complete
-    /// header have no fault: each was tested at its `master` or `slave` line.
+    /// Returns the slots of a complete header, in their order, each with a new end with the settings of its lines. They
+    /// have no fault: each was tested at its `master` or `slave` line.
     pub(crate) fn slots(&self, alloc: Global) -> Result<Vec<Slot>, Memory>
+        requires { IsTrue (image_heading_is_whole self.now) }
         ensures made { IfOk result (λ slots. AllZip IsMadeOf (slots_of self.now) slots.items) }
-        ensures most { IfOk result (λ slots. length slots.items ≤ MOST_SLOTS) }
-        ensures fit { IsTrue (image_heading_is_whole self.now) → IfOk result (λ slots. first_fault (plan_of self.now.size_in self.now.size_out slots.items) ≡ None) }
+        ensures fit { IfOk result (λ slots. first_fault (plan_of self.now.size_in self.now.size_out slots.items) ≡ None) }
     {
-        let Ok(mut slots) = Vec::with_capacity(alloc, usize::from(self.count())) else {
+        let Ok(mut slots) = Vec::with_capacity(alloc, self.before.len() + 1) else {
             return Err(Memory);
         };
-        if self.count() == 0 {
-            return Ok(slots);
-        }
         for slot in self.before.as_slice() {
-            push(&mut slots, slot.slot())?;
+            slots.push_reserved(slot.slot());
         }
-        push(&mut slots, self.last.slot())?;
+        slots.push_reserved(self.last.slot());
         Ok(slots)
     }
 
@@ -399,16 +387,6 @@ impl ImageHeader {
     {
         let own = self.last.spans();
         lie_inside(self.size_in, self.size_out, &own) && !shares(self.before.as_slice(), &own)
-    }
-}
-
-/// Appends a slot.
-fn push(slots: &mut Vec<Slot>, slot: Slot) -> Result<(), Memory>
-    ensures { OnOk result (slots.new.items ≡ slots.old.items ++ slot ∷ []) }
-{
-    match slots.push(slot) {
-        Ok(_) => Ok(()),
-        Err(_) => Err(Memory),
     }
 }
 

@@ -13,7 +13,7 @@ ghost use Rattle.process_image.specs.Own.{Unwritten, WritesFit, at_samples, dist
 ghost use Rattle.process_image.specs.Image.{input};
 ghost use Rattle.process_image.specs.Places.{Place, Plan, share, spans_of};
 ghost use Rattle.process_image.specs.Standing.{told};
-ghost use Rattle.process_image.specs.Worked.{sharing, crowded, one_uneven, two_slots, stage_after, one_said, w, ChangesAlone, HalfWritten, BothEnds};
+ghost use Rattle.process_image.specs.Worked.{one_slave, two_frames, two_halves, side_by_side, first_exchange, sharing, crowded, one_uneven, two_slots, stage_after, one_said, w, Reports};
 ghost use Rattle.process_image.specs.declared.event.ImageEvent.{ImageEvent};
 ghost use Rattle.process_image.specs.declared.event.ImageEvent.TheVariants as event;
 ghost use Rattle.process_image.specs.declared.event.ImageLine.TheVariants as line;
@@ -28,15 +28,15 @@ pub fn frames_fill()
 
 /// Worked reports of images. A slot is delivered only if its bytes changed. Half of a frame is dropped in state Reset,
 /// and the whole frame then taken. A master and a slave are side by side.
-#[tactic(auto, using(crate::proofs::Worked::changes_alone, crate::proofs::Worked::half_written, crate::proofs::Worked::both_ends))]
 pub fn worked_reports()
-    ensures changes_alone { ChangesAlone }
-    ensures half_written { HalfWritten }
-    ensures both_ends { BothEnds }
+    ensures changes_alone { Reports one_slave two_frames (codes "2 1 took Reset Reset 0000 > 2a0000c42d0000\n5 1 took Session Session 0000 > 4e020090470000\nevents 5\nout 4e020090470000\n") }
+    ensures half_written { Reports one_slave two_halves (codes "2 1 took Reset Reset 0000 > 2a0000c42d0000\n4 1 drop InReset Reset 0000\n6 1 took Session Session 0000 > 4e020090470000\nevents 6\nout 4e020090470000\n") }
+    ensures both_ends { Reports side_by_side first_exchange (codes "1 1 again Reset 0000 > 2a0000c42d0000\n1 2 quiet Reset 0000\n3 2 took Reset Reset 0000 > 2a0000c42d0000\n5 1 took Reset Session 0000 > 4e0100123e0000\nevents 5\nout 4e0100123e00002a0000c42d0000\n") }
 {}
 
 /// Worked lines of a header and of events, and slots that share a byte: the line that says a slot's lengths is refused.
 /// Then the first fault of slots that have several.
+#[tactic(auto, unfolding(hex::proofs::OnLiterals::hex_on_literals))]
 pub fn worked_lines()
     ensures apart { stage_after (two_slots (codes "slot 2 7 7")) ≡ Ok stage.Slots }
     ensures shared { stage_after (two_slots (codes "slot 2 6 7")) ≡ Err cause.Range }

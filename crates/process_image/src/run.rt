@@ -169,7 +169,7 @@ impl Machine for ImageRun {
 
     ghost reporting = { λ alloc. image_reporting };
 
-    ghost stands = { λ first v now. RunStands v };
+    ghost stands = { λ first v now. RunStands v.images };
 
     ghost waits = { λ v now. waits v.waiting };
 

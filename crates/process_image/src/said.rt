@@ -86,7 +86,7 @@ impl Said {
     /// Says that the bytes of these digits, from 1 to 256, are written from this place on, where they lie inside an
     /// input image of this size. Digits have no space among them, so one is sought only where they aren't digits. What
     /// is said after an error is left open.
-    #[tactic(auto, using(crate::proofs::Written::written, crate::proofs::Written::beyond, crate::proofs::Written::unplaced, crate::proofs::Written::unsaid))]
+    #[tactic(auto, using(crate::proofs::Written::written, crate::proofs::Written::unplaced, crate::proofs::Written::unsaid))]
     pub(crate) fn read_write(
         &mut self,
         size: u16,

@@ -1,5 +1,5 @@
 //! A slot with what it saw last, and its part of each call.
-ghost use Rattle.std.specs.Prelude.{◌≡◌, ◌≤◌, ◌+◌, length, All};
+ghost use Rattle.std.specs.Prelude.{◌≡◌, ◌≤◌, ◌+◌, None, length, All};
 ghost use Rattle.process_image.specs.Image.{with_bytes};
 ghost use Rattle.process_image.specs.Sound.{IsNewSeat, IsSoundSeat, MaySend};
 ghost use Rattle.param_load.specs.declared.entry.Move.TheVariants as move;
@@ -15,6 +15,15 @@ pub(crate) fn overwrite(image: &mut [u8], at: usize, bytes: &[u8])
     ensures { image.new ≡ with_bytes at bytes.now image.old }
 {
     image[at..at + bytes.len()].copy_from_slice(bytes);
+}
+
+/// Empties a place. One that is empty isn't written again.
+fn empty(told: &mut Option<Did>)
+    ensures { told.new ≡ None }
+{
+    if told.is_some() {
+        *told = None;
+    }
 }
 
 /// A slot, with its contents at the last sample, by which a new frame is recognized.
@@ -91,10 +100,7 @@ impl Seat {
     {
         let now = &input[self.at_in..self.at_in + self.seen.len()];
         if self.seen.bytes() == now {
-            // A place that is empty isn't written again.
-            if told.is_some() {
-                *told = None;
-            }
+            empty(told);
             return;
         }
         self.deliver(input, output, sent, told);

@@ -1,5 +1,5 @@
 use Rattle.std.proofs.Common.{arith, rules}
-use Rattle.process_image.proofs.Faults.{too_many, tested}
+use Rattle.process_image.proofs.Apart.{too_many, tested}
 use Rattle.process_image.proofs.spans.first_fault.Goals as goal
 
 pub returns-then-slots-gt-MOST_SLOTS : goal.returns-then-slots-gt-MOST_SLOTS

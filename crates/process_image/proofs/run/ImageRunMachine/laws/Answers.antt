@@ -8,4 +8,4 @@ pub returns-clause-some : goal.returns-clause-some
 returns-clause-some c = λ alloc bytes. let r = some_report bytes in (r.0, ended_at (input_read image_format bytes).stop, (r.1, refl))
 
 pub returns-clause-so_far : goal.returns-clause-so_far
-returns-clause-so_far c = λ first v now h log text r. so_far v h log text r
+returns-clause-so_far c = λ first v now h log text r. so_far v.images h log text r

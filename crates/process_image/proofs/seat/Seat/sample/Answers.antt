@@ -1,20 +1,10 @@
-use Rattle.std.proofs.Common.{◌≡◌, refl, ◌+◌, length, false, Option, None, Some, is_some, slice_range, ap, rules}
-use Rattle.fsoe_base.specs.declared.did.Did.{Did}
+use Rattle.std.proofs.Common.{◌+◌, length, slice_range, ap, rules}
 use Rattle.process_image.proofs.Seats.{samples_none}
 use Rattle.process_image.proofs.seat.Seat.sample.Goals as goal
 
-pub returns-then-is_some : goal.returns-then-is_some
-returns-then-is_some c =
-    samples_none (length c.args.input.now) (length c.args.output.now) c.args.input.now c.args.self.now _ c.args.output.now c.requires
-    (ap (λ n. slice_range c.args.input.now c.args.self.now.at_in (c.args.self.now.at_in + n)) c.len.ensures.value) (cc)
-
-empty : (told : Option Did) → false ≡ is_some told → told ≡ None
-empty None h = refl
-empty (Some _) h = absurd (cc)
-
-pub returns-else-is_some : goal.returns-else-is_some
-returns-else-is_some c =
-    rw (empty c.args.told.now (cc))
+pub returns-then-eq : goal.returns-then-eq
+returns-then-eq c =
+    rw c.empty.ensures
     (samples_none (length c.args.input.now) (length c.args.output.now) c.args.input.now c.args.self.now _ c.args.output.now c.requires
     (ap (λ n. slice_range c.args.input.now c.args.self.now.at_in (c.args.self.now.at_in + n)) c.len.ensures.value) (cc))
 
