@@ -1,18 +1,24 @@
--- A text is cut at its dots.
-use Rattle.std.proofs.Common.{◌≡◌, ℕ, List, ◌∷◌, length, arith, ap, ◌∙◌, sym, ◌<◌}
-use Rattle.std.specs.Prelude.{Option, None, Some}
-use Rattle.std.proofs.lemmas.List.Splits.{length-slice_split}
-use Rattle.plant_conf.specs.Forms.{is_dot, parts_of, place_said}
-use Rattle.plant_conf.specs.Kept.{parts_after}
-use denote.Ref.{Bor}
+-- The first dot of a text.
+use Rattle.std.proofs.Common.{◌≡◌, ℕ, ◌+◌, List, [], length, take, drop, arith, ap, sym}
+use Rattle.std.specs.Prelude.{None, Some}
+use Rattle.std.specs.List.{after_first, before_first, position_or_len}
+use Rattle.std.proofs.lemmas.Bool.{false_from_ne_true}
+use Rattle.std.proofs.lemmas.List.{drop_all}
+use Rattle.std.proofs.lemmas.List.Sums.{position_or_len_is}
+use Rattle.memchr.specs.Find.{IsFirstByte}
+use Rattle.plant_conf.specs.Forms.{is_dot}
 
-three_parts : (a b : List ℕ) (parts : List (List ℕ)) → 0 < length parts → place_said (a ∷ b ∷ parts) ≡ None
-three_parts a b parts h = grind arith
+-- the parts round it
+pub dot_found : (text : List ℕ) (at : ℕ) → IsFirstByte is_dot text (Some at) → (take at text ≡ before_first is_dot text) × (drop (at + 1) text ≡ after_first is_dot text)
+dot_found text at first =
+    let high = first.0.high in
+    let is : position_or_len is_dot text ≡ at =
+    position_or_len_is is_dot text at 0 (omega arith) (λ k lt. false_from_ne_true _ (first.0.before k (omega arith) lt)) (λ lt. first.1) in
+    (ap (λ (n : ℕ). take n text) (sym is), ap (λ (n : ℕ). drop (n + 1) text) (sym is))
 
--- a text with two dots is no place
-pub two_dots : (text a b : List ℕ) (rest more : Option (Bor (List ℕ))) (x y : Bor (List ℕ)) → parts_of text ≡ a ∷ parts_after rest → rest ≡ Some x
-    → parts_of x.now ≡ b ∷ parts_after more → more ≡ Some y → None ≡ place_said (parts_of text)
-two_dots text a b rest more x y h p k q =
-    let some : 0 < length (parts_of y.now) = omega (arith, length-slice_split is_dot y.now) in
-    let last : parts_of x.now ≡ b ∷ parts_of y.now = k ∙ ap (λ r. b ∷ parts_after r) q in
-    sym (ap place_said (h ∙ ap (λ r. a ∷ parts_after r) p ∙ ap (λ ps. a ∷ ps) last) ∙ three_parts a b (parts_of y.now) some)
+-- nothing follows where there is none
+pub no_dot : (text : List ℕ) → IsFirstByte is_dot text None → after_first is_dot text ≡ []
+no_dot text none =
+    let is : position_or_len is_dot text ≡ length text =
+    position_or_len_is is_dot text (length text) 0 (omega arith) (λ k lt. false_from_ne_true _ (none k (omega arith) lt)) (λ lt. absurd (omega arith)) in
+    drop_all (position_or_len is_dot text + 1) text (omega arith)

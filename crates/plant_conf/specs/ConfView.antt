@@ -6,8 +6,9 @@ use Rattle.plant_conf.specs.declared.conf.LinkConf.{LinkConf}
 use Rattle.plant_conf.specs.declared.conf.BoundSpec.{BoundSpec}
 use Rattle.plant_conf.specs.Values.{LinkValues, link_values}
 
-pub record ConfView : Type 0 where
-  pub links : List LinkConf
+-- a configuration whose connections are told so
+pub record ConfOf (Link : Type 0) : Type 0 where
+  pub links : List Link
   pub blocks : List BlockSpec
   pub drives : List Drive
   pub bounds : List BoundSpec
@@ -15,15 +16,12 @@ pub record ConfView : Type 0 where
   pub channel : List ℕ
   pub seed : ℕ
 
+abbrev pub ConfView : Type 0
+ConfView = ConfOf LinkConf
+
 -- a configuration with the settings of the connections as plain values
-pub record ConfValues : Type 0 where
-  pub links : List LinkValues
-  pub blocks : List BlockSpec
-  pub drives : List Drive
-  pub bounds : List BoundSpec
-  pub app : List ℕ
-  pub channel : List ℕ
-  pub seed : ℕ
+abbrev pub ConfValues : Type 0
+ConfValues = ConfOf LinkValues
 
 abbrev pub conf_values : ConfView → ConfValues
 conf_values conf = record {

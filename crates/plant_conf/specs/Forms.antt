@@ -1,7 +1,8 @@
 -- What the value of a key may be: first its kind, and then its range or its form.
-use Rattle.std.specs.Prelude.{ℕ, ℤ, pos, negsuc, Bool, ◌==◌, nat_le, ◌&&◌, codes, length, List, [], ◌∷◌, Option, Some, None, Result, Ok, Err, is_some, option_map, option_and_then, if◌then◌else◌}
-use Rattle.std.specs.List.{filter_map, list_all, slice_split}
+use Rattle.std.specs.Prelude.{ℕ, ℤ, pos, negsuc, Bool, ◌==◌, nat_le, ◌&&◌, codes, drop, length, List, [], ◌∷◌, take, Option, Some, None, Result, Ok, Err, is_some, option_map, option_and_then, if◌then◌else◌}
+use Rattle.std.specs.List.{after_first, before_first, filter_map, list_all}
 use Rattle.std.specs.Option.{option_or}
+use Rattle.std.specs.Str.{bytes_eq}
 use Rattle.hex.specs.Hex.{decode_of}
 use Rattle.hex.specs.declared.error.FromHexError.{FromHexError}
 use Rattle.toml.specs.Data.{Data, Items, no_items, item, Members, as_str, as_integer, as_array, as_table}
@@ -72,48 +73,25 @@ kind_said = word_in (
 abbrev pub block_kind : Form BlockKind
 block_kind = formed as_str kind_said
 
--- the letters of an input bit, an output bit and a block
-abbrev pub letter_i : ℕ
-letter_i = 105
-
-abbrev pub letter_o : ℕ
-letter_o = 111
-
-abbrev pub letter_b : ℕ
-letter_b = 98
-
--- what follows a letter
-abbrev pub after_letter : ℕ → List ℕ → Option (List ℕ)
-after_letter letter [] = None
-after_letter letter (c ∷ rest) = if c == letter then Some rest else None
+-- the number of 16 bits that follows these bytes, where a text begins with them
+abbrev pub number_after : List ℕ → List ℕ → Option ℕ
+number_after prefix t = if bytes_eq (take (length prefix) t) prefix then number_said 65535 (drop (length prefix) t) else None
 
 abbrev pub is_dot : ℕ → Bool
 is_dot b = b == 46
 
--- the parts of a text between dots
-abbrev pub parts_of : List ℕ → List (List ℕ)
-parts_of t = slice_split is_dot t
-
--- `<k>.<bit>`: a connection and a bit of its image, each a number of 16 bits
-abbrev pub place_said : List (List ℕ) → Option Bit
-place_said (k ∷ b ∷ []) =
-    option_and_then (λ link. option_map (λ bit. record { link = link; bit = bit }) (number_said 65535 b)) (number_said 65535 k)
-place_said _ = None
-
--- a letter, and then `<k>.<bit>`
-abbrev pub bit_said : ℕ → List ℕ → Option Bit
-bit_said letter t = option_and_then (λ rest. place_said (parts_of rest)) (after_letter letter t)
-
--- `b<number>`
-abbrev pub block_said : List ℕ → Option ℕ
-block_said t = option_and_then (number_said 65535) (after_letter letter_b t)
+-- a letter, and then `<k>.<bit>`: a connection and a bit of its image. A second dot would be no part of a number
+abbrev pub bit_said : List ℕ → List ℕ → Option Bit
+bit_said letter t =
+    option_and_then (λ bit. option_map (λ link. record { link = link; bit = bit }) (number_after letter (before_first is_dot t)))
+    (number_said 65535 (after_first is_dot t))
 
 -- `i<k>.<bit>`, or `b<number>`
 abbrev pub wire_said : List ℕ → Option Wire
-wire_said t = option_or (option_map wire.Input (bit_said letter_i t)) (option_map wire.Block (block_said t))
+wire_said t = option_or (option_map wire.Input (bit_said (codes "i") t)) (option_map wire.Block (number_after (codes "b") t))
 
 -- a bit after its letter
-abbrev pub bit_after : ℕ → Form Bit
+abbrev pub bit_after : List ℕ → Form Bit
 bit_after letter = formed as_str (bit_said letter)
 
 abbrev pub one_wire : Form Wire

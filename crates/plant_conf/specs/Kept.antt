@@ -1,26 +1,13 @@
--- What contracts of the reader cite: what holds of each configuration, what is kept of a table while it is read, and a
--- part of a text. It adds nothing to what a configuration means.
-use Rattle.std.specs.Prelude.{ℕ, List, [], Option, Some, None, string_bytes, ◌≤◌, length, ◌≡◌, map, ◌<◌}
+-- What holds of each configuration that was read. It adds nothing to what a configuration means.
+use Rattle.std.specs.Prelude.{List, None, ◌≤◌, length, ◌≡◌, map, ◌<◌}
 use Rattle.std.specs.List.{All}
 use Rattle.fb_net.specs.declared.spec.BlockSpec.{BlockSpec}
 use Rattle.fb_net.specs.declared.spec.Drive.{Drive}
 use Rattle.fb_net.specs.New.{IsNew}
-use Rattle.plant_conf.specs.declared.tables.PlantTable.{PlantTable}
-use Rattle.plant_conf.specs.Forms.{parts_of}
-use Rattle.plant_conf.specs.Keys.{PlantKeys}
 use Rattle.plant_conf.specs.declared.conf.BoundSpec.{BoundSpec}
 use Rattle.plant_conf.specs.declared.conf.LinkConf.{LinkConf}
-use denote.Ref.{Bor}
 use Rattle.param_load.specs.SameConn.{same_conn}
 use Rattle.param_load.specs.declared.profile.Profile.TheVariants as profile
-
-abbrev pub plant_said : PlantTable → PlantKeys
-plant_said p = record { app = string_bytes p.app; channel = string_bytes p.channel; seed = p.seed }
-
--- the parts of a text between dots after a dot, where there is one
-abbrev pub parts_after : Option (Bor (List ℕ)) → List (List ℕ)
-parts_after None = []
-parts_after (Some rest) = parts_of rest.now
 
 -- both ends of a connection have the same lengths
 abbrev pub HasSameLengths : LinkConf → Type 0

@@ -1,6 +1,6 @@
 -- The keys of each table, one line for each, in the order in which they are read: whether it has to be there or what it
 -- stands for where it isn't, and what its value may be.
-use Rattle.std.specs.Prelude.{ℕ, ◌-◌, ◌^◌, length, List, [], Option, Result, Ok, option_map, unwrap_or}
+use Rattle.std.specs.Prelude.{ℕ, ◌-◌, ◌^◌, codes, length, List, [], Option, Result, Ok, option_map, unwrap_or}
 use Rattle.toml.specs.Data.{Data, Members, get_member}
 use Rattle.fb_lib.specs.Kept.{block_of}
 use Rattle.fb_net.specs.declared.spec.BlockSpec.{BlockSpec}
@@ -20,11 +20,11 @@ use Rattle.plant_conf.specs.declared.tables.SlaveKeys.{SlaveKeys}
 use Rattle.plant_conf.specs.Names.{key_word}
 use Rattle.plant_conf.specs.Values.{LinkValues}
 use Rattle.schedule_file.specs.Fields.{◌>>=◌, value_or}
-use Rattle.plant_conf.specs.Forms.{Form, number, data_length, text, hex_bytes, app_rule, block_kind, wires, letter_i, letter_o, bit_after, one_wire, one_table}
+use Rattle.plant_conf.specs.Forms.{Form, number, data_length, text, hex_bytes, app_rule, block_kind, wires, bit_after, one_wire, one_table}
 
 -- the value at a key
 abbrev pub value_at : Key → Members → Option Data
-value_at key t = get_member (key_word key.table key.name) t
+value_at key t = get_member (key_word key.name key.table) t
 
 -- a key that has to be there, else `Missing`
 unfoldable pub required : {A : Type 0} → Form A → Key → Members → Result A ConfFault
@@ -66,14 +66,7 @@ link_keys k t = do
   master_length ← required data_length (key_of table.Connection k name.MasterLength) t
   slave_length ← required data_length (key_of table.Connection k name.SlaveLength) t
   app ← optional [] (hex_bytes 512) (key_of table.Connection k name.App) t
-  Ok (record {
-    id = id;
-    address = address;
-    watchdog = watchdog;
-    master_length = master_length;
-    slave_length = slave_length;
-    app = app;
-  })
+  Ok (record { id = id; address = address; watchdog = watchdog; lengths = (master_length, slave_length); app = app })
 
 -- what connection k may say of its slave
 unfoldable pub slave_keys : ℕ → LinkKeys → Members → Result SlaveKeys ConfFault
@@ -95,7 +88,7 @@ connection k t = do
     keys = link;
     slave = slave;
     nonces = (master_nonce, slave_nonce);
-    slave_lengths = (link.master_length, link.slave_length);
+    slave_lengths = link.lengths;
     profiles = (profile.One, profile.One);
   })
 
@@ -110,13 +103,13 @@ block k t = do
 -- drive k
 unfoldable pub drive : ℕ → Members → Result Drive ConfFault
 drive k t = do
-  out ← required (bit_after letter_o) (key_of table.Drive k name.Out) t
+  out ← required (bit_after (codes "o")) (key_of table.Drive k name.Out) t
   from ← required one_wire (key_of table.Drive k name.From) t
   Ok (record { out = out; from = from })
 
 -- bound k
 unfoldable pub bound : ℕ → Members → Result BoundSpec ConfFault
 bound k t = do
-  estop ← required (bit_after letter_i) (key_of table.Bound k name.Estop) t
-  drive ← required (bit_after letter_o) (key_of table.Bound k name.Drive) t
+  estop ← required (bit_after (codes "i")) (key_of table.Bound k name.Estop) t
+  drive ← required (bit_after (codes "o")) (key_of table.Bound k name.Drive) t
   Ok (record { estop = estop; drive = drive })

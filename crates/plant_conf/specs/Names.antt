@@ -6,42 +6,34 @@ use Rattle.plant_conf.specs.declared.key.KeyTable.TheVariants as table
 use Rattle.plant_conf.specs.declared.key.KeyName.{KeyName}
 use Rattle.plant_conf.specs.declared.key.KeyName.TheVariants as name
 
-abbrev pub table_name : KeyTable → List ℕ
-table_name table.Plant = codes "plant"
-table_name table.Connection = codes "connection"
-table_name table.Block = codes "block"
-table_name table.Drive = codes "drive"
-table_name table.Bound = codes "bound"
-
--- a whole table has no key of its own
-abbrev pub key_name : KeyName → List ℕ
-key_name name.Whole = codes ""
-key_name name.App = codes "app"
-key_name name.Channel = codes "channel"
-key_name name.Seed = codes "seed"
-key_name name.Id = codes "id"
-key_name name.Address = codes "address"
-key_name name.Watchdog = codes "watchdog"
-key_name name.MasterLength = codes "master_length"
-key_name name.SlaveLength = codes "slave_length"
-key_name name.Rule = codes "rule"
-key_name name.SlaveAddress = codes "slave_address"
-key_name name.Hand = codes "hand"
-key_name name.Most = codes "most"
-key_name name.MasterNonce = codes "master_nonce"
-key_name name.SlaveNonce = codes "slave_nonce"
-key_name name.Kind = codes "kind"
-key_name name.Ins = codes "ins"
-key_name name.N = codes "n"
-key_name name.Out = codes "out"
-key_name name.From = codes "from"
-key_name name.Estop = codes "estop"
-key_name name.Drive = codes "drive"
-
--- the word under which a table or a key stands
-abbrev pub key_word : KeyTable → KeyName → List ℕ
-key_word of name.Whole = table_name of
-key_word of key = key_name key
+-- the word under which a key stands in its table, or a whole table in the document
+abbrev pub key_word : KeyName → KeyTable → List ℕ
+key_word name.Whole table.Plant = codes "plant"
+key_word name.Whole table.Connection = codes "connection"
+key_word name.Whole table.Block = codes "block"
+key_word name.Whole table.Drive = codes "drive"
+key_word name.Whole table.Bound = codes "bound"
+key_word name.App of = codes "app"
+key_word name.Channel of = codes "channel"
+key_word name.Seed of = codes "seed"
+key_word name.Id of = codes "id"
+key_word name.Address of = codes "address"
+key_word name.Watchdog of = codes "watchdog"
+key_word name.MasterLength of = codes "master_length"
+key_word name.SlaveLength of = codes "slave_length"
+key_word name.Rule of = codes "rule"
+key_word name.SlaveAddress of = codes "slave_address"
+key_word name.Hand of = codes "hand"
+key_word name.Most of = codes "most"
+key_word name.MasterNonce of = codes "master_nonce"
+key_word name.SlaveNonce of = codes "slave_nonce"
+key_word name.Kind of = codes "kind"
+key_word name.Ins of = codes "ins"
+key_word name.N of = codes "n"
+key_word name.Out of = codes "out"
+key_word name.From of = codes "from"
+key_word name.Estop of = codes "estop"
+key_word name.Drive of = codes "drive"
 
 -- the number of a table, which `plant` has none of
 abbrev pub number_text : KeyTable → ℕ → List ℕ
@@ -51,8 +43,8 @@ number_text of index = codes " " ++ decimal index
 -- the key in its table, where a whole table has none
 abbrev pub rest_text : KeyTable → ℕ → KeyName → List ℕ
 rest_text of index name.Whole = []
-rest_text of index key = number_text of index ++ codes " " ++ key_name key
+rest_text of index key = number_text of index ++ codes " " ++ key_word key of
 
 -- a key as a refusal writes it: `plant seed`, `connection 2 watchdog`, and a whole table by its name alone
 abbrev pub key_text : Key → List ℕ
-key_text key = table_name key.table ++ rest_text key.table key.index key.name
+key_text key = key_word name.Whole key.table ++ rest_text key.table key.index key.name

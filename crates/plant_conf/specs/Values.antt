@@ -20,7 +20,7 @@ link_values link =
     let m = link.master in
     let s = link.slave in
     record {
-      keys = record { id = m.conn; address = m.address; watchdog = m.watchdog; master_length = m.lengths.master; slave_length = m.lengths.slave; app = m.app };
+      keys = record { id = m.conn; address = m.address; watchdog = m.watchdog; lengths = (m.lengths.master, m.lengths.slave); app = m.app };
       slave = record { rule = s.rule; address = s.address; hand = s.hand; most = s.most };
       nonces = (m.nonce, s.nonce);
       slave_lengths = (s.lengths.master, s.lengths.slave);

@@ -75,18 +75,13 @@ pub(crate) fn required_wires(alloc: Global, table: &Table, key: Key) -> Result<W
     ensures reads { IfOk result (λ ws. required wires key (table_view table.now) ≡ Ok ws) }
     ensures refuses { IfErr result (λ e. e ≢ fault.Memory → required wires key (table_view table.now) ≡ Err e) }
 {
-    let Some(values) = values_in(required(table, key)?) else {
-        return Err(ConfFault::Kind(key));
-    };
+    let values = values_in(required(table, key)?).ok_or(ConfFault::Kind(key))?;
     if !are_texts(values) {
         return Err(ConfFault::Kind(key));
     }
     let mut wires = Vec::new(alloc);
     for i in 0..values.len() {
-        let value = &values[i];
-        let Some(text) = value.as_str() else {
-            return Err(ConfFault::Kind(key));
-        };
+        let text = values[i].as_str().ok_or(ConfFault::Kind(key))?;
         let Some(wire) = words::wire(text.as_bytes()) else {
             return Err(ConfFault::Range(key));
         };

@@ -1,7 +1,7 @@
 //! The keys of a table: each is there or not, is of a kind, and in its range or its form.
 #![tactic(auto, unfolding(crate::specs::Keys::required, crate::specs::Keys::optional, crate::specs::Forms::number, crate::specs::Forms::hex_bytes))]
 
-ghost use Rattle.std.specs.Prelude.{◌≡◌, ◌≢◌, ◌≤◌, ◌-◌, ◌^◌, IsTrue, IfSome, IfOk, IfErr, option_map, string_bytes, length, []};
+ghost use Rattle.std.specs.Prelude.{◌≡◌, ◌≢◌, ◌≤◌, ◌-◌, ◌^◌, IsTrue, IfOk, IfErr, option_map, string_bytes, length, []};
 ghost use Rattle.fsoe_base.specs.Lengths.{is_length};
 ghost use Rattle.param_load.specs.AppRule.{is_acceptable};
 ghost use Rattle.param_load.specs.declared.app_rule.AppRule.TheVariants as rule;
@@ -9,7 +9,7 @@ ghost use Rattle.schedule_file.specs.Fields.{value_or};
 ghost use Rattle.std.specs.Result.{result_map_both};
 ghost use Rattle.toml.specs.View.{view, table_view};
 ghost use Rattle.plant_conf.specs.declared.fault.ConfFault.TheVariants as fault;
-ghost use Rattle.plant_conf.specs.Forms.{number, whole_said, data_length, text, hex_bytes, app_rule, block_kind, bit_after, one_table, one_wire};
+ghost use Rattle.plant_conf.specs.Forms.{number, data_length, text, hex_bytes, app_rule, block_kind, bit_after, one_table, one_wire};
 ghost use Rattle.plant_conf.specs.Keys.{value_at, required, optional};
 
 use crate::fault::ConfFault;
@@ -50,20 +50,11 @@ fn number(value: &Value, key: Key, low: u64, high: u64) -> Result<u64, ConfFault
     ensures low { IfOk result (λ n. low ≤ n) }
     ensures high { IfOk result (λ n. n ≤ high) }
 {
-    match value.as_integer() {
-        None => Err(ConfFault::Kind(key)),
-        Some(z) => {
-            if z < 0 {
-                return Err(ConfFault::Range(key));
-            }
-            let n = z as u64;
-            if low <= n && n <= high {
-                Ok(n)
-            } else {
-                Err(ConfFault::Range(key))
-            }
-        }
+    let whole = value.as_integer().ok_or(ConfFault::Kind(key))?;
+    if whole < 0 || (whole as u64) < low || high < whole as u64 {
+        return Err(ConfFault::Range(key));
     }
+    Ok(whole as u64)
 }
 
 /// A number of 16 bits that is at least `low`.
@@ -118,22 +109,10 @@ pub(crate) fn required_length(table: &Table, key: Key) -> Result<usize, ConfFaul
     let whole = required(table, key)?
         .as_integer()
         .ok_or(ConfFault::Kind(key))?;
-    length_in(whole).ok_or(ConfFault::Range(key))
-}
-
-/// A number of safe data bytes, where frames can carry so many.
-fn length_in(z: i64) -> Option<usize>
-    ensures value { result ≡ whole_said is_length z }
-    ensures valid { IfSome result (λ l. IsTrue (is_length l)) }
-{
-    if z < 0 {
-        return None;
+    if whole < 0 || Lengths::new(whole as usize, whole as usize).is_err() {
+        return Err(ConfFault::Range(key));
     }
-    let len = z as usize;
-    match Lengths::new(len, len) {
-        Ok(_) => Some(len),
-        Err(_) => None,
-    }
+    Ok(whole as usize)
 }
 
 /// A text that has to be there.
@@ -152,13 +131,11 @@ pub(crate) fn required_text(alloc: Global, table: &Table, key: Key) -> Result<St
 pub(crate) fn optional_bytes(table: &Table, key: Key) -> Result<AppBytes, ConfFault>
     ensures { result ≡ optional [] (hex_bytes 512) key (table_view table.now) }
 {
-    match find(table, key) {
-        None => Ok(AppBytes::new()),
-        Some(value) => match value.as_str() {
-            None => Err(ConfFault::Kind(key)),
-            Some(text) => words::hex_bytes(text.as_bytes()).ok_or(ConfFault::Range(key)),
-        },
-    }
+    let Some(value) = find(table, key) else {
+        return Ok(AppBytes::new());
+    };
+    let text = value.as_str().ok_or(ConfFault::Kind(key))?;
+    words::hex_bytes(text.as_bytes()).ok_or(ConfFault::Range(key))
 }
 
 /// A rule for application parameters, which are these; any of their number where there is none.
@@ -166,13 +143,11 @@ pub(crate) fn optional_rule(table: &Table, key: Key, app: &AppBytes) -> Result<A
     ensures value { result ≡ optional (rule.Any (length app.now)) (app_rule app.now) key (table_view table.now) }
     ensures acceptable { IfOk result (λ r. IsTrue (is_acceptable r)) }
 {
-    match find(table, key) {
-        None => Ok(AppRule::Any(app.len() as u16)),
-        Some(value) => match value.as_str() {
-            None => Err(ConfFault::Kind(key)),
-            Some(text) => words::rule(text.as_bytes(), app).ok_or(ConfFault::Range(key)),
-        },
-    }
+    let Some(value) = find(table, key) else {
+        return Ok(AppRule::Any(app.len() as u16));
+    };
+    let text = value.as_str().ok_or(ConfFault::Kind(key))?;
+    words::rule(text.as_bytes(), app).ok_or(ConfFault::Range(key))
 }
 
 /// The kind of a block, which has to be there.
@@ -184,8 +159,8 @@ pub(crate) fn required_kind(table: &Table, key: Key) -> Result<BlockKind, ConfFa
 }
 
 /// A bit, which has to be there: one of an input after `i`, or one of an output after `o`.
-pub(crate) fn required_bit(table: &Table, key: Key, letter: u8) -> Result<Bit, ConfFault>
-    ensures { result ≡ required (bit_after letter) key (table_view table.now) }
+pub(crate) fn required_bit(table: &Table, key: Key, letter: &[u8]) -> Result<Bit, ConfFault>
+    ensures { result ≡ required (bit_after letter.now) key (table_view table.now) }
 {
     let text = required(table, key)?.as_str().ok_or(ConfFault::Kind(key))?;
     words::bit(text.as_bytes(), letter).ok_or(ConfFault::Range(key))

@@ -1,6 +1,8 @@
 //! The keys of a plant's configuration.
 ghost use Rattle.std.specs.Prelude.{◌≡◌, ◌≤◌, ◌+◌, ◌++◌, length};
-ghost use Rattle.plant_conf.specs.Names.{table_name, key_name, key_word, key_text};
+ghost use Rattle.plant_conf.specs.Keys.{whole};
+ghost use Rattle.plant_conf.specs.declared.key.KeyName.TheVariants as name;
+ghost use Rattle.plant_conf.specs.Names.{key_word, key_text};
 
 use fsoe_io::LineText;
 
@@ -19,79 +21,72 @@ pub enum KeyTable {
     Bound,
 }
 
-impl KeyTable {
-    /// The name of the table, as a configuration and a refusal write it.
-    pub fn name(self) -> &'static str
-        ensures text { result.now ≡ table_name self }
-        ensures most { length result.now ≤ 10 }
-    {
-        match self {
-            KeyTable::Plant => "plant",
-            KeyTable::Connection => "connection",
-            KeyTable::Block => "block",
-            KeyTable::Drive => "drive",
-            KeyTable::Bound => "bound",
-        }
-    }
-}
-
-/// The name of a key, or the table as a whole.
+/// The name of a key, as `MasterLength` is of `master_length`, or the table as a whole.
 #[derive(Clone, Copy, Debug, PartialEq, Eq)]
 pub enum KeyName {
     /// The table itself.
     Whole,
     /// `app`: of `plant` the name of the application, of a connection its application parameters.
     App,
-    /// `channel`.
     Channel,
-    /// `seed`.
     Seed,
-    /// `id`.
     Id,
-    /// `address`.
     Address,
-    /// `watchdog`.
     Watchdog,
-    /// `master_length`.
     MasterLength,
-    /// `slave_length`.
     SlaveLength,
-    /// `rule`.
     Rule,
-    /// `slave_address`.
     SlaveAddress,
-    /// `hand`.
     Hand,
-    /// `most`.
     Most,
-    /// `master_nonce`.
     MasterNonce,
-    /// `slave_nonce`.
     SlaveNonce,
-    /// `kind`.
     Kind,
-    /// `ins`.
     Ins,
-    /// `n`.
     N,
-    /// `out`.
     Out,
-    /// `from`.
     From,
-    /// `estop`.
     Estop,
-    /// `drive`.
     Drive,
 }
 
-impl KeyName {
-    /// The key, as a configuration and a refusal write it. A whole table has no key of its own: the text is empty.
-    pub fn text(self) -> &'static str
-        ensures text { result.now ≡ key_name self }
+/// A key of a configuration, or a table as a whole.
+#[derive(Clone, Copy, Debug, PartialEq, Eq)]
+pub struct Key {
+    /// The table.
+    pub table: KeyTable,
+    /// The number of the table among those of its name, from 1; 0 for `plant`, and for tables as a whole.
+    pub index: u16,
+    /// The key.
+    pub name: KeyName,
+}
+
+/// A table as a whole.
+pub(crate) fn whole(table: KeyTable) -> Key
+    ensures { result ≡ whole table }
+{
+    Key {
+        table,
+        index: 0,
+        name: KeyName::Whole,
+    }
+}
+
+impl Key {
+    /// The word under which the key stands in its table, or the table in the document.
+    pub fn word(self) -> &'static str
+        ensures text { result.now ≡ key_word self.name self.table }
         ensures most { length result.now ≤ 13 }
+        ensures whole { self.name ≡ name.Whole → length result.now ≤ 10 }
     {
-        match self {
-            KeyName::Whole => "",
+        match self.name {
+            KeyName::Whole => match self.table {
+                KeyTable::Plant => "plant",
+                KeyTable::Connection => "connection",
+                KeyTable::Block => "block",
+                KeyTable::Drive => "drive",
+                KeyTable::Bound => "bound",
+            },
             KeyName::App => "app",
             KeyName::Channel => "channel",
             KeyName::Seed => "seed",
@@ -115,29 +110,6 @@ impl KeyName {
             KeyName::Drive => "drive",
         }
     }
-}
-
-/// A key of a configuration, or a table as a whole.
-#[derive(Clone, Copy, Debug, PartialEq, Eq)]
-pub struct Key {
-    /// The table.
-    pub table: KeyTable,
-    /// The number of the table among those of its name, from 1; 0 for `plant`, and for tables as a whole.
-    pub index: u16,
-    /// The key.
-    pub name: KeyName,
-}
-
-impl Key {
-    /// The word under which the key stands in its table, or the table in the document.
-    pub fn word(self) -> &'static str
-        ensures { result.now ≡ key_word self.table self.name }
-    {
-        match self.name {
-            KeyName::Whole => self.table.name(),
-            name => name.text(),
-        }
-    }
 
     /// Appends the key as a refusal writes it: `plant seed`, `connection 2 watchdog`, and a whole table by its name
     /// alone.
@@ -146,14 +118,15 @@ impl Key {
         ensures text { text.new ≡ text.old ++ key_text self }
         ensures most { length text.new ≤ length text.old + 45 }
     {
-        text.push_str(self.table.name());
-        if self.name != KeyName::Whole {
-            if self.table != KeyTable::Plant {
-                text.push_str(" ");
-                text.push_decimal(u64::from(self.index));
-            }
-            text.push_str(" ");
-            text.push_str(self.name.text());
+        text.push_str(whole(self.table).word());
+        if self.name == KeyName::Whole {
+            return;
         }
+        if self.table != KeyTable::Plant {
+            text.push_str(" ");
+            text.push_decimal(u64::from(self.index));
+        }
+        text.push_str(" ");
+        text.push_str(self.word());
     }
 }

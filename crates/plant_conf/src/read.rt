@@ -13,10 +13,9 @@ use crate::arrays::{FromTable, are_tables, values_in};
 use crate::conf::{LinkConf, PlantConf};
 use crate::fault::ConfFault;
 use crate::forms::find;
-use crate::key::KeyTable;
-use crate::tables::{read_plant, whole};
+use crate::key::{KeyTable, whole};
+use crate::tables::read_plant;
 use arrayvec::ArrayVec;
-use fb_net::{BlockSpec, Drive};
 use param_load::same_conn;
 use std::alloc::Global;
 use toml::{Table, Value};
@@ -45,9 +44,7 @@ fn tables_of(document: &Table, of: KeyTable) -> Result<&[Value], ConfFault>
     let Some(value) = find(document, key) else {
         return Ok(&[]);
     };
-    let Some(values) = values_in(value) else {
-        return Err(ConfFault::Kind(key));
-    };
+    let values = values_in(value).ok_or(ConfFault::Kind(key))?;
     if !are_tables(values) {
         return Err(ConfFault::Kind(key));
     }
@@ -92,14 +89,8 @@ fn all_of<T: FromTable + Drop>(
     let tables = tables_of(document, of)?;
     let mut all = Vec::new(alloc);
     for i in 0..tables.len() {
-        let value = &tables[i];
-        let Some(table) = value.as_table() else {
-            return Err(ConfFault::Kind(whole(of)));
-        };
-        let one = match T::read(alloc, table, i as u16 + 1) {
-            Ok(one) => one,
-            Err(e) => return Err(e),
-        };
+        let table = tables[i].as_table().ok_or(ConfFault::Kind(whole(of)))?;
+        let one = T::read(alloc, table, i as u16 + 1)?;
         if all.push(one).is_err() {
             return Err(ConfFault::Memory);
         }
@@ -174,7 +165,7 @@ fn read_document(alloc: Global, document: &Table) -> Result<PlantConf, ConfFault
     if has_too_many(document) {
         return Err(ConfFault::TooMany);
     }
-    let plant = read_plant(alloc, document)?;
+    let (app, channel, seed) = read_plant(alloc, document)?;
     let links = all_of::<LinkConf>(alloc, document, KeyTable::Connection)?;
     some_links(links.as_slice())?;
     let blocks = all_of(alloc, document, KeyTable::Block)?;
@@ -186,8 +177,8 @@ fn read_document(alloc: Global, document: &Table) -> Result<PlantConf, ConfFault
         blocks,
         drives,
         bounds,
-        app: plant.app,
-        channel: plant.channel,
-        seed: plant.seed,
+        app,
+        channel,
+        seed,
     })
 }

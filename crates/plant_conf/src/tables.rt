@@ -1,11 +1,10 @@
 //! What the tables of a configuration say, key by key.
-ghost use Rattle.std.specs.Prelude.{◌≡◌, ◌≢◌, ◌<◌, IsTrue, IfOk, IfErr};
+ghost use Rattle.std.specs.Prelude.{◌≡◌, ◌≢◌, ◌<◌, IsTrue, IfOk, IfErr, string_bytes};
 ghost use Rattle.toml.specs.View.{table_view};
 ghost use Rattle.fsoe_base.specs.Lengths.{is_length};
 ghost use Rattle.param_load.specs.AppRule.{is_acceptable};
 ghost use Rattle.plant_conf.specs.declared.fault.ConfFault.TheVariants as fault;
-ghost use Rattle.plant_conf.specs.Keys.{key_of, whole, plant_keys, link_keys, slave_keys};
-ghost use Rattle.plant_conf.specs.Kept.{plant_said};
+ghost use Rattle.plant_conf.specs.Keys.{key_of, plant_keys, link_keys, slave_keys};
 
 use crate::arrays::{FromTable, required_wires};
 use crate::conf::{BoundSpec, LinkConf};
@@ -14,7 +13,7 @@ use crate::forms::{
     optional_bytes, optional_number, optional_rule, optional_seed, required_bit, required_kind,
     required_length, required_number, required_table, required_text, required_wire,
 };
-use crate::key::{Key, KeyName, KeyTable};
+use crate::key::{Key, KeyName, KeyTable, whole};
 use fb_net::{BlockSpec, Drive};
 use fsoe_base::Lengths;
 use param_load::{AppBytes, AppRule, MasterSettings, SlaveSettings};
@@ -42,7 +41,7 @@ impl FromTable for Drive {
 
     #[tactic(auto, unfolding(crate::specs::Keys::drive))]
     fn read(_alloc: Global, table: &Table, number: u16) -> Result<Drive, ConfFault> {
-        let out = required_bit(table, key(KeyTable::Drive, number, KeyName::Out), b'o')?;
+        let out = required_bit(table, key(KeyTable::Drive, number, KeyName::Out), b"o")?;
         let from = required_wire(table, key(KeyTable::Drive, number, KeyName::From))?;
         Ok(Drive { out, from })
     }
@@ -62,8 +61,8 @@ impl FromTable for BoundSpec {
 
     #[tactic(auto, unfolding(crate::specs::Keys::bound))]
     fn read(_alloc: Global, table: &Table, number: u16) -> Result<BoundSpec, ConfFault> {
-        let estop = required_bit(table, key(KeyTable::Bound, number, KeyName::Estop), b'i')?;
-        let drive = required_bit(table, key(KeyTable::Bound, number, KeyName::Drive), b'o')?;
+        let estop = required_bit(table, key(KeyTable::Bound, number, KeyName::Estop), b"i")?;
+        let drive = required_bit(table, key(KeyTable::Bound, number, KeyName::Drive), b"o")?;
         Ok(BoundSpec { estop, drive })
     }
 }
@@ -110,7 +109,7 @@ impl FromTable for LinkConf {
         let slave = read_slave(table, number, &link)?;
         let master_nonce = optional_number(table, key(of, number, KeyName::MasterNonce), 0, 1)?;
         let slave_nonce = optional_number(table, key(of, number, KeyName::SlaveNonce), 0, 2)?;
-        let lengths = Lengths::new(link.master_length, link.slave_length).unwrap();
+        let lengths = Lengths::new(link.lengths.0, link.lengths.1).unwrap();
         let master = MasterSettings::new(
             lengths,
             link.id,
@@ -140,20 +139,18 @@ struct LinkKeys {
     id: u16,
     address: u16,
     watchdog: u16,
-    master_length: usize,
-    slave_length: usize,
+    lengths: (usize, usize),
     app: AppBytes,
 }
 
 /// Reads what the connection with this number has to say, and its application parameters.
 #[tactic(auto, unfolding(crate::specs::Keys::link_keys))]
 fn read_keys(table: &Table, number: u16) -> Result<LinkKeys, ConfFault>
-    ensures reads { IfOk result (λ link. link_keys number (table_view table.now) ≡ Ok link) }
-    ensures refuses { IfErr result (λ e. link_keys number (table_view table.now) ≡ Err e) }
+    ensures value { result ≡ link_keys number (table_view table.now) }
     ensures id { IfOk result (λ link. 0 < link.id) }
     ensures watchdog { IfOk result (λ link. 0 < link.watchdog) }
-    ensures master { IfOk result (λ link. IsTrue (is_length link.master_length)) }
-    ensures slave { IfOk result (λ link. IsTrue (is_length link.slave_length)) }
+    ensures master { IfOk result (λ link. IsTrue (is_length link.lengths.0)) }
+    ensures slave { IfOk result (λ link. IsTrue (is_length link.lengths.1)) }
 {
     let of = KeyTable::Connection;
     let id = required_number(table, key(of, number, KeyName::Id), 1)?;
@@ -166,8 +163,7 @@ fn read_keys(table: &Table, number: u16) -> Result<LinkKeys, ConfFault>
         id,
         address,
         watchdog,
-        master_length,
-        slave_length,
+        lengths: (master_length, slave_length),
         app,
     })
 }
@@ -185,8 +181,7 @@ struct SlaveKeys {
 #[tactic(auto, unfolding(crate::specs::Keys::slave_keys))]
 fn read_slave(table: &Table, number: u16, link: &LinkKeys) -> Result<SlaveKeys, ConfFault>
     requires { 0 < link.now.watchdog }
-    ensures reads { IfOk result (λ s. slave_keys number link.now (table_view table.now) ≡ Ok s) }
-    ensures refuses { IfErr result (λ e. slave_keys number link.now (table_view table.now) ≡ Err e) }
+    ensures value { result ≡ slave_keys number link.now (table_view table.now) }
     ensures hand { IfOk result (λ s. 0 < s.hand) }
     ensures most { IfOk result (λ s. 0 < s.most) }
     ensures rule { IfOk result (λ s. IsTrue (is_acceptable s.rule)) }
@@ -209,28 +204,13 @@ fn read_slave(table: &Table, number: u16, link: &LinkKeys) -> Result<SlaveKeys, 
     })
 }
 
-/// What the table `plant` says.
-#[derive(Drop)]
-pub(crate) struct PlantTable {
-    /// The name of the application.
-    pub app: String,
-    /// The name of the channel.
-    pub channel: String,
-    /// The seed of the channel.
-    pub seed: u64,
-}
-
-/// A table as a whole.
-pub(crate) fn whole(table: KeyTable) -> Key
-    ensures { result ≡ whole table }
-{
-    key(table, 0, KeyName::Whole)
-}
-
-/// Reads the table `plant`, which has to be there.
+/// Reads the table `plant`, which has to be there: the names of the application and of the channel, and the seed.
 #[tactic(auto, unfolding(crate::specs::Keys::plant_keys))]
-pub(crate) fn read_plant(alloc: Global, document: &Table) -> Result<PlantTable, ConfFault>
-    ensures reads { IfOk result (λ p. plant_keys (table_view document.now) ≡ Ok (plant_said p)) }
+pub(crate) fn read_plant(
+    alloc: Global,
+    document: &Table,
+) -> Result<(String, String, u64), ConfFault>
+    ensures reads { IfOk result (λ p. plant_keys (table_view document.now) ≡ Ok (record { app = string_bytes p.0; channel = string_bytes p.1; seed = p.2 })) }
     ensures refuses { IfErr result (λ e. e ≢ fault.Memory → plant_keys (table_view document.now) ≡ Err e) }
 {
     let of = KeyTable::Plant;
@@ -238,5 +218,5 @@ pub(crate) fn read_plant(alloc: Global, document: &Table) -> Result<PlantTable, 
     let app = required_text(alloc, table, key(of, 0, KeyName::App))?;
     let channel = required_text(alloc, table, key(of, 0, KeyName::Channel))?;
     let seed = optional_seed(table, key(of, 0, KeyName::Seed))?;
-    Ok(PlantTable { app, channel, seed })
+    Ok((app, channel, seed))
 }

@@ -1,20 +1,17 @@
 //! What the texts of a configuration say: bits, wires, kinds of blocks, rules and bytes.
-ghost use Rattle.std.specs.Prelude.{◌≡◌, ◌∷◌, IsTrue, IfSome, option_map};
+ghost use Rattle.std.specs.Prelude.{◌≡◌, [], IsTrue, IfSome, MatchOption};
+ghost use Rattle.std.specs.List.{after_first, before_first};
 ghost use Rattle.hex.specs.Hex.{decode_of};
 ghost use Rattle.param_load.specs.AppRule.{is_acceptable};
 ghost use Rattle.schedule_file.specs.Field.{number_said};
-ghost use Rattle.plant_conf.specs.Kept.{parts_after};
-ghost use Rattle.plant_conf.specs.Forms.{after_letter, parts_of, place_said, bit_said, wire_said, kind_said, rule_said, at_most};
+ghost use Rattle.plant_conf.specs.Forms.{is_dot, number_after, bit_said, wire_said, kind_said, rule_said, at_most};
 
 use failsafe_io::Bit;
 use fb_lib::BlockKind;
 use fb_net::Wire;
 use memchr::memchr;
 use param_load::{AppBytes, AppRule};
-use schedule_file::{find_word, read_number};
-
-/// The most bytes of application parameters.
-const MOST_APPLICATION: usize = 512;
+use schedule_file::{find_word, read_bytes, read_number};
 
 /// The kinds of blocks.
 const KINDS: [(&[u8], BlockKind); 10] = [
@@ -37,56 +34,44 @@ fn number(text: &[u8]) -> Option<u16>
     Some(read_number(text, u64::from(u16::MAX))? as u16)
 }
 
-/// What follows a letter, where the text begins with it.
-fn after(text: &[u8], letter: u8) -> Option<&[u8]>
-    ensures { option_map (λ rest. rest.now) result ≡ after_letter letter text.now }
+/// The number of 16 bits that follows these bytes.
+fn number_after(text: &[u8], prefix: &[u8]) -> Option<u16>
+    ensures { result ≡ number_after prefix.now text.now }
 {
-    if text.is_empty() || text[0] != letter {
-        return None;
-    }
-    Some(&text[1..])
+    number(text.strip_prefix(prefix)?)
 }
 
-/// The part before the first dot, and what follows it.
-fn cut(text: &[u8]) -> (&[u8], Option<&[u8]>)
-    ensures { parts_of text.now ≡ result.0.now ∷ parts_after result.1 }
+/// The parts before and after the first dot.
+fn cut(text: &[u8]) -> Option<(&[u8], &[u8])>
+    ensures { MatchOption result (after_first is_dot text.now ≡ [])
+        (λ parts. (parts.0.now ≡ before_first is_dot text.now) × (parts.1.now ≡ after_first is_dot text.now)) }
 {
     match memchr(b'.', text) {
-        Some(at) => (&text[..at], Some(&text[at + 1..])),
-        None => (text, None),
+        Some(at) => Some((&text[..at], &text[at + 1..])),
+        None => None,
     }
 }
 
-/// `<k>.<bit>`: a connection, and a bit of its image.
-fn place(text: &[u8]) -> Option<Bit>
-    ensures { result ≡ place_said (parts_of text.now) }
+/// A letter, and then `<k>.<bit>`: a connection, and a bit of its image.
+pub(crate) fn bit(text: &[u8], letter: &[u8]) -> Option<Bit>
+    ensures { result ≡ bit_said letter.now text.now }
 {
-    let (link, rest) = cut(text);
-    let (bit, more) = cut(rest?);
-    if let Some(_third) = more {
-        return None;
-    }
+    let (link, bit) = cut(text)?;
+    let bit = number(bit)?;
     Some(Bit {
-        link: number(link)?,
-        bit: number(bit)?,
+        link: number_after(link, letter)?,
+        bit,
     })
-}
-
-/// A letter, and then `<k>.<bit>`.
-pub(crate) fn bit(text: &[u8], letter: u8) -> Option<Bit>
-    ensures { result ≡ bit_said letter text.now }
-{
-    place(after(text, letter)?)
 }
 
 /// `i<k>.<bit>`, an input bit, or `b<number>`, a block.
 pub(crate) fn wire(text: &[u8]) -> Option<Wire>
     ensures { result ≡ wire_said text.now }
 {
-    if let Some(input) = bit(text, b'i') {
+    if let Some(input) = bit(text, b"i") {
         return Some(Wire::Input(input));
     }
-    Some(Wire::Block(number(after(text, b'b')?)?))
+    Some(Wire::Block(number_after(text, b"b")?))
 }
 
 /// The kind of a block.
@@ -111,16 +96,15 @@ pub(crate) fn rule(text: &[u8], app: &AppBytes) -> Option<AppRule>
 }
 
 /// At most 512 bytes in hexadecimal, or none.
+#[tactic(auto, using(crate::proofs::Hex::hex_said, crate::proofs::Hex::unsaid))]
 pub(crate) fn hex_bytes(text: &[u8]) -> Option<AppBytes>
     ensures { result ≡ at_most 512 (decode_of text.now) }
 {
-    let len = text.len() / 2;
-    if len > MOST_APPLICATION {
-        return None;
-    }
     let mut bytes = AppBytes::new();
-    bytes.resize(len);
-    match hex::decode_to_slice(text, bytes.bytes_mut()) {
+    if text.is_empty() {
+        return Some(bytes);
+    }
+    match read_bytes(text, &mut bytes) {
         Ok(()) => Some(bytes),
         Err(_) => None,
     }

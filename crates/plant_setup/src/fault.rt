@@ -1,6 +1,6 @@
 //! Why a configuration can't be run, and the line that reports it.
 ghost use Rattle.std.specs.Prelude.{◌≡◌, ◌+◌, ◌≤◌, ◌++◌, length};
-ghost use Rattle.plant_setup.specs.ConfigLine.{numbered, at_bit, conf_text, net_text, setup_text, config_line};
+ghost use Rattle.plant_setup.specs.ConfigLine.{numbered, at_bit, conf_text, net_text, config_line};
 ghost use Rattle.plant_conf.specs.Names.{key_text};
 
 use failsafe_io::Bit;

@@ -14,12 +14,11 @@
 //! ```
 #![tactic(auto)]
 
-mod apps;
 mod bits;
 mod fault;
 mod named;
 mod setup;
 
-pub use apps::take_app;
 pub use fault::{SetupFault, write_config_line};
+pub use named::take_app;
 pub use setup::{Setup, set_up};

@@ -1,5 +1,5 @@
 //! What is picked by its name.
-ghost use Rattle.std.specs.Prelude.{◌≡◌, ℕ, List, ◌<◌, MatchOption, IfSome, None, length, map};
+ghost use Rattle.std.specs.Prelude.{◌≡◌, ℕ, List, ◌<◌, MatchOption, IfSome, None, length, map, string_bytes};
 ghost use Rattle.plant_setup.specs.Names.{place_of, IsTaken};
 
 use black_channel::Channel;
@@ -17,8 +17,6 @@ pub(crate) trait HasName {
 }
 
 impl<H: Application> HasName for EntryOf<H> {
-    ghost use Rattle.std.specs.Prelude.{string_bytes};
-
     ghost name_of = { λ entry. string_bytes entry.name };
 
     fn name_bytes(&self) -> &[u8] {
@@ -47,11 +45,11 @@ pub(crate) fn place_of<N: HasName>(name: &[u8], all: &[N]) -> Option<usize>
     None
 }
 
-/// Takes the first that has this name out of those that are left, if there is one.
-pub(crate) fn take<N: HasName>(name: &[u8], left: &mut Vec<N>) -> Option<N>
+/// Takes the first application of this name out of those that are left, if there is one. The rest stay in their order.
+pub fn take_app<H: Application>(name: &[u8], left: &mut Vec<EntryOf<H>>) -> Option<EntryOf<H>>
     ensures { MatchOption result
-        ((place_of name.now (map N.name_of left.old.items) ≡ None) × (left.new.items ≡ left.old.items))
-        (λ one. IsTaken N.name_of name.now left.old.items one left.new.items) }
+        ((place_of name.now (map (λ entry. string_bytes entry.name) left.old.items) ≡ None) × (left.new.items ≡ left.old.items))
+        (λ entry. IsTaken (λ entry. string_bytes entry.name) name.now left.old.items entry left.new.items) }
 {
     let place = place_of(name, left.as_slice())?;
     Some(left.remove(place))

@@ -7,10 +7,9 @@ ghost use Rattle.plant_setup.specs.Names.{place_of};
 ghost use Rattle.plant_setup.specs.Setup.{setup_fault, app_fault, net_of, IsChosen};
 ghost use Rattle.plant_setup.specs.declared.fault.SetupFault.TheVariants as setup;
 
-use crate::apps::take_app;
 use crate::bits::take_net;
 use crate::fault::SetupFault;
-use crate::named::place_of;
+use crate::named::{place_of, take_app};
 use black_channel::Channel;
 use fb_net::{AppEntry, AppKind, KindOf, Net};
 use plant_conf::PlantConf;

@@ -7,4 +7,4 @@ use Rattle.plant_conf.proofs.forms.find.Goals as goal
 pub returns : goal.returns
 returns c =
     table_get c.get.result c.word.result.now c.args.table.now.entries c.get.ensures.value
-    ∙ ap (λ k. get_member k (members_view c.args.table.now.entries)) c.word.ensures
+    ∙ ap (λ k. get_member k (members_view c.args.table.now.entries)) c.word.ensures.text
