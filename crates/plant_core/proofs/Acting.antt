@@ -1,6 +1,9 @@
 -- What the slaves and the masters of all connections do in a tick, and what is pushed then.
-use Rattle.plant_core.proofs.Common.{Acted, All-cons, All-drop, All-head, All-nil, All-tail, AreNoted, Change, EachActs, EachLink, End, Entry, Fixed, IsNumber, IsSome, IsSomeAnd, Lengths, LinkConf, LinkIs, LinkStands, LinkView, NotesOne, Placed, Told, Trace, Use, drop-set-lt, drop_more, each_uses, fixed_in, fixed_of, get_or_from_slice_get, lengths_at, length-set, length-take-le, lengths_kept, map_set, place_of, placed, same_length, sent_uses, slice_get-map, slice_get_read, slice_get_within, take_all, take_more, take_more_set}
-use Rattle.std.proofs.Common.{◌≡◌, ◌≤◌, ℕ, zero, suc, ◌+◌, ◌-◌, ◌<◌, ◌^◌, Bool, List, [], ◌∷◌, ◌++◌, take, drop, get_or, length, slice_get, slice_index_or, slice_set, Option, Some, option_map, refl, sym, ap, ap₂, subst, ◌∙◌, arith}
+use Rattle.plant_core.proofs.Common.{Acted, All-cons, All-drop, All-head, All-nil, All-tail, All-weaker, AreNoted, Change, Did, EachActs, EachLink, End, Entry, Fixed, IsNumber, IsPlant, IsSome, IsSomeAnd, Lengths, LinkConf, LinkIs, LinkStands, LinkView, MultiValue, NotesOne, Placed, Told, Trace, Use, all_at, append-nil, drop-set-lt, drop_more, each_uses, fixed_in, fixed_of, get_or_from_slice_get, lengths_at, length-set, lengths_kept, map_set, place_of, placed, same_length, sent_uses, slice_get-map, slice_get_read, slice_get_within, take_all, take_more_set}
+use Rattle.std.proofs.Common.{◌≡◌, ◌≤◌, ℕ, zero, suc, ◌+◌, ◌-◌, ◌*◌, ◌<◌, ◌^◌, Bool, List, [], ◌∷◌, ◌++◌, take, drop, get_or, length, slice_get, slice_index_or, slice_set, Option, Some, option_map, refl, sym, ap, ap₂, subst, ◌∙◌, append_assoc, arith}
+use Rattle.std.proofs.lemmas.List.{drop_all}
+use Rattle.std.proofs.lemmas.List.Elements.{All-set}
+use Rattle.multi_master.specs.Standing as multi
 
 -- one entry more with each connection
 abbrev pub one_each : (ℕ → LinkConf → Entry) → (ℕ → LinkConf → List Entry) → ℕ → LinkConf → List Entry
@@ -11,23 +14,14 @@ pub trace_append : (xs ys : List Use) (a b c : Told) → Trace xs a b → Trace 
 trace_append [] ys a b c t u = subst (λ (z : Told). Trace ys z c) (sym t) u
 trace_append (x ∷ xs) ys a b c t u = (t.0, t.1, trace_append xs ys t.0 b c t.2 u)
 
--- one connection more acted
-each_snoc : (Acts : Change) (place n : ℕ) (old new : List LinkView) (v w : LinkView) (first before after : Told) → EachActs Acts place old new first before → n ≡ place + length old → Acts n v w before after
-    → EachActs Acts place (old ++ v ∷ []) (new ++ w ∷ []) first after
-each_snoc Acts place n [] [] v w first before after h e a =
-    let number : n ≡ place = omega arith in
-    (after, subst (λ (m : ℕ). Acts m v w first after) number (subst (λ (t : Told). Acts n v w t after) (sym h) a), refl)
-each_snoc Acts place n (x ∷ old) (y ∷ new) v w first before after h e a = (h.0, h.1, each_snoc Acts (suc place) n old new v w h.0 before after h.2 (omega arith) a)
-each_snoc Acts place n _ _ v w first before after h e a = absurd h
-
--- so each connection up to a place acted, and the others are as they were
+-- each connection up to a place acted, and the others are as they were: with what these become, all acted
 pub record EachTo (Acts : Change) (i : ℕ) (old new : List LinkView) (before after : Told) : Type 0 where
-  pub acted : EachActs Acts 0 (take i old) (take i new) before after
+  pub acted : (rest : List LinkView) (last : Told) → EachActs Acts i (drop i old) rest after last → EachActs Acts 0 old (take i new ++ rest) before last
   pub left : drop i new ≡ drop i old
   pub count : length new ≡ length old
 
 pub each_begun : (Acts : Change) (vs : List LinkView) (t : Told) → EachTo Acts 0 vs vs t t
-each_begun Acts vs t = record { acted = refl; left = refl; count = refl }
+each_begun Acts vs t = record { acted = λ rest last h. h; left = refl; count = refl }
 
 -- what is left from a place on
 pub next_left : {X : Type 0} (xs : List X) (i : ℕ) (x : X) → slice_get xs i ≡ Some x → drop i xs ≡ x ∷ drop (i + 1) xs
@@ -42,15 +36,19 @@ each_more Acts i first vs old new start before after g within read acts =
     let at = slice_get_read vs (length vs) i old refl within read in
     let next : drop i first ≡ get_or first i old ∷ drop (i + 1) first = drop_more first i old (omega (arith, g.count)) in
     let was : drop i first ≡ old ∷ drop (i + 1) vs = still_there Acts i first vs start before old g at in
-    let here : get_or first i old ≡ old = cc in
+    let here : drop i first ≡ old ∷ drop (i + 1) first = cc in
+    let number : i + 1 ≡ suc i = omega arith in
     record {
-      acted = rw (take_more first i old (omega (arith, g.count)), here, take_more_set vs i new within) (each_snoc Acts 0 i (take i first) (take i vs) old new start before after g.acted (omega (arith, length-take-le i first (omega (arith, g.count)))) acts);
+      acted = λ rest last h.
+          rw (take_more_set vs i new within, append_assoc (take i vs) (new ∷ []) rest)
+          (g.acted (new ∷ rest) last (rw here (after, acts, subst (λ (n : ℕ). EachActs Acts n (drop (i + 1) first) rest after last) number h)));
       left = drop-set-lt (i + 1) vs i new (omega arith) ∙ (cc);
       count = length-set vs i new ∙ g.count;
     }
 
 pub each_acted : (Acts : Change) (i : ℕ) (old new : List LinkView) (before after : Told) → EachTo Acts i old new before after → length old ≤ i → EachActs Acts 0 old new before after
-each_acted Acts i old new before after g past = rw (take_all i old past, take_all i new (omega (arith, g.count))) at g.acted
+each_acted Acts i old new before after g past =
+    rw (take_all i new (omega (arith, g.count)), append-nil new) at (g.acted [] after (rw (drop_all i old past) refl))
 
 -- the place that comes next has room for an entry more
 pub next_few : (Acts : Change) (i : ℕ) (old new : List LinkView) (before after : Told) (v : LinkView) → EachTo Acts i old new before after → AreNoted (2 ^ 64 - 2) old → i < length new → v ≡ get_or new i v
@@ -117,3 +115,28 @@ kept_fits vs n place v len p h =
 
 pub same_count : (xs ys : List LinkView) → fixed_in xs ≡ fixed_in ys → length xs ≡ length ys
 same_count xs ys h = same_length fixed_of fixed_of xs ys h
+
+-- a plant's journal is longer, with as many connections of which few entries are noted
+pub still_plant : {A : Type 0} (m n : MultiValue A) (vs ws : List LinkView) (dids : List Did) (outs : List (List ℕ)) (len later : ℕ) → IsPlant m vs dids outs len → multi.settings_of n ≡ multi.settings_of m → length ws ≡ length vs → AreNoted (2 * later) ws
+    → IsPlant n ws dids outs later
+still_plant m n vs ws dids outs len later p same count few = record {
+  count = count ∙ p.count ∙ ap length (sym same);
+  most = rw count p.most;
+  dids_fit = p.dids_fit ∙ sym count;
+  outs_fit = p.outs_fit ∙ sym count;
+  noted = few;
+}
+
+-- so it is where one entry more was noted with a connection, in one step
+pub one_noted : {A : Type 0} (m n : MultiValue A) (vs : List LinkView) (dids : List Did) (outs : List (List ℕ)) (len later place : ℕ) (was is : LinkView) → IsPlant m vs dids outs len → multi.settings_of n ≡ multi.settings_of m → slice_get vs place ≡ Some was
+    → is.monitor.noted ≤ was.monitor.noted + 1 → later ≡ len + 1 → IsPlant n (slice_set vs place is) dids outs later
+one_noted m n vs dids outs len later place was is p same at more step =
+    let few = all_at (λ (v : LinkView). v.monitor.noted ≤ 2 * len) vs place was p.noted at in
+    let rest = All-weaker (λ (v : LinkView). v.monitor.noted ≤ 2 * len) (λ v. v.monitor.noted ≤ 2 * later) (λ v le. omega arith) vs p.noted in
+    still_plant m n vs (slice_set vs place is) dids outs len later p same (length-set vs place is) (All-set (λ (v : LinkView). v.monitor.noted ≤ 2 * later) vs place is (omega arith) rest)
+
+-- there is room for an entry more with a connection
+pub few_at : (vs : List LinkView) (len place : ℕ) (v : LinkView) → AreNoted (2 * len) vs → 2 * len + 1 < 2 ^ 64 → slice_get vs place ≡ Some v → v.monitor.noted + 1 < 2 ^ 64
+few_at vs len place v few small at =
+    let le = all_at (λ (z : LinkView). z.monitor.noted ≤ 2 * len) vs place v few at in
+    omega arith

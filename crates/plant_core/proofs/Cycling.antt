@@ -70,8 +70,8 @@ tick_pushes : (links : List LinkConf) (cut : ℕ → Bool) (steps now : List Jou
     → all_pushes links cut steps now ≡ frames_pushed side.Master (slave_next steps) cut links ++ frames_pushed side.Slave (master_next steps) cut links
 tick_pushes links cut steps now quiet =
     ap₂ (λ (xs ys : List Use). xs ++ ys)
-    (pushes_each side.Slave 1 links cut steps now (λ k link. (slave_next steps k link).sent) (λ k link. quiet side.Slave k link ∙ ap (frames_of side.Slave) (ticked link k steps)))
-    (pushes_each side.Master 1 links cut steps now (λ k link. (master_next steps k link).sent) (λ k link. quiet side.Master k link ∙ ap (frames_of side.Master) (ticked link k steps)))
+    (pushes_each side.Slave 1 links cut steps now (λ k link. (slave_next steps k link).sent) (λ k link from below. quiet side.Slave k link ∙ ap (frames_of side.Slave) (ticked link k steps)))
+    (pushes_each side.Master 1 links cut steps now (λ k link. (master_next steps k link).sent) (λ k link from below. quiet side.Master k link ∙ ap (frames_of side.Master) (ticked link k steps)))
 
 -- a tick
 pub tick_goes : (old new : PlantView) (mid late : List LinkView) (dids : List Did) (frames : List (List ℕ)) (before between after : Told) → EachActs SlaveTicks 0 old.links mid before between → multi.Follows old.master Tick new.master

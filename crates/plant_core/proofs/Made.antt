@@ -1,22 +1,22 @@
 -- What a plant keeps of its connections before anything happened.
-use Rattle.plant_core.proofs.Common.{All-cons, All-nil, AreNoted, BoundSpec, Did, EachLink, Fixed, IsPlant, Lengths, LinkConf, LinkIs, LinkView, MultiValue, Result, fixed_in, is_err, is_named, is_ok, lengths_in, lengths_kept, links_made, new_link, pairs_by}
-use Rattle.std.proofs.Common.{◌≡◌, ◌≤◌, ◌<◌, ◌+◌, ◌*◌, ℕ, suc, Bool, false, List, [], ◌∷◌, ◌++◌, drop, get_or, length, map, refl, ap, arith, rules}
+use Rattle.plant_core.proofs.Common.{All-cons, All-nil, AreMade, AreNoted, BoundSpec, Did, EachLink, Fixed, IsPlant, Lengths, LinkConf, LinkIs, LinkView, MultiValue, fixed_in, is_named, length-map, lengths_in, lengths_kept, links_made, new_link, pairs_by}
+use Rattle.std.proofs.Common.{◌≡◌, ◌≤◌, ◌<◌, ◌+◌, ◌*◌, ℕ, suc, Bool, false, List, [], ◌∷◌, ◌++◌, drop, get_or, length, map, refl, ap, ◌∙◌, arith, rules}
 use Rattle.std.proofs.lemmas.Grind.{common_steps}
-use Rattle.std.proofs.lemmas.List.{at_drop_more}
-use Rattle.std.specs.Prelude.{if◌then◌else◌}
+use Rattle.std.proofs.lemmas.List.{append-nil, at_drop_more, drop_all}
 use Rattle.multi_master.specs.Standing as multi
+use Rattle.param_load.specs.declared.master_settings.MasterSettings.{MasterSettings}
 use Rattle.plant_core.proofs.Linked.{new_stands}
 
--- what was pushed without an error
-pub pushed : {T E X : Type 0} (r : Result T E) (b : Bool) (new longer old : X) → b ≡ is_err r → b ≡ false → new ≡ (if is_ok r then longer else old) → new ≡ longer
-pushed r b new longer old h k l = grind arith
-
--- so the connections that are left make the rest
+-- the connections that are left make the rest
 pub made_next : (bounds : List BoundSpec) (confs : List LinkConf) (i : ℕ) (conf : LinkConf) (aged : Bool) (old new all : List LinkView) (link : LinkView) → old ++ links_made (i + 1) bounds (drop i confs) ≡ all → conf ≡ get_or confs i conf → i < length confs
     → aged ≡ is_named bounds (i + 1) → link ≡ new_link aged conf → new ≡ old ++ link ∷ [] → new ++ links_made (i + 1 + 1) bounds (drop (i + 1) confs) ≡ all
 made_next bounds confs i conf aged old new all link before at below named is more =
     let next = at_drop_more (links_made (i + 1) bounds) confs i conf below in
     grind (arith, common_steps, next)
+
+-- those that are made are all, once none is left
+pub made_all : (bounds : List BoundSpec) (confs : List LinkConf) (i : ℕ) (old all : List LinkView) → old ++ links_made (i + 1) bounds (drop i confs) ≡ all → length confs ≤ i → old ≡ all
+made_all bounds confs i old all h past = rw (drop_all i confs past, append-nil old) at h
 
 pub made_stand : (k : ℕ) (bounds : List BoundSpec) (links : List LinkConf) → EachLink (LinkIs (λ k. false) (pairs_by [])) k links (links_made k bounds links)
 made_stand k bounds [] = tt
@@ -31,9 +31,11 @@ pub made_count : (k : ℕ) (bounds : List BoundSpec) (confs : List LinkConf) →
 made_count k bounds [] = refl
 made_count k bounds (conf ∷ confs) = ap suc (made_count (suc k) bounds confs)
 
-pub made_ready : {A : Type 0} (master : MultiValue A) (links : List LinkView) (dids : List Did) (outs : List (List ℕ)) (bounds : List BoundSpec) (confs : List LinkConf) → links ≡ links_made 1 bounds confs → length confs ≤ 64 → multi.links master ≡ length confs
-    → length dids ≡ length confs → length outs ≡ length confs → IsPlant master links dids outs 0
-made_ready master links dids outs bounds confs h k l m n = search (rules, made_count, made_noted)
+pub made_ready : {A : Type 0} (master : MultiValue A) (settings : List MasterSettings) (links : List LinkView) (dids : List Did) (outs : List (List ℕ)) (bounds : List BoundSpec) (confs : List LinkConf) → AreMade bounds confs settings links dids outs
+    → multi.settings_of master ≡ settings → length confs ≤ 64 → IsPlant master links dids outs 0
+made_ready master settings links dids outs bounds confs made own most =
+    let count : multi.links master ≡ length confs = ap length (own ∙ made.settings_are) ∙ length-map confs (λ (link : LinkConf). link.master) in
+    search (rules, made_count, made_noted)
 
 made_lengths : (k : ℕ) (bounds : List BoundSpec) (confs : List LinkConf) → lengths_kept (links_made k bounds confs) ≡ map lengths_in confs
 made_lengths k bounds [] = refl

@@ -30,24 +30,24 @@ shown_or o shown h = grind arith
 take_next : {X : Type 0} (xs : List X) (i : ℕ) (x : X) → slice_get xs i ≡ Some x → take (i + 1) xs ≡ take i xs ++ x ∷ []
 take_next xs i x at = take_more xs i x (slice_get_within xs i x at) ∙ ap (λ z. take i xs ++ z ∷ []) (get_or_from_slice_get xs i x x at)
 
-pub offers_next : (master : MultiView) (listed : List ℕ) (i n place : ℕ) (shown : List ℕ) (old mid : List LinkView) (v is : LinkView) (before js after : List JournalStep) → OffersOf master (take i listed) old mid before js
-    → slice_get listed i ≡ Some n → slice_get mid place ≡ Some v → n ≡ suc place → IsNoted side.Master false [] nothing [] None v is → ShowsAt master n shown offer_at → after ≡ js ++ step.Offer n shown ∷ []
+pub offers_next : (master : MultiView) (listed : List ℕ) (i n place : ℕ) (shown load : List ℕ) (old mid : List LinkView) (v is : LinkView) (before js after : List JournalStep) → OffersOf master (take i listed) old mid before js
+    → slice_get listed i ≡ Some n → slice_get mid place ≡ Some v → n ≡ suc place → IsNoted side.Master false [] nothing [] None v is → ShowsAt master n shown offer_at → load ≡ shown → after ≡ js ++ step.Offer n load ∷ []
     → OffersOf master (take (i + 1) listed) old (slice_set mid place is) before after
-offers_next master listed i n place shown old mid v is before js after h found at e noted shows a =
-    let x : JournalStep = step.Offer n shown in
-    let one : IsOne x n side.Master (move.Put shown) = record { part = λ k. refl } in
+offers_next master listed i n place shown load old mid v is before js after h found at e noted shows same a =
+    let x : JournalStep = step.Offer n load in
+    let one : IsOne x n side.Master (move.Put load) = record { part = λ k. refl } in
     record {
       offers = h.offers ++ x ∷ [];
       steps = a ∙ ap (λ (z : List JournalStep). z ++ x ∷ []) h.steps ∙ append_assoc before h.offers (x ∷ []);
       offers_are = λ settings app calls s.
           let m : Meant = meant settings app calls in
-          let load : option_map_or offer_at (connection n m) [] ≡ shown = shown_or (connection n m) shown (shows.shows settings app calls s) in
-          ap₂ (λ (xs : List JournalStep) (l : List ℕ). xs ++ step.Offer n l ∷ []) (h.offers_are settings app calls s) (sym load) ∙ sym (map-append (shown_step m) (take i listed) (n ∷ [])) ∙ ap (map (shown_step m)) (sym (take_next listed i n found));
+          let offered : option_map_or offer_at (connection n m) [] ≡ load = shown_or (connection n m) shown (shows.shows settings app calls s) ∙ sym same in
+          ap₂ (λ (xs : List JournalStep) (l : List ℕ). xs ++ step.Offer n l ∷ []) (h.offers_are settings app calls s) (sym offered) ∙ sym (map-append (shown_step m) (take i listed) (n ∷ [])) ∙ ap (map (shown_step m)) (sym (take_next listed i n found));
       links = λ links cut steps s.
           subst (λ (z : List JournalStep). LinksAre links cut (pairs_by z) (slice_set mid place is)) (append_assoc steps h.offers (x ∷ []))
-          (one_links links cut (steps ++ h.offers) x n side.Master (move.Put shown) place mid v is (h.links links cut steps s) at e one
+          (one_links links cut (steps ++ h.offers) x n side.Master (move.Put load) place mid v is (h.links links cut steps s) at e one
           (λ link at_link stands.
-          master_stands false [] nothing [] None v is link (pair link n (steps ++ h.offers)) (next_of side.Master (move.Put shown) link (pair link n (steps ++ h.offers))) noted stands
+          master_stands false [] nothing [] None v is link (pair link n (steps ++ h.offers)) (next_of side.Master (move.Put load) link (pair link n (steps ++ h.offers))) noted stands
           (record { parts = record { end_is = refl; came_is = refl; did_is = refl; sent_is = refl }; tick_is = refl; watchdog_is = tt })) noted.notes.cut);
     }
 

@@ -1,6 +1,6 @@
 -- Acts in which one end of one connection does something, and no cycle is run.
-use Rattle.plant_core.proofs.Common.{Act, Acted, Beginning, Call, Delivers, Done, End, Entry, Event, Fits, GoesOn, Happen, HasDone, IfSome, IsNoted, IsOne, IsSome, IsSomeAnd, JournalStep, LinkConf, LinkIs, LinkStands, LinkView, LinksAre, MayMove, Move, MultiView, Nonce, Parcel, Placed, PlantEvent, PlantView, PullFrom, SlaveActs, StandsFor, Told, Trace, Use, all_pushes, append-nil, call_of, calls, delivery_call, each_one, eq-eqb, fixed_in, fixed_of, frames_of, is_cut, journal, Lengths, lengths_at, lengths_kept, link_at, newer, next_of, no_entry, not_same, nothing, offers, offers_by, option_to_list, pair, pair_one, pair_other, pair_own, pairs_by, peer, place_of, push_to, pushes_each, pushes_of, sent_in, sent_uses, settings, slave_move, steps_of, uses_of, with_frame}
-use Rattle.std.proofs.Common.{◌≡◌, ◌≢◌, ◌≤◌, ◌<◌, ◌+◌, ◌-◌, length, ℕ, suc, ◌==◌, Bool, false, List, [], ◌∷◌, ◌++◌, map, slice_get, slice_index_or, slice_set, Option, Some, None, if◌then◌else◌, refl, sym, ap, ap₂, subst, ◌∙◌, arith}
+use Rattle.plant_core.proofs.Common.{Act, Acted, Beginning, Call, Delivers, Done, End, Entry, Event, Fits, GoesOn, Happen, HasDone, IfSome, IsNoted, IsOne, IsSome, IsSomeAnd, JournalStep, LinkConf, LinkIs, LinkStands, LinkView, LinksAre, MayMove, Move, MultiView, Nonce, Parcel, Placed, PlantEvent, PlantView, PullFrom, SlaveActs, StandsFor, Told, Trace, Use, all_pushes, append-nil, call_of, calls, delivery_call, each_none, each_one, eq-eqb, fixed_in, fixed_of, frames_of, is_cut, journal, Lengths, lengths_at, lengths_kept, link_at, next_of, no_entry, not_same, nothing, offers, offers_by, option_to_list, pair, pair_one, pair_other, pair_own, pairs_by, peer, place_of, pushes_each, pushes_of, sent_in, sent_uses, settings, slave_move, steps_of, uses_of, with_frame}
+use Rattle.std.proofs.Common.{◌≡◌, ◌≢◌, ◌≤◌, ◌<◌, ◌+◌, ◌-◌, length, ℕ, suc, ◌==◌, Bool, false, List, [], ◌∷◌, ◌++◌, slice_get, slice_index_or, slice_set, Option, Some, None, if◌then◌else◌, refl, sym, ap, ap₂, subst, ◌∙◌, arith}
 use Rattle.fsoe_base.specs.declared.command.End.TheVariants as side
 use Rattle.param_load.specs.declared.entry.Move.TheVariants as move
 use Rattle.multi_master.specs.Standing as multi
@@ -40,22 +40,12 @@ pub one_frames : (at : End) (link : LinkConf) (k : ℕ) (steps : List JournalSte
     → frames_of at (pair link k (steps ++ s ∷ [])) ≡ with_frame (frame_in at n end what steps k link) (frames_of at (pair link k steps))
 one_frames at link k steps s n end what one = ap (frames_of at) (pair_one link k steps s n end what one) ∙ frames_if at end what link (pair link k steps) (n == k)
 
--- no frames are new
-none_new : (cut : Bool) (k : ℕ) (end : End) (before now : List (List ℕ)) → now ≡ before → (if cut then [] else map (push_to k end) (newer before now)) ≡ []
-none_new cut k end before now h = grind arith
-
-quiet_of : (end : End) (k : ℕ) (links : List LinkConf) (cut : ℕ → Bool) (before now : List JournalStep)
-    → ((j : ℕ) (link : LinkConf) → k ≤ j → j < k + length links → frames_of end (pair link j now) ≡ frames_of end (pair link j before)) → pushes_of end k links cut before now ≡ []
-quiet_of end k [] cut before now h = refl
-quiet_of end k (link ∷ links) cut before now h =
-    ap₂ (λ (xs ys : List Use). xs ++ ys)
-    (none_new (cut k) k (peer end) (frames_of end (pair link k before)) (frames_of end (pair link k now)) (h k link (omega arith) (omega arith)))
-    (quiet_of end (suc k) links cut before now (λ j l from below. h j l (omega arith) (omega arith)))
-
+-- nothing is pushed where no frames are new
 pub quiet_pushes : (links : List LinkConf) (cut : ℕ → Bool) (before now : List JournalStep)
     → ((at : End) (k : ℕ) (link : LinkConf) → 1 ≤ k → k < 1 + length links → frames_of at (pair link k now) ≡ frames_of at (pair link k before)) → all_pushes links cut before now ≡ []
 quiet_pushes links cut before now h =
-    ap₂ (λ (xs ys : List Use). xs ++ ys) (quiet_of side.Slave 1 links cut before now (h side.Slave)) (quiet_of side.Master 1 links cut before now (h side.Master))
+    let none = λ (at : End). pushes_each at 1 links cut before now (λ k link. []) (h at) ∙ each_none (λ k link. []) 1 links (λ k link past. refl) in
+    ap₂ (λ (xs ys : List Use). xs ++ ys) (none side.Slave) (none side.Master)
 
 -- no connection has an entry more
 pub none_acted : (links : List LinkConf) (cut : ℕ → Bool) (before now : List JournalStep) (vs : List LinkView) (t : Told) → LinksAre links cut (pairs_by before) vs
@@ -79,7 +69,7 @@ own_pushes : (links : List LinkConf) (cut : ℕ → Bool) (before steps : List J
     → ((k : ℕ) (l : LinkConf) → frames_of at (pair l k steps) ≡ frames_of at (pair l k before)) → IsOne s n end what → slice_get links place ≡ Some link → n ≡ suc place
     → pushes_of at 1 links cut before (steps ++ s ∷ []) ≡ sent_uses (place_of n (peer at)) (sent_in at end (next_of end what link (pair link n steps))) (cut n)
 own_pushes links cut before steps s n at end what place link quiet one is e =
-    pushes_each at 1 links cut before (steps ++ s ∷ []) (frame_in at n end what steps) (λ k l. one_frames at l k steps s n end what one ∙ ap (with_frame (frame_in at n end what steps k l)) (quiet k l))
+    pushes_each at 1 links cut before (steps ++ s ∷ []) (frame_in at n end what steps) (λ k l from below. one_frames at l k steps s n end what one ∙ ap (with_frame (frame_in at n end what steps k l)) (quiet k l))
     ∙ each_one (λ k l. sent_uses (place_of k (peer at)) (frame_in at n end what steps k l) (cut k)) 1 n place links link
     (λ k l other. apart n k at (sent_in at end (next_of end what l (pair l k steps))) (cut k) other) is (omega arith)
     ∙ ap (λ (b : Bool). sent_uses (place_of n (peer at)) (if b then sent_in at end (next_of end what link (pair link n steps)) else []) (cut n)) (eq-eqb n n refl)
@@ -142,7 +132,7 @@ pub record SlaveChange (old new : PlantView) (s : JournalStep) (n : ℕ) (what :
   pub links : new.links ≡ slice_set old.links place is
   pub journal : new.journal ≡ old.journal ++ s ∷ []
 
-slave_goes : (old new : PlantView) (act : Act) (s : JournalStep) (n : ℕ) (what : Move) (first before after : Told) → ((b : Beginning) → IsAtSlave b act s n what) → SlaveChange old new s n what before after
+pub slave_goes : (old new : PlantView) (act : Act) (s : JournalStep) (n : ℕ) (what : Move) (first before after : Told) → ((b : Beginning) → IsAtSlave b act s n what) → SlaveChange old new s n what before after
     → ((b : Beginning) (us : List Use) → Trace us before after → Trace (uses_of b.seed act us) first after) → GoesOn old (act ∷ []) new first after
 slave_goes old new act s n what first before after at c uses = record {
   fixed = ap fixed_in c.links ∙ fixed_set old.links c.place c.was c.is c.placed.at c.acts.notes.fixed;
@@ -181,10 +171,6 @@ pub slave_at : (vs : List LinkView) (count n from : ℕ) (v : LinkView) (e : Pla
 slave_at vs count n from v e what is fits len at read =
     let moves = subst (λ (o : Option (ℕ × Move)). IfSome o (λ to. SlaveMoves vs e to.0 to.1)) is (slave_moves vs e fits) in
     (kept_placed vs count n from v moves.kept len at read, moves)
-
-pub slave_event : (old new : PlantView) (e : PlantEvent) (n : ℕ) (what : Move) (before after : Told) → ((b : Beginning) → IsAtSlave b (Happen (Event e)) (step.Script e) n what) → SlaveChange old new (step.Script e) n what before after
-    → GoesOn old (Happen (Event e) ∷ []) new before after
-slave_event old new e n what before after at c = slave_goes old new (Happen (Event e)) (step.Script e) n what before before after at c (λ b us t. t)
 
 -- a parcel for a slave
 delivery_to_slave : (o : Option LinkConf) (n : ℕ) (frame : List ℕ) → delivery_call o side.Slave n frame ≡ None

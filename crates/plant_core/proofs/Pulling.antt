@@ -1,11 +1,12 @@
 -- The pulls of a tick, a plant's start, and how it goes on by a line of its script.
-use Rattle.plant_core.proofs.Common.{Act, All-append, All-cons, All-nil, App, AppView, Beginning, Begins, BoundSpec, Call, ChangeApp, Delivers, DoesLine, EachLink, Entry, Event, Fits, Follows, GoesOn, Happen, HasDone, JournalStep, Lengths, LinkConf, LinkIs, LinkView, LinksAre, MultiView, OffersNoted, Parcel, PlantEvent, PlantView, PullFrom, Pulls, PullsParcel, Said, SlaveView, StandsFor, Start, Starts, Told, Trace, Use, all_pushes, append-nil, call_of, calls, changed, delivery_call, fixed_in, is_cut, is_tick, journal, lengths_in, lengths_kept, line_step, link_at, links_made, master_in, offers, pair_other, pairs_by, pulls_after, settings, slice_get_past, uses_after, uses_of}
+use Rattle.plant_core.proofs.Common.{Act, All-append, All-cons, All-nil, App, AppView, Beginning, Begins, BoundSpec, Call, ChangeApp, Delivers, DoesLine, EachLink, Entry, Event, Fits, GoesOn, Happen, HasDone, JournalStep, Lengths, LinkConf, LinkIs, LinkView, LinksAre, MultiView, OffersNoted, Parcel, PlantEvent, PlantView, PullFrom, Pulls, PullsParcel, Said, SlaveView, StandsFor, Start, Starts, Told, Trace, Use, all_pushes, append-nil, call_of, calls, changed, delivery_call, fixed_in, is_cut, journal, lengths_in, lengths_kept, link_at, links_made, offers, pair_other, pairs_by, pulls_after, settings, slice_get_past, uses_after, uses_of}
 use Rattle.std.proofs.Common.{◌≡◌, ◌≢◌, ◌≤◌, ◌<◌, ◌⊎◌, ℕ, suc, ◌+◌, ◌-◌, ◌*◌, Bool, false, List, [], ◌∷◌, ◌++◌, map, All, length, Option, Some, None, refl, sym, ap, ap₂, subst, ◌∙◌, append_assoc, arith, rules}
 use Rattle.param_load.specs.declared.entry.Move.TheVariants as move
 use Rattle.multi_master.specs.Standing as multi
 use Rattle.plant_model.specs.declared.event.PlantEvent.TheVariants as event
 use Rattle.plant_model.specs.declared.journal.JournalStep.TheVariants as step
-use Rattle.plant_model.specs.Past.{SaidFits, said_in}
+use Rattle.plant_model.specs.Past.{IsPast, SaidFits, said_in, with_line}
+use Rattle.plant_model.specs.Pair.{is_tick_event}
 use Rattle.plant_core.proofs.Acting.{trace_append}
 use Rattle.plant_core.proofs.Made.{made_stand}
 use Rattle.plant_model.proofs.Lines.{line_said}
@@ -89,22 +90,6 @@ pulled_until old new left first before last g p = record {
   goes = goes_on old new new (map PullFrom g.gifts) (PullFrom None ∷ []) first before last g.goes (none_pulled new before last p);
 }
 
--- a tick, and then its pulls
-pub tick_line : (old mid new : PlantView) (first between last : Told) → GoesOn old (Happen (Event event.Tick) ∷ []) mid first between → Pulls 0 mid new between last → DoesLine old (Event event.Tick) new first last
-tick_line old mid new first between last g p = record {
-  gifts = p.gifts;
-  past = λ done h. p.past (Happen (Event event.Tick) ∷ done) (refl, h);
-  goes = goes_on old mid new (Happen (Event event.Tick) ∷ []) (map PullFrom p.gifts) first between last g p.goes;
-}
-
--- another line
-pub one_act : (old new : PlantView) (said : Said) (first last : Told) → is_tick (line_step said) ≡ false → GoesOn old (Happen said ∷ []) new first last → DoesLine old said new first last
-one_act old new said first last other g = record {
-  gifts = [];
-  past = λ done h. (sym (ap pulls_after other), h);
-  goes = g;
-}
-
 -- the lengths of the connections
 pub lengths_are : (cut : ℕ → Bool) (done : ℕ → LinkConf → List Entry) (k : ℕ) (links : List LinkConf) (vs : List LinkView) → EachLink (LinkIs cut done) k links vs → map lengths_in links ≡ lengths_kept vs
 lengths_are cut done k [] [] h = refl
@@ -112,35 +97,46 @@ lengths_are cut done k (link ∷ links) (v ∷ vs) h =
     ap₂ (λ (l : Lengths) (ls : List Lengths). l ∷ ls) (sym (ap (λ (s : SlaveView). s.kit.settings.lengths) h.0.stands.slave.is)) (lengths_are cut done (suc k) links vs h.1)
 lengths_are cut done k _ _ h = absurd h
 
--- a plant goes on by a line that fits
-pub follows : (old new : PlantView) (said : Said) (before after : Told) → ((links : List LinkConf) → map lengths_in links ≡ lengths_kept old.links → SaidFits links said) → DoesLine old said new before after
-    → Follows old said new before after
-follows old new said before after fits t = record {
-  plays = λ b done s.
-      let d = t.goes.goes b done s.has_done in
-      let same = lengths_are (λ k. is_cut k done) (pairs_by old.journal) 1 b.links old.links s.has_done.links in
-      record {
-        gifts = t.gifts;
-        stands = record {
-          may = record {
-            past = t.past done s.may.past;
-            fit = subst (All (SaidFits b.links)) (sym (line_said said t.gifts done))
-                (All-append (SaidFits b.links) (said_in done) (said ∷ []) s.may.fit (All-cons (SaidFits b.links) said [] (fits b.links same) (All-nil (SaidFits b.links))));
+-- a plant goes on by a line that fits, and by its pulls
+does_line : (old new : PlantView) (said : Said) (gifts : List (Option Parcel)) (before after : Told) → ((links : List LinkConf) → map lengths_in links ≡ lengths_kept old.links → SaidFits links said)
+    → ((done : List Act) → IsPast 0 done → IsPast 0 (with_line said gifts done)) → GoesOn old (with_line said gifts []) new before after → DoesLine old said new before after
+does_line old new said gifts before after fits past g = record {
+  fixed = g.fixed;
+  follows = record {
+    plays = λ b done s.
+        let d = g.goes b done s.has_done in
+        let same = lengths_are (λ k. is_cut k done) (pairs_by old.journal) 1 b.links old.links s.has_done.links in
+        record {
+          gifts = gifts;
+          stands = record {
+            may = record {
+              past = past done s.may.past;
+              fit = subst (All (SaidFits b.links)) (sym (line_said said gifts done))
+                  (All-append (SaidFits b.links) (said_in done) (said ∷ []) s.may.fit (All-cons (SaidFits b.links) said [] (fits b.links same) (All-nil (SaidFits b.links))));
+            };
+            has_done = subst (HasDone b new) (append_assoc (map PullFrom gifts) (Happen said ∷ []) done) d.has_done;
           };
-          has_done = subst (HasDone b new) (append_assoc (map PullFrom t.gifts) (Happen said ∷ []) done) d.has_done;
+          channel = d.channel;
         };
-        channel = d.channel;
-      };
+  };
 }
 
-pub follows_event : (old new : PlantView) (e : PlantEvent) (before after : Told) → Fits (lengths_kept old.links) e → DoesLine old (Event e) new before after → Follows old (Event e) new before after
-follows_event old new e before after fits t = follows old new (Event e) before after (λ links same. subst (λ (ls : List Lengths). Fits ls e) (sym same) fits) t
+-- a tick, and then its pulls
+pub tick_line : (old mid new : PlantView) (first between last : Told) → GoesOn old (Happen (Event event.Tick) ∷ []) mid first between → Pulls 0 mid new between last → DoesLine old (Event event.Tick) new first last
+tick_line old mid new first between last g p =
+    does_line old new (Event event.Tick) p.gifts first last (λ links same. tt) (λ done h. p.past (Happen (Event event.Tick) ∷ done) (refl, h))
+    (goes_on old mid new (Happen (Event event.Tick) ∷ []) (map PullFrom p.gifts) first between last g p.goes)
 
-pub follows_app : (old new : PlantView) (app : AppView) (t : Told) → GoesOn old (Happen (App app) ∷ []) new t t → Follows old (App app) new t t
-follows_app old new app t g = follows old new (App app) t t (λ links same. tt) (one_act old new (App app) t t refl g)
+-- another event, and another application
+pub event_line : (old new : PlantView) (e : PlantEvent) (first last : Told) → Fits (lengths_kept old.links) e → is_tick_event e ≡ false → GoesOn old (Happen (Event e) ∷ []) new first last → DoesLine old (Event e) new first last
+event_line old new e first last fits other g =
+    does_line old new (Event e) [] first last (λ links same. subst (λ (ls : List Lengths). Fits ls e) (sym same) fits) (λ done h. (sym (ap pulls_after other), h)) g
+
+pub app_line : (old new : PlantView) (app : AppView) (t : Told) → GoesOn old (Happen (App app) ∷ []) new t t → DoesLine old (App app) new t t
+app_line old new app t g = does_line old new (App app) [] t t (λ links same. tt) (λ done h. (refl, h)) g
 
 -- a plant starts, from what it is made of
-pub starts : (b : Beginning) (old : MultiView) (new : PlantView) (bounds : List BoundSpec) (before after : Told) → StandsFor (map master_in b.links) b.app old [] → multi.Follows old (ChangeApp b.app) new.master
+pub starts : (b : Beginning) (old : MultiView) (new : PlantView) (bounds : List BoundSpec) (before after : Told) → StandsFor (settings b) b.app old [] → multi.Follows old (ChangeApp b.app) new.master
     → OffersNoted new.master (links_made 1 bounds b.links) new.links [] new.journal → Begins b.seed before after → Starts b new before after
 starts b old new bounds before after made follows told begins =
     let calls : List Call = ChangeApp b.app ∷ [] in
@@ -159,6 +155,9 @@ starts b old new bounds before after made follows told begins =
       channel = (after, begins, subst (λ (us : List Use). Trace us after after) (sym none) refl);
     }
 
--- room for the rest of the pulls
+-- room for a pull, and for the rest of the pulls
+pub one_room : (counter len cap n : ℕ) → counter < 64 → len + (64 - counter) * (n + 1) ≤ cap → len + 1 + n ≤ cap
+one_room counter len cap n h k = grind arith
+
 pub pull_room : (counter len later cap roomy n same : ℕ) → counter < 64 → len + (64 - counter) * (n + 1) ≤ cap → later ≤ len + 1 + n → cap ≤ roomy → same ≡ n → later + (64 - (counter + 1)) * (same + 1) ≤ roomy
 pull_room counter len later cap roomy n same h k l m o = grind arith

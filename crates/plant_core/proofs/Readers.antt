@@ -1,8 +1,8 @@
 -- What a plant shows of an end is what the pair of its connection tells.
-use Rattle.plant_core.proofs.Common.{Act, Beginning, Connection, Deed, Did, HasLink, IsPlant, IsSomeAnd, JournalStep, LinkConf, LinkIs, LinkView, OfMaster, OfSlave, Placed, PlantStands, PlantValue, PlantView, Setup, ShowsAt, ShowsPair, calls, deeds, is_cut, journal, kept_at, link_at, master_with, mastered, masters, out, pair, pairs_by, settings, setup, some_at, state_of}
+use Rattle.plant_core.proofs.Common.{Connection, Deed, Did, HasLink, IsPlant, IsSomeAnd, JournalStep, LinkConf, LinkIs, LinkView, OfMaster, OfSlave, Placed, PlantValue, PlantView, Setup, ShowsAt, ShowsPair, calls, deeds, is_cut, journal, kept_at, master_with, mastered, masters, out, pair, pairs_by, settings, setup, some_at, state_of}
 use Rattle.multi_master.specs.Connection.{outputs_at}
 use Rattle.fsoe_base.specs.declared.command.State.{State}
-use Rattle.std.proofs.Common.{◌≡◌, ◌≤◌, ◌<◌, ℕ, zero, suc, List, length, slice_get, Option, Some, option_map, sym, ap, subst, ◌∙◌, arith}
+use Rattle.std.proofs.Common.{◌≡◌, ◌≤◌, ℕ, zero, suc, List, length, slice_get, Option, Some, option_map, sym, ap, subst, ◌∙◌, arith}
 use Rattle.fsoe_base.specs.declared.command.End.TheVariants as side
 use Rattle.slave_core.specs.Standing as slave_core
 use Rattle.multi_master.specs.Standing as multi
@@ -23,19 +23,17 @@ slave_shown v k place l shown word p s = record {
 pub told_by : {X : Type 0} (shown : X) (word : Setup → List Deed → X) (o : Option Connection) (c : Connection) → o ≡ Some c → option_map (λ (z : Connection). word (setup z) z.deeds) o ≡ Some shown → shown ≡ word (setup c) c.deeds
 told_by shown word o c h k = grind arith
 
-master_at : {X : Type 0} (v : PlantView) (place : ℕ) (shown : X) (word : Setup → List Deed → X) → ShowsAt v.master (suc place) shown (λ c. word (setup c) c.deeds) → place < length v.links
-    → (b : Beginning) (acts : List Act) → PlantStands b v acts → IsSomeAnd (link_at b.links (suc place)) (λ link. shown ≡ word (OfMaster link.master) (deeds side.Master (pair link (suc place) v.journal)))
-master_at v place shown word s lt b acts h =
-    let count = each_count (LinkIs (λ j. is_cut j acts) (pairs_by v.journal)) 1 b.links v.links h.has_done.links in
-    let link = some_at b.links place (omega arith) in
-    subst (λ (o : Option LinkConf). IsSomeAnd o (λ link. shown ≡ word (OfMaster link.master) (deeds side.Master (pair link (suc place) v.journal)))) (sym link.1)
-    (told_by shown word (slice_get (masters b acts).connections place) (master_with link.0 (pair link.0 (suc place) (journal b acts))) (mastered b acts place link.0 link.1) (s.shows (settings b) b.app (calls b acts) h.has_done.master)
-    ∙ ap (λ (js : List JournalStep). word (OfMaster link.0.master) (deeds side.Master (pair link.0 (suc place) js))) (sym h.has_done.journal_is))
-
 master_shown : {X : Type 0} (v : PlantView) (k : ℕ) (shown : X) (word : Setup → List Deed → X) → ShowsAt v.master k shown (λ c. word (setup c) c.deeds) → 1 ≤ k → k ≤ length v.links
     → ShowsPair v k shown (λ link w. word (OfMaster link.master) (deeds side.Master w))
 master_shown v zero shown word s first last = absurd (omega arith)
-master_shown v (suc place) shown word s first last = record { shows = master_at v place shown word s (omega arith) }
+master_shown v (suc place) shown word s first last = record {
+  shows = λ b acts h.
+      let count = each_count (LinkIs (λ j. is_cut j acts) (pairs_by v.journal)) 1 b.links v.links h.has_done.links in
+      let link = some_at b.links place (omega arith) in
+      subst (λ (o : Option LinkConf). IsSomeAnd o (λ link. shown ≡ word (OfMaster link.master) (deeds side.Master (pair link (suc place) v.journal)))) (sym link.1)
+      (told_by shown word (slice_get (masters b acts).connections place) (master_with link.0 (pair link.0 (suc place) (journal b acts))) (mastered b acts place link.0 link.1) (s.shows (settings b) b.app (calls b acts) h.has_done.master)
+      ∙ ap (λ (js : List JournalStep). word (OfMaster link.0.master) (deeds side.Master (pair link.0 (suc place) js))) (sym h.has_done.journal_is));
+}
 
 pub master_state_shown : (v : PlantView) (k : ℕ) (shown : State) → ShowsAt v.master k shown (λ c. state_of (setup c) c.deeds) → 1 ≤ k → k ≤ length v.links → ShowsPair v k shown (λ l w. pairs.state_at l side.Master w)
 master_state_shown v k shown s first last = master_shown v k shown state_of s first last

@@ -21,10 +21,10 @@ use Rattle.plant_model.specs.declared.event.PlantEvent.TheVariants as event
 use Rattle.plant_model.specs.declared.journal.JournalStep.{JournalStep}
 use Rattle.plant_model.specs.Acts.{Beginning, Said, Act, PullFrom, offer_step, uses_after}
 use Rattle.plant_core.specs.Link.{IsNoted, LinkStands, LinkView, NotesOne}
-use Rattle.plant_core.specs.Standing.{IsPlant, PlantView, HasDone, LinksAre, fixed_in}
+use Rattle.plant_core.specs.Standing.{Follows, IsPlant, PlantView, HasDone, LinksAre, fixed_in}
 use Rattle.plant_core.specs.declared.ends.Ends.{Ends}
 use Rattle.plant_model.specs.Pair.{pairs_by, next_of}
-use Rattle.plant_model.specs.Past.{IsPast, with_line}
+use Rattle.plant_model.specs.Past.{IsPast}
 use Rattle.plant_model.specs.Uses.{Trace}
 use Rattle.plant_model.specs.Gifts.{place_of, sent_uses}
 use Rattle.black_channel.specs.declared.channel.Parcel.{Parcel}
@@ -120,8 +120,7 @@ pub record Pulls (left : ℕ) (old new : PlantView) (before after : Told) : Type
   pub past : (done : List Act) → IsPast 64 done → IsPast left (map PullFrom gifts ++ done)
   pub goes : GoesOn old (map PullFrom gifts) new before after
 
--- a plant goes on by what is said at a line of the script, and by the pulls then
+-- a plant goes on by a line of the script, which says this
 pub record DoesLine (old : PlantView) (said : Said) (new : PlantView) (before after : Told) : Type 0 where
-  pub gifts : List (Option Parcel)
-  pub past : (done : List Act) → IsPast 0 done → IsPast 0 (with_line said gifts done)
-  pub goes : GoesOn old (with_line said gifts []) new before after
+  pub fixed : fixed_in new.links ≡ fixed_in old.links
+  pub follows : Follows old said new before after

@@ -3,7 +3,6 @@ ghost use Rattle.std.specs.Prelude.{◌≡◌, ◌≤◌, ◌<◌, ◌+◌, ◌*
 ghost use Rattle.plant_model.specs.declared.journal.JournalStep.TheVariants as step;
 ghost use Rattle.plant_core.specs.Doing.{room_for, slave_move};
 
-use crate::journal::note;
 use crate::link::{Link, watchdog_in};
 use crate::offers::note_offers;
 use crate::ticking::{masters_ticked, tick_slaves};
@@ -42,7 +41,7 @@ fn note_pulled(to: Place, frame: &FrameBuf, steps: &mut Vec<JournalStep>)
     // The bytes are written where the parcel lies, so that its room isn't moved.
     let place = steps.len();
     let blank = FrameBuf::new();
-    note(steps, JournalStep::Pulled(Parcel { to, frame: blank }));
+    steps.push_reserved(JournalStep::Pulled(Parcel { to, frame: blank }));
     if let JournalStep::Pulled(parcel) = &mut steps[place] {
         parcel.frame.set(frame.bytes());
     }
@@ -76,7 +75,7 @@ fn note_event(event: &PlantEvent, steps: &mut Vec<JournalStep>)
             cut: *cut,
         },
     };
-    note(steps, JournalStep::Script(event));
+    steps.push_reserved(JournalStep::Script(event));
 }
 
 /// What an event of the script has happen to the slave of a connection, with the number of this, if it does.
@@ -97,11 +96,9 @@ fn slave_move(event: &PlantEvent) -> Option<(u16, Move)>
 }
 
 impl<A: Application> Ends<A> {
-    ghost use Rattle.multi_master.specs.Calls.{ChangeApp};
-    ghost use Rattle.multi_master.specs.Standing as multi;
     ghost use Rattle.multi_master.specs.Standing.{app_view};
-    ghost use Rattle.plant_model.specs.Acts.{Event, App, Happen};
-    ghost use Rattle.plant_core.specs.Doing.{GoesOn, Delivers, IsReady, OffersNoted, Pulls, DoesLine, sees};
+    ghost use Rattle.plant_model.specs.Acts.{Event, App};
+    ghost use Rattle.plant_core.specs.Doing.{Delivers, IsReady, Pulls, DoesLine, sees};
     ghost use Rattle.plant_core.specs.Standing.{fixed_in, lengths_kept};
     ghost use Rattle.black_channel.specs.Told.{Told};
     ghost use Rattle.plant_model.specs.Fits.{Fits};
@@ -119,6 +116,7 @@ impl<A: Application> Ends<A> {
         requires room { vec_len steps.old + 1 + vec_len self.old.links ≤ vec_capacity steps.old }
         ensures delivers { let seen = sees A.rule A.holds A.guards in Delivers (seen self.old steps.old) (record { to = to; frame = frame.now }) (seen self.new steps.new) (C.told channel.old) (C.told channel.new) }
         ensures ready { IsReady self.new steps.new }
+        ensures count { vec_len self.new.links ≡ vec_len self.old.links }
         ensures few { vec_len steps.new ≤ vec_len steps.old + 1 + vec_len self.old.links }
         ensures capacity { vec_capacity steps.old ≤ vec_capacity steps.new }
     {
@@ -176,7 +174,6 @@ impl<A: Application> Ends<A> {
 
     /// Does an event of the script. At a tick come the slaves, the masters with a cycle of the application, the offers
     /// that it changed, and then what the channel gives.
-    #[tactic(auto, using(crate::proofs::Pulling::one_act))]
     pub(crate) fn happen<C: Channel>(
         &mut self,
         event: &PlantEvent,
@@ -222,27 +219,15 @@ impl<A: Application> Ends<A> {
         }
     }
 
-    /// Runs the first cycle of the application, and notes the offers that it changed.
-    pub(crate) fn start(&mut self, steps: &mut Vec<JournalStep>)
-        requires ready { IsReady self.old steps.old }
-        requires room { vec_len steps.old + vec_len self.old.links ≤ vec_capacity steps.old }
-        ensures follows { let seen = multi.seen A.rule A.holds A.guards in multi.Follows (seen self.old.master) (ChangeApp (seen self.old.master).app) (seen self.new.master) }
-        ensures offers { OffersNoted (multi.seen A.rule A.holds A.guards self.new.master) self.old.links.items self.new.links.items steps.old.items steps.new.items }
-        ensures ready { IsReady self.new steps.new }
-    {
-        self.master.first_cycle();
-        note_offers(&self.master, &mut self.links, steps);
-    }
-
     /// Changes to another application, and notes the offers that its first cycle changed.
     pub(crate) fn change_app(&mut self, app: A, steps: &mut Vec<JournalStep>)
         requires ready { IsReady self.old steps.old }
         requires room { vec_len steps.old + 1 + vec_len self.old.links ≤ vec_capacity steps.old }
-        ensures goes { let seen = sees A.rule A.holds A.guards in (told : Told) → GoesOn (seen self.old steps.old) (Happen (App (app_view A.rule A.holds A.guards app)) ∷ []) (seen self.new steps.new) told told }
+        ensures line { let seen = sees A.rule A.holds A.guards in (told : Told) → DoesLine (seen self.old steps.old) (App (app_view A.rule A.holds A.guards app)) (seen self.new steps.new) told told }
         ensures fixed { fixed_in self.new.links.items ≡ fixed_in self.old.links.items }
         ensures ready { IsReady self.new steps.new }
     {
-        note(steps, JournalStep::App);
+        steps.push_reserved(JournalStep::App);
         self.master.change_app(app);
         note_offers(&self.master, &mut self.links, steps);
     }

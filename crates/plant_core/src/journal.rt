@@ -1,5 +1,5 @@
 //! The list of what a plant did.
-ghost use Rattle.std.specs.Prelude.{◌≡◌, ◌+◌, ◌≤◌, [], ◌∷◌, ◌++◌, OnOk, vec_len, vec_capacity};
+ghost use Rattle.std.specs.Prelude.{◌≡◌, ◌+◌, ◌≤◌, OnOk, vec_len, vec_capacity};
 
 use fsoe_base::Memory;
 use plant_model::JournalStep;
@@ -46,18 +46,5 @@ pub(crate) fn take_room(steps: &mut Vec<JournalStep>, count: usize) -> Result<()
     ensures steps { steps.new.items ≡ steps.old.items }
     ensures room { OnOk result (vec_len steps.new + count ≤ vec_capacity steps.new) }
 {
-    match steps.reserve(count) {
-        Ok(_) => Ok(()),
-        Err(_) => Err(Memory),
-    }
-}
-
-/// Notes a step if there is room for it.
-pub(crate) fn note(steps: &mut Vec<JournalStep>, step: JournalStep)
-    requires room { vec_len steps.old + 1 ≤ vec_capacity steps.old }
-    ensures noted { steps.new.items ≡ steps.old.items ++ step ∷ [] }
-    ensures count { vec_len steps.new ≡ vec_len steps.old + 1 }
-    ensures room { vec_capacity steps.old ≤ vec_capacity steps.new }
-{
-    steps.push_reserved(step);
+    steps.reserve(count).or(Err(Memory))
 }

@@ -102,7 +102,6 @@ impl Link {
 
     /// Lets this event of the script happen at the slave of this connection, and notes it. Writes what it did and the
     /// frame that it sent, which is pushed.
-    #[tactic(auto, using(crate::proofs::Linked::slave_acts))]
     pub(crate) fn happen<C: Channel>(
         &mut self,
         link: u16,
@@ -121,7 +120,6 @@ impl Link {
     }
 
     /// Does the same with this frame that comes, and copies nothing.
-    #[tactic(auto, using(crate::proofs::Linked::slave_acts))]
     pub(crate) fn deliver<C: Channel>(
         &mut self,
         link: u16,
@@ -139,7 +137,6 @@ impl Link {
     }
 
     /// Does the same at a tick.
-    #[tactic(auto, using(crate::proofs::Linked::slave_acts))]
     pub(crate) fn tick<C: Channel>(
         &mut self,
         link: u16,

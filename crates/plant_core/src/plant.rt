@@ -14,11 +14,13 @@ ghost use Rattle.plant_model.specs.declared.journal.JournalStep.{JournalStep};
 use crate::ends::{Ends, room_for};
 use crate::journal::{Journal, take_room};
 use crate::link::{Link, bit_of};
+use crate::offers::note_offers;
 use black_channel::Channel;
 use failsafe_io::{Application, Bit};
 use fb_net::{EntryOf, KindOf};
 use file_run::Stopped;
-use fsoe_base::{End, Memory, State};
+use fsoe_base::{Did, End, FrameBuf, Memory, State};
+use multi_master::MultiMaster;
 use plant_conf::{BoundSpec, PlantConf};
 use plant_model::PlantEvent;
 use plant_setup::take_app;
@@ -54,7 +56,6 @@ impl<A: Application> Plant<A> {
 
     /// Creates a plant of this configuration's connections with this application, which begins. After `Memory` the
     /// channel is unchanged, and the application is dropped.
-    #[tactic(auto, using(crate::proofs::Made::lengths_made))]
     pub fn new<C: Channel>(
         alloc: Global,
         conf: &PlantConf,
@@ -76,8 +77,16 @@ impl<A: Application> Plant<A> {
         ensures app { result.master.app ≡ app }
         ensures journal { result.journal ≡ [] }
     {
+        let ends = Ends {
+            master: MultiMaster::unconnected(alloc, app),
+            links: Vec::new(alloc),
+            dids: Vec::new(alloc),
+            outs: Vec::new(alloc),
+            heard: Did::nothing(),
+            sent: FrameBuf::new(),
+        };
         Plant {
-            ends: Ends::unconnected(alloc, app),
+            ends,
             journal: Journal::new(alloc),
         }
     }
@@ -102,7 +111,8 @@ impl<A: Application> Plant<A> {
         take_room(&mut journal.steps, links.len())?;
         self.ends.connect(alloc, links, conf.bounds())?;
         channel.begin(conf.seed());
-        self.ends.start(&mut journal.steps);
+        self.ends.master.first_cycle();
+        note_offers(&self.ends.master, &mut self.ends.links, &mut journal.steps);
         self.journal = journal;
         Ok(())
     }
@@ -168,7 +178,7 @@ impl<A: Application> Plant<A> {
     /// Returns the greatest age of the outputs of this end, over all its steps: the ticks of this end since its peer
     /// sent the data of the outputs. If the connection exists, a bound of the configuration must name it. Returns None
     /// if there was no age, and 2^32 - 1 for all greater ones.
-    #[tactic(auto, using(crate::proofs::Found::worst_shown, crate::proofs::Found::no_worst))]
+    #[tactic(auto, using(crate::proofs::Found::no_worst))]
     pub fn worst(&self, link: u16, end: End) -> Option<u32>
         requires { IsAged self.now.links link }
         ensures { ShowsWorst (seen A.rule A.holds A.guards self.now) link end result }
@@ -180,7 +190,6 @@ impl<A: Application> Plant<A> {
     }
 
     /// Returns true if the output bit is 1 at the slave of its connection, false if there is no such bit.
-    #[tactic(auto, using(crate::proofs::Found::on_shown, crate::proofs::Found::not_on))]
     pub fn is_on(&self, out: Bit) -> bool
         ensures { ShowsOn (seen A.rule A.holds A.guards self.now) out result }
     {
@@ -254,11 +263,10 @@ impl<A: Application> Plant<A> {
         requires { HasLink self.now inp.link }
         ensures { TellsStill (seen A.rule A.holds A.guards self.now) (record { estop = inp; drive = out }) result }
     {
-        let bound = BoundSpec {
+        self.is_still(BoundSpec {
             estop: inp,
             drive: out,
-        };
-        self.is_still(bound)
+        })
     }
 }
 

@@ -1,6 +1,6 @@
 -- How the entries of a pair grow with the journal, and which frames are pushed then.
 use Rattle.plant_model.proofs.Common.{End, Entry, JournalStep, LinkConf, Move, Use, append-nil, each_uses, entry_at, eq-eqb, frames_of, going_on, if_same, is_empty, newer, next_of, own_events, own_part, pair, pairs_by, peer, place_of, push_to, pushes_of, same_end, sent_uses, world_after}
-use Rattle.std.proofs.Common.{◌≡◌, ◌≢◌, ◌≤◌, ℕ, zero, suc, ◌+◌, ◌==◌, Bool, false, List, [], ◌∷◌, ◌++◌, map, All, slice_get, Option, Some, if◌then◌else◌, refl, sym, ap, ap₂, subst, ◌∙◌, arith, rules}
+use Rattle.std.proofs.Common.{◌≡◌, ◌≢◌, ◌≤◌, ◌<◌, length, ℕ, zero, suc, ◌+◌, ◌==◌, Bool, false, List, [], ◌∷◌, ◌++◌, map, All, slice_get, Option, Some, if◌then◌else◌, refl, sym, ap, ap₂, subst, ◌∙◌, arith, rules}
 use Rattle.std.proofs.lemmas.List.Elements.{All-head, All-tail}
 use Rattle.param_load.specs.declared.entry.Move.TheVariants as move
 use Rattle.schedule_file.specs.declared.event.Event.{Event}
@@ -104,19 +104,18 @@ one_push k end frames now frame cut h = grind arith
 
 -- the frames of each connection, one at most, are pushed
 pub pushes_each : (end : End) (k : ℕ) (links : List LinkConf) (cut : ℕ → Bool) (before now : List JournalStep) (frame : ℕ → LinkConf → List ℕ)
-    → ((j : ℕ) (link : LinkConf) → frames_of end (pair link j now) ≡ with_frame (frame j link) (frames_of end (pair link j before)))
+    → ((j : ℕ) (link : LinkConf) → k ≤ j → j < k + length links → frames_of end (pair link j now) ≡ with_frame (frame j link) (frames_of end (pair link j before)))
     → pushes_of end k links cut before now ≡ each_uses (λ j link. sent_uses (place_of j (peer end)) (frame j link) (cut j)) k links
 pushes_each end k [] cut before now frame h = refl
 pushes_each end k (link ∷ links) cut before now frame h =
-    ap₂ (λ (xs ys : List Use). xs ++ ys) (one_push k (peer end) (frames_of end (pair link k before)) _ (frame k link) (cut k) (h k link)) (pushes_each end (suc k) links cut before now frame h)
+    ap₂ (λ (xs ys : List Use). xs ++ ys)
+    (one_push k (peer end) (frames_of end (pair link k before)) _ (frame k link) (cut k) (h k link (omega arith) (omega arith)))
+    (pushes_each end (suc k) links cut before now frame (λ j l from below. h j l (omega arith) (omega arith)))
 
 -- no connection has any uses from a number on
-each_from : (uses : ℕ → LinkConf → List Use) (k : ℕ) (links : List LinkConf) → ((j : ℕ) (link : LinkConf) → k ≤ j → uses j link ≡ []) → each_uses uses k links ≡ []
-each_from uses k [] h = refl
-each_from uses k (link ∷ links) h = ap₂ (λ (xs ys : List Use). xs ++ ys) (h k link (omega arith)) (each_from uses (suc k) links (λ j l past. h j l (omega arith)))
-
-pub each_none : (uses : ℕ → LinkConf → List Use) (k : ℕ) (links : List LinkConf) → ((j : ℕ) (link : LinkConf) → uses j link ≡ []) → each_uses uses k links ≡ []
-each_none uses k links h = each_from uses k links (λ j link past. h j link)
+pub each_none : (uses : ℕ → LinkConf → List Use) (k : ℕ) (links : List LinkConf) → ((j : ℕ) (link : LinkConf) → k ≤ j → uses j link ≡ []) → each_uses uses k links ≡ []
+each_none uses k [] h = refl
+each_none uses k (link ∷ links) h = ap₂ (λ (xs ys : List Use). xs ++ ys) (h k link (omega arith)) (each_none uses (suc k) links (λ j l past. h j l (omega arith)))
 
 -- none but one
 pub each_one : (uses : ℕ → LinkConf → List Use) (k n place : ℕ) (links : List LinkConf) (link : LinkConf) → ((j : ℕ) (l : LinkConf) → j ≢ n → uses j l ≡ []) → slice_get links place ≡ Some link → n ≡ k + place
@@ -125,7 +124,7 @@ each_one uses k n place [] link h e i = absurd (cc e)
 each_one uses k n zero (l ∷ links) link h e i =
     let same : l ≡ link = cc in
     let number : k ≡ n = omega arith in
-    ap₂ (λ (xs ys : List Use). xs ++ ys) (ap₂ uses number same) (each_from uses (suc k) links (λ j l past. h j l (λ z. absurd (omega arith)))) ∙ append-nil (uses n link)
+    ap₂ (λ (xs ys : List Use). xs ++ ys) (ap₂ uses number same) (each_none uses (suc k) links (λ j l past. h j l (λ z. absurd (omega arith)))) ∙ append-nil (uses n link)
 each_one uses k n (suc place) (l ∷ links) link h e i =
     ap₂ (λ (xs ys : List Use). xs ++ ys) (h k l (λ z. absurd (omega arith))) (each_one uses (suc k) n place links link h e (omega arith))
 

@@ -1,7 +1,4 @@
-use Rattle.plant_core.proofs.Pulling.{follows_app}
 use Rattle.plant_core.proofs.plant.Plant.change_app.Goals as goal
 
 pub returns-clause-follows : goal.returns-clause-follows
-returns-clause-follows g c = λ told.
-    let goes = rw c.in_ok-take_room.ensures.steps at (c.change_app.ensures.goes told) in
-    rw (← c.self.view_is, ← c.self-inside.view_is) (follows_app _ _ _ told goes)
+returns-clause-follows g c = λ told. rw (← c.self.view_is, ← c.self-inside.view_is) (rw c.in_ok-take_room.ensures.steps at (c.change_app.ensures.line told)).follows
