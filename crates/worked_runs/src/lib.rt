@@ -1,7 +1,7 @@
 //! Tests of complete runs. They show when input is read and output written, also if a call fails. They run both ends
 //! over a schedule, and a plant over channels that are handed in. A plain program judges the entries of both ends.
-//! Tests of calls in `plant_conf` and `schedule_file` are here too, since the runs need these crates anyway. The
-//! expected values were found without this code.
+//! A test of a call in `schedule_file` is here too, since the runs need this crate anyway. The expected values were
+//! found without this code.
 #![tactic(auto)]
 
 #[cfg(test)]
