@@ -7,7 +7,7 @@ use Rattle.std.proofs.lemmas.List.{length-append}
 use Rattle.std.proofs.lemmas.List.Elements.{All-nil, All-cons, All-append, All-drop}
 use Rattle.rand_pcg.specs.Lcg.{Lcg}
 use Rattle.rand_pcg.specs.Pcg.{pcg32}
-use Rattle.black_channel.specs.Holds.{HasFrame, IsRing, IsForm, Given, taken, turned, given_by, with_last, pulled, Chance}
+use Rattle.black_channel.specs.Holds.{HasFrame, IsRing, IsForm, Given, oldest_taken, with_bit_turned, given_by, with_last, pulled, Chance}
 use Rattle.black_channel.specs.declared.channel.Parcel.{Parcel}
 use Rattle.std.proofs.lemmas.Grind.{common_steps}
 
@@ -22,7 +22,7 @@ first oldest others ring = ring.frames 0 oldest (omega arith)
 rest : (oldest : Parcel) (others : List Parcel) → IsRing (oldest ∷ others) → IsRing others
 rest oldest others ring = record { most = let m = ring.most in omega arith; frames = All-drop HasFrame 1 (oldest ∷ others) ring.frames }
 
-pub sound_taken : (ring : List Parcel) → IsRing ring → IsSound (taken ring)
+pub sound_taken : (ring : List Parcel) → IsRing ring → IsSound (oldest_taken ring)
 sound_taken [] ring = record { left = ring; gift = tt }
 sound_taken (oldest ∷ others) ring = record { left = rest oldest others ring; gift = first oldest others ring }
 
@@ -32,7 +32,7 @@ moved oldest others ring = record {
   frames = All-append HasFrame others (oldest ∷ []) (rest oldest others ring).frames (All-cons HasFrame oldest [] (first oldest others ring) (All-nil HasFrame));
 }
 
-has_turned : (word : ℕ) (parcel : Parcel) → HasFrame parcel → HasFrame (turned word parcel)
+has_turned : (word : ℕ) (parcel : Parcel) → HasFrame parcel → HasFrame (with_bit_turned word parcel)
 has_turned word parcel h = grind (arith, common_steps)
 
 either : (test : Bool) (a b : Given) → IsSound a → IsSound b → IsSound (if test then a else b)

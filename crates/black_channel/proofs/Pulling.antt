@@ -4,7 +4,7 @@ use Rattle.std.specs.Option.{option_or}
 use Rattle.std.specs.declared.option.Option.{Option}
 use Rattle.fsoe_io.specs.Faults.{Rose}
 use Rattle.rand_pcg.specs.Lcg.{Lcg}
-use Rattle.black_channel.specs.Holds.{Holds, IsRing, IsForm, taken, pulled, Chance}
+use Rattle.black_channel.specs.Holds.{Holds, IsRing, IsForm, oldest_taken, pulled, Chance}
 use Rattle.black_channel.specs.Told.{GrowsByGift, PullsParcel}
 use Rattle.black_channel.specs.Calls.{holding, parcel_of, empties_after}
 use Rattle.black_channel.specs.declared.channel.Parcel.{Parcel}
@@ -35,7 +35,7 @@ pulls_by old new answer frame before now fits count form gift holds = subst (λ 
 })
 
 -- a ring stays a ring
-pub ring_left : (old new : List Parcel) → IsRing old → new ≡ (taken old).left → IsRing new
+pub ring_left : (old new : List Parcel) → IsRing old → new ≡ (oldest_taken old).left → IsRing new
 ring_left old new ring is = subst IsRing (sym is) (sound_taken old ring).left
 
 -- a channel of chance that notes what it gives

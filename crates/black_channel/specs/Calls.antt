@@ -3,10 +3,10 @@ use Rattle.std.specs.Prelude.{ℕ, ◌+◌, ◌-◌, ◌^◌, min, List, Option,
 use Rattle.black_channel.specs.declared.channel.Parcel.{Parcel}
 use Rattle.black_channel.specs.declared.channel.Place.{Place}
 use Rattle.black_channel.specs.Holds.{Holds}
-use Rattle.black_channel.specs.Told.{Told}
+use Rattle.black_channel.specs.Told.{ChannelTold}
 
 -- a channel that tells what it holds and its count, and no parcels
-abbrev pub holding : Holds → ℕ → Told
+abbrev pub holding : Holds → ℕ → ChannelTold
 holding holds empties = record { holds = Some holds; empties = empties; pushed = None; given = None }
 
 -- the parcel that a pull gives, by its answer and the frame that it wrote

@@ -31,22 +31,22 @@ IsForm (Chance ring last words) = IsRing ring × IfSome last HasFrame
 IsForm (Gifts gifts) = ⊤
 
 -- the last so many parcels
-abbrev pub newest : ℕ → List Parcel → List Parcel
-newest most parcels = drop (length parcels - most) parcels
+abbrev pub last_parcels : ℕ → List Parcel → List Parcel
+last_parcels most parcels = drop (length parcels - most) parcels
 
 -- a parcel is appended to a ring, and the oldest is lost where it was full
 abbrev pub ring_with : Parcel → List Parcel → List Parcel
-ring_with parcel ring = newest 1024 (ring ++ parcel ∷ [])
+ring_with parcel ring = last_parcels 1024 (ring ++ parcel ∷ [])
 
 -- the generator of a seed
-abbrev pub generator_of : ℕ → Lcg
-generator_of seed = pcg32_of_seed (pcg32_seed 16 seed)
+abbrev pub seed_generator : ℕ → Lcg
+seed_generator seed = pcg32_of_seed (pcg32_seed 16 seed)
 
 -- what is held after a begin with a seed
-abbrev pub begun : ℕ → Holds → Holds
-begun seed (Ring ring) = Ring []
-begun seed (Chance ring last words) = Chance [] None (generator_of seed)
-begun seed (Gifts gifts) = Gifts gifts
+abbrev pub after_begin : ℕ → Holds → Holds
+after_begin seed (Ring ring) = Ring []
+after_begin seed (Chance ring last words) = Chance [] None (seed_generator seed)
+after_begin seed (Gifts gifts) = Gifts gifts
 
 -- what is held after a push
 abbrev pub pushed : Parcel → Holds → Holds
@@ -60,28 +60,28 @@ pub record Given : Type 0 where
   pub left : List Parcel
 
 -- the oldest parcel is taken and given, where there is one
-abbrev pub taken : List Parcel → Given
-taken [] = record { gift = None; left = [] }
-taken (oldest ∷ others) = record { gift = Some oldest; left = others }
+abbrev pub oldest_taken : List Parcel → Given
+oldest_taken [] = record { gift = None; left = [] }
+oldest_taken (oldest ∷ others) = record { gift = Some oldest; left = others }
 
 -- a frame with one bit turned: the word from its bit 16 on says which bit, counted from the lowest, and from its bit 8
 -- on of which byte
 abbrev pub turned_frame : ℕ → List ℕ → List ℕ
 turned_frame word frame = altered (word / 2 ^ 8 % length frame) (2 ^ (word / 2 ^ 16 % 8)) frame
 
-abbrev pub turned : ℕ → Parcel → Parcel
-turned word parcel = record parcel { frame = turned_frame word parcel.frame }
+abbrev pub with_bit_turned : ℕ → Parcel → Parcel
+with_bit_turned word parcel = record parcel { frame = turned_frame word parcel.frame }
 
 -- what a channel of chance gives by a word with this rest by 16, where a parcel is under way: it takes and gives the
 -- oldest; throws it away; gives it and leaves it; moves it to the end, and then takes and gives the oldest; takes and
 -- gives it with one bit turned; gives the parcel given last again; gives nothing
 abbrev pub given_by : ℕ → ℕ → Parcel → List Parcel → Option Parcel → Given
 given_by rest word oldest others last =
-    if nat_le rest 8 then taken (oldest ∷ others)
+    if nat_le rest 8 then oldest_taken (oldest ∷ others)
     else if rest == 9 then record { gift = None; left = others }
     else if rest == 10 then record { gift = Some oldest; left = oldest ∷ others }
-    else if rest == 11 then taken (others ++ oldest ∷ [])
-    else if nat_le rest 13 then record { gift = Some (turned word oldest); left = others }
+    else if rest == 11 then oldest_taken (others ++ oldest ∷ [])
+    else if nat_le rest 13 then record { gift = Some (with_bit_turned word oldest); left = others }
     else if rest == 14 then record { gift = last; left = oldest ∷ others }
     else record { gift = None; left = oldest ∷ others }
 
@@ -96,8 +96,8 @@ with_last given last words = record { gift = given.gift; holds = Chance given.le
 
 -- a pull of what is held; a word of the generator is drawn only where a parcel is under way
 abbrev pub pulled : Holds → Pulled
-pulled (Ring ring) = record { gift = (taken ring).gift; holds = Ring (taken ring).left }
-pulled (Gifts gifts) = record { gift = (taken gifts).gift; holds = Gifts (taken gifts).left }
+pulled (Ring ring) = record { gift = (oldest_taken ring).gift; holds = Ring (oldest_taken ring).left }
+pulled (Gifts gifts) = record { gift = (oldest_taken gifts).gift; holds = Gifts (oldest_taken gifts).left }
 pulled (Chance [] last words) = record { gift = None; holds = Chance [] last words }
 pulled (Chance (oldest ∷ others) last words) =
     let word = (pcg32 words).0 in

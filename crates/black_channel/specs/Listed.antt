@@ -1,7 +1,7 @@
 -- What contracts see of a channel that gives listed parcels.
 use Rattle.std.specs.Prelude.{ℕ, nat_lt, if◌then◌else◌, List, [], ◌∷◌, ◌++◌, length, Option, Some, None}
 use Rattle.black_channel.specs.Holds.{Gifts}
-use Rattle.black_channel.specs.Told.{Told}
+use Rattle.black_channel.specs.Told.{ChannelTold}
 use Rattle.black_channel.specs.declared.channel.Parcel.{Parcel}
 
 -- the parcels that it is still to give, those that it gave, those that were pushed as long as it tells them, of how
@@ -14,7 +14,7 @@ pub record ListView : Type 0 where
   pub empties : ℕ
 
 -- what it tells
-abbrev pub told_of : ListView → Told
+abbrev pub told_of : ListView → ChannelTold
 told_of v = record { holds = Some (Gifts v.gifts); empties = v.empties; pushed = v.pushed; given = Some v.given }
 
 -- before its first call

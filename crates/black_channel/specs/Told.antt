@@ -1,12 +1,12 @@
 -- What a channel tells of itself, and what each call makes of that.
 use Rattle.std.specs.Prelude.{◌≡◌, ℕ, ◌≤◌, List, [], ◌∷◌, ◌++◌, Option, Some, None, IfSome, option_map}
 use Rattle.fsoe_io.specs.Faults.{Rose}
-use Rattle.black_channel.specs.Holds.{Holds, IsForm, begun, pushed, pulled}
+use Rattle.black_channel.specs.Holds.{Holds, IsForm, after_begin, pushed, pulled}
 use Rattle.black_channel.specs.declared.channel.Parcel.{Parcel}
 
 -- what it holds, a count that rises where it gives nothing, and all parcels that were pushed and given, oldest first;
 -- each but the count may stay untold
-pub record Told : Type 0 where
+pub record ChannelTold : Type 0 where
   pub holds : Option Holds
   pub empties : ℕ
   pub pushed : Option (List Parcel)
@@ -22,15 +22,15 @@ GrowsByGift (Some parcel) old new = GrowsBy parcel old new
 GrowsByGift None old new = new ≡ old
 
 -- a begin with a seed
-pub record Begins (seed : ℕ) (old new : Told) : Type 0 where
-  pub holds : new.holds ≡ option_map (begun seed) old.holds
+pub record Begins (seed : ℕ) (old new : ChannelTold) : Type 0 where
+  pub holds : new.holds ≡ option_map (after_begin seed) old.holds
   pub form : IfSome new.holds IsForm
   pub empties : new.empties ≡ old.empties
   pub pushed : new.pushed ≡ old.pushed
   pub given : new.given ≡ old.given
 
 -- a push of a parcel
-pub record PushesParcel (parcel : Parcel) (old new : Told) : Type 0 where
+pub record PushesParcel (parcel : Parcel) (old new : ChannelTold) : Type 0 where
   pub holds : new.holds ≡ option_map (pushed parcel) old.holds
   pub form : IfSome new.holds IsForm
   pub empties : new.empties ≡ old.empties
@@ -38,7 +38,7 @@ pub record PushesParcel (parcel : Parcel) (old new : Told) : Type 0 where
   pub given : new.given ≡ old.given
 
 -- a pull that gives this parcel, or nothing
-pub record PullsParcel (parcel : Option Parcel) (old new : Told) : Type 0 where
+pub record PullsParcel (parcel : Option Parcel) (old new : ChannelTold) : Type 0 where
   pub holds : new.holds ≡ option_map (λ held. (pulled held).holds) old.holds
   pub gift : IfSome old.holds (λ held. parcel ≡ (pulled held).gift)
   pub form : IfSome new.holds IsForm

@@ -2,7 +2,7 @@
 -- the generator's published algorithm.
 use Rattle.std.specs.Prelude.{◌≡◌, ℕ, zero, suc, ◌+◌, ◌-◌, ◌*◌, ◌%◌, ◌^◌, List, [], ◌∷◌, ◌++◌, map, fold, replicate, take, Option, Some, None}
 use Rattle.fsoe_base.specs.declared.command.End.TheVariants as side
-use Rattle.black_channel.specs.Holds.{Holds, Chance, generator_of, pushed, pulled, ring_with}
+use Rattle.black_channel.specs.Holds.{Holds, Chance, seed_generator, pushed, pulled, ring_with}
 use Rattle.black_channel.specs.declared.channel.Parcel.{Parcel}
 
 -- a parcel for the slave of a connection, of 1 to 4 bytes that begin with 16 times its number
@@ -29,7 +29,7 @@ gifts (suc n) held = let next = pulled held in number next.gift ∷ gifts n next
 
 -- what so many pulls of a channel of chance give, by its seed and after pushes to so many connections
 abbrev pub given : ℕ → ℕ → ℕ → List ℕ
-given seed links pulls = gifts pulls (after_pushes links (Chance [] None (generator_of seed)))
+given seed links pulls = gifts pulls (after_pushes links (Chance [] None (seed_generator seed)))
 
 -- each rest of a word by 16 that the table of a pull tells apart, the last parcel given again with none given yet too
 unfoldable pub ChanceRows : Type 0

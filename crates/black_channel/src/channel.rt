@@ -1,6 +1,6 @@
 //! What every channel of a plant is.
 ghost use Rattle.std.specs.Prelude.{◌≡◌, ◌≤◌, ℕ, List, length};
-ghost use Rattle.black_channel.specs.Told.{Told, Begins, PushesParcel, PullsParcel};
+ghost use Rattle.black_channel.specs.Told.{ChannelTold, Begins, PushesParcel, PullsParcel};
 ghost use Rattle.black_channel.specs.Calls.{empties_after, parcel_of};
 
 use fsoe_base::{End, FrameBuf, MOST_FRAME};
@@ -28,7 +28,7 @@ pub trait Channel: Drop {
     ghost name: { Self → List ℕ };
 
     // What is known of it.
-    ghost told: { Self → Told };
+    ghost told: { Self → ChannelTold };
 
     /// Its name, by which a configuration picks it. No call changes it.
     fn name(&self) -> &str

@@ -1,8 +1,8 @@
 //! A channel of chance.
 ghost use Rattle.std.specs.Prelude.{◌≡◌, ◌≤◌, ◌%◌, [], ◌∷◌, None, codes, length, List, IfOk};
 ghost use Rattle.std.specs.Option.{option_or};
-ghost use Rattle.black_channel.specs.Holds.{Chance, IsRing, generator_of, given_by, pulled, turned_frame};
-ghost use Rattle.black_channel.specs.Told.{Told, Begins, PushesParcel, PullsParcel};
+ghost use Rattle.black_channel.specs.Holds.{Chance, IsRing, seed_generator, given_by, pulled, turned_frame};
+ghost use Rattle.black_channel.specs.Told.{ChannelTold, Begins, PushesParcel, PullsParcel};
 ghost use Rattle.black_channel.specs.Calls.{empties_after, holding, parcel_of};
 ghost use Rattle.black_channel.specs.declared.channel.Parcel.{Parcel};
 
@@ -28,10 +28,10 @@ pub struct HostileChannel {
 
 impl Model for HostileChannel {
     ghost use Rattle.black_channel.specs.Holds.{Chance, IsForm};
-    ghost use Rattle.black_channel.specs.Told.{Told};
+    ghost use Rattle.black_channel.specs.Told.{ChannelTold};
     ghost use Rattle.black_channel.specs.Calls.{holding};
 
-    ghost Value = { Told };
+    ghost Value = { ChannelTold };
 
     ghost view = { λ c. holding (Chance c.ring c.last c.words) c.empties };
 
@@ -152,7 +152,7 @@ fn give(
 impl HostileChannel {
     /// Creates a channel as after a begin with seed 0, with nothing under way. `Memory` without room for 1,024 frames.
     pub fn new(alloc: Global) -> Result<HostileChannel, Memory>
-        ensures { IfOk result (λ c. c ≡ holding (Chance [] None (generator_of 0)) 0) }
+        ensures { IfOk result (λ c. c ≡ holding (Chance [] None (seed_generator 0)) 0) }
     {
         Ok(HostileChannel {
             ring: ParcelRing::new(alloc)?,

@@ -1,6 +1,6 @@
 //! The parcels that are under way in a channel.
 ghost use Rattle.std.specs.Prelude.{◌≡◌, ◌≤◌, ◌<◌, ◌==◌, [], ◌++◌, length, take, drop, slice_get, IfOk};
-ghost use Rattle.black_channel.specs.Holds.{ring_with, taken};
+ghost use Rattle.black_channel.specs.Holds.{ring_with, oldest_taken};
 ghost use Rattle.black_channel.specs.Calls.{parcel_of};
 
 use crate::channel::{Parcel, Place};
@@ -111,8 +111,8 @@ impl ParcelRing {
 
     /// Writes the frame of the oldest parcel to `out`, returns where it goes, and forgets it. None if there is none.
     pub(crate) fn take(&mut self, out: &mut FrameBuf) -> Option<Place>
-        ensures gift { parcel_of result out.new ≡ (taken self.old).gift }
-        ensures left { self.new ≡ (taken self.old).left }
+        ensures gift { parcel_of result out.new ≡ (oldest_taken self.old).gift }
+        ensures left { self.new ≡ (oldest_taken self.old).left }
         ensures room { length self.new < 1024 }
     {
         let oldest = self.ring.pop_front()?;

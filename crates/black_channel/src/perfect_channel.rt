@@ -1,7 +1,7 @@
 //! A channel that keeps order.
 ghost use Rattle.std.specs.Prelude.{◌≡◌, ◌≤◌, [], codes, length, IfOk};
 ghost use Rattle.black_channel.specs.Holds.{Ring};
-ghost use Rattle.black_channel.specs.Told.{Told, Begins, PushesParcel, PullsParcel};
+ghost use Rattle.black_channel.specs.Told.{ChannelTold, Begins, PushesParcel, PullsParcel};
 ghost use Rattle.black_channel.specs.Calls.{empties_after, holding, parcel_of};
 
 use crate::channel::{Channel, Place, empties_after};
@@ -20,10 +20,10 @@ pub struct PerfectChannel {
 
 impl Model for PerfectChannel {
     ghost use Rattle.black_channel.specs.Holds.{IsRing, Ring};
-    ghost use Rattle.black_channel.specs.Told.{Told};
+    ghost use Rattle.black_channel.specs.Told.{ChannelTold};
     ghost use Rattle.black_channel.specs.Calls.{holding};
 
-    ghost Value = { Told };
+    ghost Value = { ChannelTold };
 
     ghost view = { λ c. holding (Ring c.ring) c.empties };
 

@@ -2,14 +2,14 @@
 pub use Rattle.black_channel.specs.Altered.{altered, back_th}
 pub use Rattle.black_channel.specs.Window.{Pushes, WindowView, window_of}
 pub use Rattle.duo_run.specs.Acts.{Comes, Hears, move_at}
-pub use Rattle.duo_run.specs.Bulk.{entries_of, number_line, report_of, summary_lines}
+pub use Rattle.duo_run.specs.Bulk.{bulk_entries, number_line, report_of, summary_lines}
 pub use Rattle.duo_run.specs.Convert.{ConvertWrite, ConvertedAs, ConvertsReadLines, IsOnePair, RanConvert, SaysTheSame, WroteAll, converted, converted_by, ended_at_stop, event_text, header_text, last_text, line_text, lines_before, only_pair, title_text}
 pub use Rattle.duo_run.specs.Converting.{FindsTaken, LineTaken, PairRead, end_taken, event_taken, full_taken, header_piece, header_taken, later_taken, left_to_take, line_taken, read_none, taken_by}
 pub use Rattle.duo_run.specs.Duo.{Advances, CountsEntry, DuoStands, DuoView, IsDuo, Misses, NextEntry, ReplayStands, ShowsLast, Steps, lengths_of, profiles_of, sent_by, steps_done}
 pub use Rattle.duo_run.specs.Pairs.{Pair, done_after, entries_over, entry_after, events_by, events_done, events_to, is_met, is_met_by, least, less_of, other_event, other_events, world_of}
 pub use Rattle.duo_run.specs.PairsReport.{ArePairs, IsPairOf, PairsInput, PairsReports, PairsRunFairly, RanPairs, closing_line, closing_lines, each_line, event_lines, line_if, lines_of_events, one_line, pairs_ended, pairs_last_lines, pairs_reporting, pairs_stop, tick_lines, with_tick}
 pub use Rattle.duo_run.specs.PairsStanding.{AllStandOver, CanStep, NotesOthers, PairsStand, StandsOver, TellsNext, Ticks, ToldNext}
-pub use Rattle.duo_run.specs.Replay.{AreEntries, AreSetTo, RanPair, ReplayReports, RunsFairly, ServesIfHonest, ended_at, entry_line, entry_lines, last_lines, replay_reporting, run_stop, told_line}
+pub use Rattle.duo_run.specs.Replay.{AreEntries, AreSetTo, RanPair, ReplayReports, RunsFairly, ServesIfHonest, pair_ended_at, entry_line, entry_lines, last_lines, replay_reporting, run_stop, told_line}
 pub use Rattle.duo_run.specs.Summary.{summary_of}
 pub use Rattle.duo_run.specs.declared.summary.Summary.{Summary}
 pub use Rattle.end_model.specs.Deed.{Deed, is_empty}
@@ -62,7 +62,7 @@ pub use Rattle.schedule_file.specs.Field.{bytes_said, fields_of, is_number, numb
 pub use Rattle.schedule_file.specs.Fields.{by_word, one_field, value_or}
 pub use Rattle.schedule_file.specs.Header.{Heading, IsMasterOf, IsSlaveOf, fields_taken, heading_after, heading_is_whole, heading_new, heading_with, profile_given, profile_taken, rule_place, title_taken}
 pub use Rattle.schedule_file.specs.Input.{AtEnd, Input, InputCause, InputOf, Line, Long, NoFrame, NoLine, Refused, Stop, TooMany, WholeHeader, WholeHeaderOf, event_of, header_in, header_of, header_step, heading_profile, input_after, input_by, input_of, is_full, lines_in, lines_of, open_line, own_length, said_after, schedule_format, steps, stop_at, stop_by, stop_full, texts, with_room}
-pub use Rattle.schedule_file.specs.Made.{event_at, event_by, event_in_turn, is_switch_on, load_of, made, made_lengths, made_master, made_slave, mask_of, place_of, word_after}
+pub use Rattle.schedule_file.specs.Made.{event_at, event_by, event_in_turn, is_switch_on, load_of, made, made_lengths, made_master, made_slave, mask_of, altered_place, word_after}
 pub use Rattle.schedule_file.specs.NodeHeader.{may_end}
 pub use Rattle.schedule_file.specs.PairEvent.{pair_event, pair_line, pair_said, pair_word_of}
 pub use Rattle.schedule_file.specs.PairsEvent.{numbered, pairs_line}

@@ -16,8 +16,8 @@ use Rattle.duo_run.specs.Summary.{summary_of}
 use Rattle.duo_run.specs.declared.summary.Summary.{Summary}
 
 -- the entries of both ends over the first so many events of a number
-abbrev pub entries_of : ℕ → ℕ → List Entry
-entries_of number events = world made_master made_slave (made number events)
+abbrev pub bulk_entries : ℕ → ℕ → List Entry
+bulk_entries number events = world made_master made_slave (made number events)
 
 -- a line that tells a number of each end
 abbrev pub ends_line : List ℕ → ℕ → ℕ → List ℕ
@@ -48,8 +48,8 @@ report_of number events w = number_line number events ++ summary_lines (summary_
 -- entry says, or a write failed; each event has its entry, and the law of the pair holds of them; those of number 0
 -- serve
 pub record RanBulk (number events : ℕ) (ended : Ended) (sink : Told) : Type 0 where
-  pub wrote : Writes 0 (report_of number events (entries_of number events)) (ended_with (first_other (entries_of number events))) ended sink
-  pub whole : length (entries_of number events) ≡ events
-  pub fair : Fair made_lengths (before_other (entries_of number events))
-  pub serves : number ≡ 0 → Serves made_master (made number events) (entries_of number events)
+  pub wrote : Writes 0 (report_of number events (bulk_entries number events)) (ended_with (first_other (bulk_entries number events))) ended sink
+  pub whole : length (bulk_entries number events) ≡ events
+  pub fair : Fair made_lengths (before_other (bulk_entries number events))
+  pub serves : number ≡ 0 → Serves made_master (made number events) (bulk_entries number events)
   pub later : sink.faults_before ≤ sink.faults_after

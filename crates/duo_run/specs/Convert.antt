@@ -15,7 +15,7 @@ use Rattle.schedule_file.specs.Input.{AtEnd, Input, InputOf, NoLine, Refused, St
 use Rattle.schedule_file.specs.declared.event.Event.{Event}
 use Rattle.schedule_file.specs.declared.pairs_line.PairsEvent.{PairsEvent}
 use Rattle.schedule_file.specs.declared.pairs_line.PairsEvent.TheVariants as pairs_event
-use Rattle.schedule_file.specs.declared.header_kind.HeaderKind.TheVariants as kind
+use Rattle.schedule_file.specs.declared.header_kind.HeaderKind.TheVariants as header_kind
 use Rattle.file_run.specs.Ending.{Appended, LinesBefore, ReadLines}
 use Rattle.file_run.specs.Outside.{CountsFaults, Outside, Wrote}
 use Rattle.file_run.specs.Ran.{ReadsWhole}
@@ -57,12 +57,12 @@ events_text input lines = flat_map event_text (take (length input.events) lines)
 
 -- the lines of an input before its stop, by its header, and the last one
 abbrev pub converted_by : Result WholeHeader Stop → List (List ℕ) → List ℕ
-converted_by (Ok headed) lines = header_text (take headed.lines lines) ++ events_text (input_after (schedule_format kind.Pair) headed) (texts headed.rest)
+converted_by (Ok headed) lines = header_text (take headed.lines lines) ++ events_text (input_after (schedule_format header_kind.Pair) headed) (texts headed.rest)
 converted_by (Err stop) lines = header_text (take (lines_before stop) lines) ++ last_text stop
 
 -- what the bytes of a pair file are converted to
 abbrev pub converted : List ℕ → List ℕ
-converted bytes = converted_by (header_of kind.Pair bytes) (texts (lines_of bytes))
+converted bytes = converted_by (header_of header_kind.Pair bytes) (texts (lines_of bytes))
 
 -- how a conversion ends, by how its input stops
 abbrev pub ended_at_stop : Stop → Ended
@@ -82,12 +82,12 @@ pub record IsOnePair (h : Heading) (events : List Event) (input : InputOf PairsH
 -- a text has one pair, of which it says what the bytes of a pair file do: the same header and the same events, over
 -- which both ends have the same entries
 pub record SaysTheSame (input text : List ℕ) : Type 0 where
-  pub one_pair : IsSomeAnd (input_of kind.Pair input).heading (λ h. IsOnePair h (input_of kind.Pair input).events (pairs_input text))
-  pub entries : (p : Pair) → world_of 1 p (events_done (p ∷ []) (pairs_input text).events) ≡ entries_over p (input_of kind.Pair input).events
+  pub one_pair : IsSomeAnd (input_of header_kind.Pair input).heading (λ h. IsOnePair h (input_of header_kind.Pair input).events (pairs_input text))
+  pub entries : (p : Pair) → world_of 1 p (events_done (p ∷ []) (pairs_input text).events) ≡ entries_over p (input_of header_kind.Pair input).events
 
 -- the whole text was written, and the conversion ended as its input stops
 abbrev pub WroteAll : Ended → Outside → Type 0
-WroteAll ended o = Wrote o (λ input text. (text ≡ converted input) × (ended ≡ ended_at_stop (input_of kind.Pair input).stop))
+WroteAll ended o = Wrote o (λ input text. (text ≡ converted input) × (ended ≡ ended_at_stop (input_of header_kind.Pair input).stop))
 
 -- a line is refused, whose number is the place, and no more was read
 pub record ConvertedToRefused (ended : Ended) (o : Outside) : Type 0 where
@@ -98,7 +98,7 @@ pub record ConvertedToRefused (ended : Ended) (o : Outside) : Type 0 where
 -- the input came to its `end`, no more was read, and what was written says the same
 pub record ConvertedToEnd (ended : Ended) (o : Outside) : Type 0 where
   pub place_is : ended.place ≡ 0
-  pub read : ReadsWhole (schedule_format kind.Pair) o.source.before o.source.after
+  pub read : ReadsWhole (schedule_format header_kind.Pair) o.source.before o.source.after
   pub wrote : WroteAll ended o
   pub same : Wrote o SaysTheSame
 
@@ -110,7 +110,7 @@ pub record ConvertsReadLines (lines : ℕ) (input : List ℕ) (left : Option (Li
   pub goes : Consumes (Some input) (prepend_known held left) taken
   pub open_line : HasNoNewline held
   pub writes : converted taken ≡ text ++ refused_line (lines + 1) NoLine
-  pub ends : ended_at_stop (input_of kind.Pair taken).stop ≡ refused_at (lines + 1)
+  pub ends : ended_at_stop (input_of header_kind.Pair taken).stop ≡ refused_at (lines + 1)
   pub begins : IsPrefix text (converted input)
 
 -- a read failed after so many whole lines, and what they are converted to was written
@@ -137,5 +137,5 @@ ConvertedAs _ ended o = ⊥
 pub record RanConvert (ended : Ended) (o : Outside) : Type 0 where
   pub ends : ConvertedAs ended.status ended o
   pub stops : (Rose o.source.faults_before o.source.faults_after → ⊥) → (Rose o.sink.faults_before o.sink.faults_after → ⊥)
-      → IfSome o.source.before (λ input. ended ≡ ended_at_stop (input_of kind.Pair input).stop)
+      → IfSome o.source.before (λ input. ended ≡ ended_at_stop (input_of header_kind.Pair input).stop)
   pub faults : CountsFaults ended.status o

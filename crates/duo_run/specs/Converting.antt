@@ -10,7 +10,7 @@ use Rattle.schedule_file.specs.Limits.{max_events}
 use Rattle.schedule_file.specs.LinesLeft.{lines_left}
 use Rattle.schedule_file.specs.declared.event.ScheduleLine.{ScheduleLine}
 use Rattle.schedule_file.specs.declared.event.ScheduleLine.TheVariants as said
-use Rattle.schedule_file.specs.declared.header_kind.HeaderKind.TheVariants as kind
+use Rattle.schedule_file.specs.declared.header_kind.HeaderKind.TheVariants as header_kind
 use Rattle.schedule_file.specs.declared.line_cause.LineCause.{LineCause}
 use Rattle.file_run.specs.ByTitle.{first_line}
 use Rattle.file_run.specs.Refusal.{input_cause}
@@ -26,7 +26,7 @@ pub record PairRead : Type 0 where
 
 -- no line was read
 abbrev pub read_none : PairRead
-read_none = record { heading = heading_new kind.Pair; events = 0 }
+read_none = record { heading = heading_new header_kind.Pair; events = 0 }
 
 -- what is read after a line, what it is converted to, and whether it is the last
 pub record LineTaken : Type 0 where
@@ -59,7 +59,7 @@ full_taken r line = if bytes_eq line (codes "end") then Ok (end_taken r) else Er
 
 -- a line after the header
 abbrev pub later_taken : PairRead → List ℕ → Result LineTaken InputCause
-later_taken r line = if r.events == max_events then full_taken r line else event_taken r line (said_after kind.Pair r.heading line)
+later_taken r line = if r.events == max_events then full_taken r line else event_taken r line (said_after header_kind.Pair r.heading line)
 
 -- the line of this number
 abbrev pub line_taken : ℕ → PairRead → List ℕ → Result LineTaken InputCause

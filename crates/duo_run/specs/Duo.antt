@@ -1,7 +1,7 @@
 -- What it means that a pair of ends does over a schedule what the definitions of a world say. Lists are newest first.
 use Rattle.std.specs.Prelude.{◌≡◌, ℕ, false, List, ◌∷◌, Some, None, length, ◌+◌, ◌^◌, ◌<◌}
 use Rattle.fsoe_base.specs.declared.command.End.{End}
-use Rattle.fsoe_base.specs.declared.command.End.TheVariants as end_name
+use Rattle.fsoe_base.specs.declared.command.End.TheVariants as side
 use Rattle.fsoe_base.specs.declared.did.Did.{Did}
 use Rattle.fsoe_base.specs.declared.lengths.Lengths.{Lengths}
 use Rattle.fsoe_base.specs.declared.command.State.{State}
@@ -36,8 +36,8 @@ pub record DuoView : Type 0 where
 
 -- the last frames that an end sent
 abbrev pub sent_by : End → DuoView → WindowView
-sent_by end_name.Master v = v.master_sent
-sent_by end_name.Slave v = v.slave_sent
+sent_by side.Master v = v.master_sent
+sent_by side.Slave v = v.slave_sent
 
 -- the lengths of the connection, which both ends have
 abbrev pub lengths_of : DuoView → Lengths
@@ -59,10 +59,10 @@ pub record IsDuo (v : DuoView) : Type 0 where
 -- a pair stands for these entries: they are a world, each end is where its own deeds among them leave it, each window
 -- has the last of the frames that its end sent, and the monitor has noted them all
 pub record DuoStands (ms : MasterSettings) (ss : SlaveSettings) (v : DuoView) (w : List Entry) : Type 0 where
-  pub master : MasterIsAfter ms v.master (deeds end_name.Master w)
-  pub slave : SlaveIsAfter ss v.slave (deeds end_name.Slave w)
-  pub master_sent : v.master_sent ≡ window_of (frames_of end_name.Master w)
-  pub slave_sent : v.slave_sent ≡ window_of (frames_of end_name.Slave w)
+  pub master : MasterIsAfter ms v.master (deeds side.Master w)
+  pub slave : SlaveIsAfter ss v.slave (deeds side.Slave w)
+  pub master_sent : v.master_sent ≡ window_of (frames_of side.Master w)
+  pub slave_sent : v.slave_sent ≡ window_of (frames_of side.Slave w)
   pub monitor : v.monitor ≡ monitor.view_of w
   pub world : IsWorld ms ss w
 

@@ -2,7 +2,7 @@
 -- numbered from 1 in their order. Events of all pairs are listed newest first, those of one pair oldest first, and
 -- entries newest first.
 use Rattle.std.specs.Prelude.{ℕ, suc, ◌==◌, min, List, [], ◌∷◌, ◌++◌, length, Bool, true, false, Option, Some, None, is_some, if◌then◌else◌}
-use Rattle.fsoe_base.specs.declared.command.End.TheVariants as end_name
+use Rattle.fsoe_base.specs.declared.command.End.TheVariants as side
 use Rattle.param_load.specs.declared.entry.Entry.{Entry}
 use Rattle.param_load.specs.declared.master_settings.MasterSettings.{MasterSettings}
 use Rattle.param_load.specs.declared.slave_settings.SlaveSettings.{SlaveSettings}
@@ -10,7 +10,7 @@ use Rattle.schedule_file.specs.PairsEvent.{numbered}
 use Rattle.schedule_file.specs.declared.event.Event.{Event}
 use Rattle.schedule_file.specs.declared.event.Event.TheVariants as event
 use Rattle.schedule_file.specs.declared.pairs_line.PairsEvent.{PairsEvent}
-use Rattle.schedule_file.specs.declared.pairs_line.PairsEvent.TheVariants as common
+use Rattle.schedule_file.specs.declared.pairs_line.PairsEvent.TheVariants as pairs_event
 use Rattle.exchange_model.specs.Other.{first_of_both, first_other}
 use Rattle.exchange_model.specs.World.{entry_at, world}
 
@@ -22,8 +22,8 @@ pub record Pair : Type 0 where
 -- what an event of all is to the pair of this number: a tick is one of its slave and later, in the same event, one of
 -- its master
 abbrev pub events_by : ℕ → PairsEvent → List Event
-events_by k common.Tick = event.Tick end_name.Slave ∷ event.Tick end_name.Master ∷ []
-events_by k (common.One pair own) = if pair == k then own ∷ [] else []
+events_by k pairs_event.Tick = event.Tick side.Slave ∷ event.Tick side.Master ∷ []
+events_by k (pairs_event.One pair own) = if pair == k then own ∷ [] else []
 
 -- what these are to it
 abbrev pub events_to : ℕ → List PairsEvent → List Event
@@ -49,8 +49,8 @@ is_met_by k past own (Some p) = is_some (entry_after p (events_to k past) own)
 
 -- whether an event has its entries after these: no frame that it names wasn't sent
 abbrev pub is_met : List Pair → List PairsEvent → PairsEvent → Bool
-is_met pairs past common.Tick = true
-is_met pairs past (common.One k own) = is_met_by k past own (numbered k pairs)
+is_met pairs past pairs_event.Tick = true
+is_met pairs past (pairs_event.One k own) = is_met_by k past own (numbered k pairs)
 
 -- the events that are done, where those were done before: the first one without its entry ends the run of all
 abbrev pub done_after : List Pair → List PairsEvent → List PairsEvent → List PairsEvent

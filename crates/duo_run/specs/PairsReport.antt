@@ -3,7 +3,7 @@
 use Rattle.std.specs.Prelude.{◌≡◌, ℕ, suc, ◌+◌, List, [], ◌∷◌, ◌++◌, length, codes, decimal, true, Option, Some, None, IfSome}
 use Rattle.std.specs.List.{AllZip}
 use Rattle.fsoe_base.specs.declared.command.End.{End}
-use Rattle.fsoe_base.specs.declared.command.End.TheVariants as end_name
+use Rattle.fsoe_base.specs.declared.command.End.TheVariants as side
 use Rattle.fsoe_io.specs.declared.status.Ended.{Ended}
 use Rattle.param_load.specs.declared.entry.Entry.{Entry}
 use Rattle.schedule_file.specs.Header.{Heading}
@@ -14,7 +14,7 @@ use Rattle.schedule_file.specs.PairsInput.{pairs_format, pairs_input}
 use Rattle.schedule_file.specs.declared.event.Event.{Event}
 use Rattle.schedule_file.specs.declared.event.Event.TheVariants as event
 use Rattle.schedule_file.specs.declared.pairs_line.PairsEvent.{PairsEvent}
-use Rattle.schedule_file.specs.declared.pairs_line.PairsEvent.TheVariants as common
+use Rattle.schedule_file.specs.declared.pairs_line.PairsEvent.TheVariants as pairs_event
 use Rattle.schedule_file.specs.declared.pairs_line.PairsLine.{PairsLine}
 use Rattle.file_run.specs.Outside.{Outside}
 use Rattle.file_run.specs.Ran.{RanOver}
@@ -26,13 +26,13 @@ use Rattle.duo_run.specs.Pairs.{Pair, entry_after, events_done, events_to, least
 use Rattle.duo_run.specs.Replay.{AreSetTo, stop_after, told_line}
 
 -- the line of an entry of the pair of this number, at the event of this number
-abbrev pub pair_line : ℕ → ℕ → Entry → List ℕ
-pair_line n k x = decimal n ++ codes " " ++ decimal k ++ codes " " ++ told_line x.end x.did x.state x.outputs x.sent
+abbrev pub pair_entry_line : ℕ → ℕ → Entry → List ℕ
+pair_entry_line n k x = decimal n ++ codes " " ++ decimal k ++ codes " " ++ told_line x.end x.did x.state x.outputs x.sent
 
 -- the same, where there is an entry
 abbrev pub line_if : ℕ → ℕ → Option Entry → List ℕ
 line_if n k None = []
-line_if n k (Some x) = pair_line n k x
+line_if n k (Some x) = pair_entry_line n k x
 
 -- the lines of these one after another, of which the first has the number k
 abbrev pub each_line : {X : Type 0} → (ℕ → X → List ℕ) → ℕ → List X → List ℕ
@@ -55,9 +55,9 @@ one_line n k past own (Some p) = line_if n k (entry_after p (events_to k past) o
 -- the lines of the event of this number: of a tick those of all slaves, and then those of all masters, in the order of
 -- pairs
 abbrev pub event_lines : ℕ → List Pair → List PairsEvent → PairsEvent → List ℕ
-event_lines n pairs past common.Tick =
-    tick_lines n (λ k. events_to k past) end_name.Slave 1 pairs ++ tick_lines n (with_tick end_name.Slave (λ k. events_to k past)) end_name.Master 1 pairs
-event_lines n pairs past (common.One k own) = one_line n k past own (numbered k pairs)
+event_lines n pairs past pairs_event.Tick =
+    tick_lines n (λ k. events_to k past) side.Slave 1 pairs ++ tick_lines n (with_tick side.Slave (λ k. events_to k past)) side.Master 1 pairs
+event_lines n pairs past (pairs_event.One k own) = one_line n k past own (numbered k pairs)
 
 -- the lines of all these events
 abbrev pub lines_of_events : List Pair → List PairsEvent → List ℕ

@@ -14,7 +14,7 @@ use Rattle.exchange_model.specs.Other.{first_of_both, first_other}
 use Rattle.exchange_model.specs.World.{entry_at}
 use Rattle.duo_run.specs.Duo.{DuoView, DuoStands, Steps, lengths_of, profiles_of, steps_done}
 use Rattle.duo_run.specs.Pairs.{Pair, entries_over, events_done, events_to, other_events}
-use Rattle.duo_run.specs.PairsReport.{IsPairOf, lines_of_events, pair_line, tick_lines, with_tick}
+use Rattle.duo_run.specs.PairsReport.{IsPairOf, lines_of_events, pair_entry_line, tick_lines, with_tick}
 
 -- a pair stands for these events of its own, each of which has its entry
 pub record StandsOver (p : Pair) (own : List Event) (v : DuoView) : Type 0 where
@@ -59,7 +59,7 @@ pub record ToldNext (ms : MasterSettings) (ss : SlaveSettings) (w : List Entry) 
   pub entry : Entry
   pub next : entry_at ms ss w event ≡ Some entry
   pub stands : DuoStands ms ss new (entry ∷ w)
-  pub line_is : line ≡ pair_line n k entry
+  pub line_is : line ≡ pair_entry_line n k entry
 
 -- at this event a pair does the next entry of its world, of which this is the line
 pub record TellsNext (old : DuoView) (event : Event) (n k : ℕ) (new : DuoView) (line : List ℕ) : Type 0 where

@@ -14,7 +14,7 @@ use Rattle.entry_text.specs.EntryText.{entry_text}
 use Rattle.schedule_file.specs.PairEvent.{end_letter}
 use Rattle.schedule_file.specs.Header.{Heading, IsMasterOf, IsSlaveOf}
 use Rattle.schedule_file.specs.Input.{Input, InputOf, NoFrame, Stop, AtEnd, Refused, input_of, schedule_format}
-use Rattle.schedule_file.specs.declared.header_kind.HeaderKind.TheVariants as kind
+use Rattle.schedule_file.specs.declared.header_kind.HeaderKind.TheVariants as header_kind
 use Rattle.schedule_file.specs.declared.event.Event.{Event}
 use Rattle.schedule_file.specs.declared.event.ScheduleLine.{ScheduleLine}
 use Rattle.file_run.specs.Outside.{Outside}
@@ -46,9 +46,9 @@ last_lines w AtEnd = events_line (length w) ++ other_line (first_other w)
 last_lines w (Refused number why) = refused_line number why
 
 -- how a run of these entries ends that stops so, where neither a read nor a write failed
-abbrev pub ended_at : List Entry → Stop → Ended
-ended_at w AtEnd = ended_with (first_other w)
-ended_at w (Refused number why) = record { status = status.Line; place = number }
+abbrev pub pair_ended_at : List Entry → Stop → Ended
+pair_ended_at w AtEnd = ended_with (first_other w)
+pair_ended_at w (Refused number why) = record { status = status.Line; place = number }
 
 -- how a run over an input stops that did so many of its events: as the input does where that is all, else at the line
 -- of the next event, which names a frame that wasn't sent
@@ -73,11 +73,11 @@ abbrev pub ReplayReports : Input → Ended → List ℕ → Type 0
 ReplayReports input ended text =
     (w : List Entry) × AreEntries input.heading input.events w
     × (text ≡ entry_lines w ++ last_lines w (run_stop input w))
-    × (ended ≡ ended_at w (run_stop input w))
+    × (ended ≡ pair_ended_at w (run_stop input w))
 
 -- what a replay reports; it takes no memory
 abbrev pub replay_reporting : Reporting Heading ScheduleLine Event
-replay_reporting = record { format = schedule_format kind.Pair; judges = true; memory = Never; reports = ReplayReports }
+replay_reporting = record { format = schedule_format header_kind.Pair; judges = true; memory = Never; reports = ReplayReports }
 
 -- the entries over an input before the first other entry, all if there is none, are fair
 abbrev pub RunsFairly : Input → Type 0
@@ -90,5 +90,5 @@ ServesIfHonest input = IfSome input.heading (λ h. (ms : MasterSettings) (ss : S
 -- both ends ran over an input; and, where its bytes are told, the law of the pair holds of their entries
 pub record RanPair (ended : Ended) (o : Outside) : Type 0 where
   pub run : RanOver replay_reporting ended o
-  pub fair : IfSome o.source.before (λ input. RunsFairly (input_of kind.Pair input))
-  pub serves : IfSome o.source.before (λ input. ServesIfHonest (input_of kind.Pair input))
+  pub fair : IfSome o.source.before (λ input. RunsFairly (input_of header_kind.Pair input))
+  pub serves : IfSome o.source.before (λ input. ServesIfHonest (input_of header_kind.Pair input))

@@ -1,7 +1,7 @@
 -- What a summary tells of both ends over their entries. Lists of entries are newest first.
 use Rattle.std.specs.Prelude.{count_by, List, Bool, ◌&&◌, is_some}
 use Rattle.fsoe_base.specs.declared.command.End.{End}
-use Rattle.fsoe_base.specs.declared.command.End.TheVariants as end_name
+use Rattle.fsoe_base.specs.declared.command.End.TheVariants as side
 use Rattle.param_load.specs.declared.entry.Entry.{Entry}
 use Rattle.exchange_model.specs.Ends.{same_end}
 use Rattle.exchange_model.specs.Fair.{takes_data}
@@ -29,4 +29,4 @@ counts_of which w = record {
 
 -- the same of both ends
 abbrev pub summary_of : List Entry → Summary
-summary_of w = record { master = counts_of end_name.Master w; slave = counts_of end_name.Slave w }
+summary_of w = record { master = counts_of side.Master w; slave = counts_of side.Slave w }

@@ -5,7 +5,7 @@ ghost use Rattle.exchange_model.specs.Other.{first_other};
 ghost use Rattle.exchange_model.specs.Schedules.{IsWorld};
 ghost use Rattle.file_run.specs.Report.{other_line};
 ghost use Rattle.duo_run.specs.Summary.{summary_of};
-ghost use Rattle.duo_run.specs.Bulk.{entries_of, ends_line, state_line, number_line, summary_lines, RanBulk};
+ghost use Rattle.duo_run.specs.Bulk.{bulk_entries, ends_line, state_line, number_line, summary_lines, RanBulk};
 ghost use Rattle.file_run.specs.Outside.{told};
 
 use crate::acting::Answer;
@@ -19,9 +19,9 @@ use schedule_file::{Event, Maker};
 
 /// Runs a new pair on the first `events` events of a number: the summary, and the number of the first `other` entry.
 fn summarize(number: u64, events: u64) -> (Summary, Option<u64>)
-    ensures summary { result.0 ≡ summary_of (entries_of number events) }
-    ensures other { result.1 ≡ first_other (entries_of number events) }
-    ensures is_world { IsWorld made_master made_slave (entries_of number events) }
+    ensures summary { result.0 ≡ summary_of (bulk_entries number events) }
+    ensures other { result.1 ≡ first_other (bulk_entries number events) }
+    ensures is_world { IsWorld made_master made_slave (bulk_entries number events) }
 {
     let (master, slave) = Maker::settings();
     let mut maker = Maker::new(number);

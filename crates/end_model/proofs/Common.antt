@@ -1,15 +1,15 @@
 -- The names that more than one file of these proofs cites, passed on from one place. Declares nothing.
-pub use Rattle.end_model.specs.Chain.{fits, kept, newest_crc, own, own_link, seal, since, taken, taken_link}
+pub use Rattle.end_model.specs.Chain.{fits_session, kept, newest_crc, own, own_link, seal, since, taken, taken_link}
 pub use Rattle.end_model.specs.Deed.{Deed, delivered, is_empty, of_session}
 pub use Rattle.end_model.specs.FreshIds.{DifferInFront, EndsByCrcs, NotByStep, id_front}
 pub use Rattle.end_model.specs.Outputs.{out, out_after, outputs, zeros}
 pub use Rattle.end_model.specs.Payloads.{conn_id, count_in, has_all, id_sent, joined, joined_with, nonce, pay, piece, session_id, uploaded, whole}
-pub use Rattle.end_model.specs.Phases.{has_command, is_guarded, is_reset, phase_of, phase_of_frame, same_phase}
+pub use Rattle.end_model.specs.Phases.{has_command, is_guarded_command, is_reset, phase_of, phase_of_frame, same_phase}
 pub use Rattle.end_model.specs.Reactions.{AfterConnection, AfterSession, Ages, Answers, DropsInReset, DropsLength, DropsRepeat, DropsReset, Expires, Fails, HasNoSession, Holds, IsExchange, IsHandshake, IsInSession, IsNextPhase, IsReaction, IsRead, IsResetFrame, IsValid, MasterFirstData, MasterGoesOn, MasterMoreData, MasterNextPhase, MasterStarts, NotAllowed, OfConnection, OfParameter, OfSession, PeerResets, Puts, Reaction, Refuses, ResetsItself, Rests, SendsAgain, SetsNonce, SlaveFirstData, SlaveGoesOn, SlaveMoreData, SlaveNextPhase, SlaveRejoins, SlaveStarts, Taking, UnknownCommand, WrongConnection, WrongContents, WrongCrc, WrongReset, all_pieces, failed_with, parts, pieces_sent, received, with_answer}
 pub use Rattle.end_model.specs.Readiness.{age, allowed, held, limit, master_allows, offer, offer_after, phase_after, phase_taken, slave_age, slave_allows, slave_limit, state_of, ticks, upload_is_whole}
 pub use Rattle.end_model.specs.Runs.{IsProper, IsRun, IsSetting, events_of}
 pub use Rattle.end_model.specs.Setup.{OfMaster, OfSlave, Setup, piece_len, receives, sends}
-pub use Rattle.end_model.specs.Step.{after_phase, after_pieces, answer, begun, continued, deed_of, download_frame, id_piece, master_answer, on_expiry, on_fault, on_reset_frame, on_verdict, run, sealed, slave_answer, step, takes_frame, with_data, with_piece}
+pub use Rattle.end_model.specs.Step.{after_phase, after_pieces, answer, begun, continued, deed_of, download_frame, id_piece, master_answer, on_expiry, on_fault, on_reset_frame, on_verdict, run, sealed_next, slave_answer, step, takes_frame, with_data, with_piece}
 pub use Rattle.end_model.specs.Verdict.{Drop, Refused, Valid, Verdict, Wrong, contents, data_fault, has_conn, is_repeat, judged, judged_contents, judged_session, session_fault, slave_fault, slave_upload_fault, verdict}
 pub use Rattle.fsoe_base.specs.Command.{code, command_byte, command_of}
 pub use Rattle.fsoe_base.specs.Data.{is_data}

@@ -1,5 +1,5 @@
 -- A frame that an end would take, at another end that refuses its CRCs alone.
-use Rattle.end_model.proofs.Common.{Code, Command, Deed, Fails, IsRead, IsValid, NotAllowed, Refused, Setup, UnknownCommand, Valid, Verdict, WrongConnection, WrongContents, WrongCrc, WrongReset, allowed, fits, has_conn, parts, since, verdict}
+use Rattle.end_model.proofs.Common.{Code, Command, Deed, Fails, IsRead, IsValid, NotAllowed, Refused, Setup, UnknownCommand, Valid, Verdict, WrongConnection, WrongContents, WrongCrc, WrongReset, allowed, fits_session, has_conn, parts, since, verdict}
 use Rattle.fsoe_base.specs.Codes.{wrong_crc}
 use Rattle.std.proofs.Common.{◌≡◌, ◌≢◌, ℕ, List, Bool, true, false, Some, None, refl, sym, ap, subst, ◌∙◌}
 use Rattle.fsoe_base.specs.declared.command.Command.TheVariants as command
@@ -23,7 +23,7 @@ pub record ComesToCrcs (s : Setup) (e : List Deed) (bytes : List ℕ) (c : Comma
   pub is_read : IsRead s e bytes (Some c)
   pub is_allowed : allowed s e c ≡ true
   pub has_conn_id : has_conn s e c (parts s bytes).conn ≡ true
-  pub does_not_fit : fits s (since e) (parts s bytes) ≡ false
+  pub does_not_fit : fits_session s (since e) (parts s bytes) ≡ false
 
 one_command : (s : Setup) (e : List Deed) (bytes : List ℕ) (c c' : Command) → IsRead s e bytes (Some c) → IsRead s e bytes (Some c') → c ≡ c'
 one_command s e bytes c c' one two = let same : Some c ≡ Some c' = sym one.command_is ∙ two.command_is in cc

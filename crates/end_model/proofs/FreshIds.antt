@@ -1,5 +1,5 @@
 -- What a fresh session id excludes for certain, at a slave and at a master.
-use Rattle.end_model.proofs.Common.{Command, Deed, DifferInFront, EndsByCrcs, Frame, IsRun, IsValid, Link, MasterSettings, NotByStep, OfMaster, OfSlave, Profile, Setup, SlaveSettings, Valid, allowed, command_of, crc_0, first_of, fits, frame_of, has_conn, id_front, id_len, kept, length-take, nat_tests, newest_crc, nonce, own, parts, piece_len, receives, sends, session_id, since, slave_allows, state_of, step_in_last, taken, taken_link, verdict, whole}
+use Rattle.end_model.proofs.Common.{Command, Deed, DifferInFront, EndsByCrcs, Frame, IsRun, IsValid, Link, MasterSettings, NotByStep, OfMaster, OfSlave, Profile, Setup, SlaveSettings, Valid, allowed, command_of, crc_0, first_of, fits_session, frame_of, has_conn, id_front, id_len, kept, length-take, nat_tests, newest_crc, nonce, own, parts, piece_len, receives, sends, session_id, since, slave_allows, state_of, step_in_last, taken, taken_link, verdict, whole}
 use Rattle.std.proofs.Common.{◌≡◌, ◌≢◌, ℕ, ◌<◌, ◌≤◌, nat_le, List, [], ◌∷◌, length, take, bit_xor, Bool, true, false, Option, Some, None, IsTrue, unwrap_or, sym, ap, ◌∙◌, arith, rules}
 use Rattle.fsoe_base.specs.declared.command.State.TheVariants as state
 use Rattle.fsoe_base.specs.declared.command.Command.TheVariants as command
@@ -29,7 +29,7 @@ some_load : (s : Setup) (e : List Deed) (bytes : List ℕ) (c : Command) (load :
 some_load s e bytes c load v = received_some (receives s) bytes (valid_received s) v.is_read.has_length
 
 -- what fits is decided by the CRC_0 of the newest own frame and by what is noted of the newest one taken
-fits_by : (s : Setup) (e : List Deed) (f : Frame) (last : ℕ) (before : Option Link) → newest_crc (sends s) (own (since e)) ≡ last → taken_link s (since e) ≡ before → fits s (since e) f ≡ sealing.fits last before f
+fits_by : (s : Setup) (e : List Deed) (f : Frame) (last : ℕ) (before : Option Link) → newest_crc (sends s) (own (since e)) ≡ last → taken_link s (since e) ≡ before → fits_session s (since e) f ≡ sealing.fits last before f
 fits_by s e f last before own_is taken_is = ap (λ n. sealing.fits n (taken_link s (since e)) f) own_is ∙ ap (λ b. sealing.fits last b f) taken_is
 
 -- a frame of a session that is refused by its CRCs ends the session in state Session

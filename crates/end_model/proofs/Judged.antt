@@ -1,5 +1,5 @@
 -- What each verdict says of the frame that it is on.
-use Rattle.end_model.proofs.Common.{Code, Command, Deed, Drop, Fails, IsRead, IsResetFrame, IsValid, NotAllowed, Refused, Setup, UnknownCommand, Valid, Verdict, Wrong, WrongConnection, WrongContents, WrongCrc, WrongReset, allowed, code, contents, fits, frame_len, has_conn, is_repeat, judged, judged_contents, judged_session, kept, parts, receives, session_fault, since, verdict}
+use Rattle.end_model.proofs.Common.{Code, Command, Deed, Drop, Fails, IsRead, IsResetFrame, IsValid, NotAllowed, Refused, Setup, UnknownCommand, Valid, Verdict, Wrong, WrongConnection, WrongContents, WrongCrc, WrongReset, allowed, code, contents, fits_session, frame_len, has_conn, is_repeat, judged, judged_contents, judged_session, kept, parts, receives, session_fault, since, verdict}
 use Rattle.seq_chain.specs.declared.opened.Opened.{Opened}
 use Rattle.std.proofs.Common.{◌≡◌, ◌≢◌, ℕ, List, length, Bool, true, false, Option, Some, None, Ok, refl, ap, sym, ◌∙◌, rules}
 use Rattle.std.specs.Cmp.Lexicographic.{same_text}
@@ -23,14 +23,14 @@ is-kept (Some last) bytes h = ap Some (same_text last bytes (sym h))
 
 -- a frame of a session, by its contents
 by-contents : (s : Setup) (e : List Deed) (bytes : List ℕ) (c : Command) (w : Option Code) → c ≢ command.Reset → IsRead s e bytes (Some c)
-    → allowed s e c ≡ true → has_conn s e c (parts s bytes).conn ≡ true → fits s (since e) (parts s bytes) ≡ true → contents s e c (parts s bytes) ≡ w
+    → allowed s e c ≡ true → has_conn s e c (parts s bytes).conn ≡ true → fits_session s (since e) (parts s bytes) ≡ true → contents s e c (parts s bytes) ≡ w
     → Judged s e bytes (judged_contents c (parts s bytes).load w)
 by-contents s e bytes c None n is h i j w = IsNext c (parts s bytes).load n (record { is_read = is; load_is = refl; is_allowed = h; has_conn_id = i; does_fit = j; is_sound = w })
 by-contents s e bytes c (Some found) n is h i j w = FailsContents found (WrongContents c found n is h i j w)
 
 -- the same, by the three tests of the session
 by-session : (s : Setup) (e : List Deed) (bytes : List ℕ) (c : Command) (a b k : Bool) → c ≢ command.Reset → IsRead s e bytes (Some c)
-    → allowed s e c ≡ a → has_conn s e c (parts s bytes).conn ≡ b → fits s (since e) (parts s bytes) ≡ k
+    → allowed s e c ≡ a → has_conn s e c (parts s bytes).conn ≡ b → fits_session s (since e) (parts s bytes) ≡ k
     → Judged s e bytes (judged_session s e (record { command = c; frame = parts s bytes }) (session_fault a b k))
 by-session s e bytes c true true true n is h i j = by-contents s e bytes c (contents s e c (parts s bytes)) n is h i j refl
 by-session s e bytes c true true false n is h i j = FailsTest (code 0x04) (WrongCrc c n is h i j)
@@ -48,7 +48,7 @@ by-opened s e bytes w (opens.UnknownCommand is) = FailsTest (code 0x02) (Unknown
 by-opened s e bytes w (opens.WrongReset found is h) = FailsTest found (WrongReset found (read s e bytes (Some command.Reset) is) h)
 by-opened s e bytes w (opens.IsReset said is h i) = ResetsFrame (parts s bytes).load (record { is_read = read s e bytes (Some command.Reset) is; load_is = refl; is_sound = h ∙ ap Ok i })
 by-opened s e bytes w (opens.IsOfSession c n is) =
-    by-session s e bytes c (allowed s e c) (has_conn s e c (parts s bytes).conn) (fits s (since e) (parts s bytes)) n (read s e bytes (Some c) is) refl refl refl
+    by-session s e bytes c (allowed s e c) (has_conn s e c (parts s bytes).conn) (fits_session s (since e) (parts s bytes)) n (read s e bytes (Some c) is) refl refl refl
 
 -- the verdict on a frame
 pub is_judged : (s : Setup) (e : List Deed) (bytes : List ℕ) → Judged s e bytes (verdict s e bytes)

@@ -1,5 +1,5 @@
 -- What an end sends in a session is sealed, with as many safe data bytes as it sends.
-use Rattle.end_model.proofs.Common.{Command, Deed, IsProper, IsRun, MasterSettings, Move, OfMaster, OfSlave, Setup, SlaveSettings, after_phase, after_pieces, conn_id, count_in, download_frame, is_guarded, is_reset, length-append, length-replicate, length-take, master_answer, offer, offer_after, own, padded, pay, phase_of, piece_len, seal, sealed, sends, session_id, since, slave_answer, with_data, with_piece}
+use Rattle.end_model.proofs.Common.{Command, Deed, IsProper, IsRun, MasterSettings, Move, OfMaster, OfSlave, Setup, SlaveSettings, after_phase, after_pieces, conn_id, count_in, download_frame, is_guarded_command, is_reset, length-append, length-replicate, length-take, master_answer, offer, offer_after, own, padded, pay, phase_of, piece_len, seal, sealed_next, sends, session_id, since, slave_answer, with_data, with_piece}
 use Rattle.std.proofs.Common.{◌≡◌, ℕ, ◌-◌, ◌*◌, ◌≤◌, List, [], ◌∷◌, length, min, take, drop, Bool, true, false, if◌then◌else◌, refl, arith, rules}
 use Rattle.fsoe_base.specs.declared.command.Command.TheVariants as command
 
@@ -11,8 +11,8 @@ pub record IsSealed (s : Setup) (e : List Deed) (f : List ℕ) : Type 0 where
   pub len : length load ≡ sends s
   pub is : f ≡ seal s (since e) conn command load
 
-seals : (s : Setup) (e : List Deed) (c : Command) (load : List ℕ) → length load ≡ sends s → IsSealed s e (sealed s e c load)
-seals s e c load h = record { conn = if is_guarded c then conn_id s e else 0; command = c; load = load; len = h; is = refl }
+seals : (s : Setup) (e : List Deed) (c : Command) (load : List ℕ) → length load ≡ sends s → IsSealed s e (sealed_next s e c load)
+seals s e c load h = record { conn = if is_guarded_command c then conn_id s e else 0; command = c; load = load; len = h; is = refl }
 
 sealed-if : (s : Setup) (e : List Deed) (b : Bool) (f g : List ℕ) → IsSealed s e f → IsSealed s e g → IsSealed s e (if b then f else g)
 sealed-if s e true f g h k = h

@@ -56,8 +56,8 @@ taken_link s (x ∷ e) =
     else taken_link s e
 
 -- whether all CRCs of a frame that came are those of the peer's next frame
-abbrev pub fits : Setup → List Deed → Frame → Bool
-fits s e f = sealing.fits (newest_crc (sends s) (own e)) (taken_link s e) f
+abbrev pub fits_session : Setup → List Deed → Frame → Bool
+fits_session s e f = sealing.fits (newest_crc (sends s) (own e)) (taken_link s e) f
 
 -- the next frame of the session; a frame that was taken in the same step is the newest of those taken
 abbrev pub seal : Setup → List Deed → ℕ → Command → List ℕ → List ℕ

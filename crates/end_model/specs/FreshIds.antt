@@ -1,6 +1,6 @@
 -- How session ids differ, as far as the chain of a session carries it on, and how an old frame is refused then.
 use Rattle.std.specs.Prelude.{◌≡◌, ◌≢◌, ℕ, ◌%◌, ◌==◌, bit_xor, List, false, if◌then◌else◌}
-use Rattle.fsoe_base.specs.declared.did.Cause.TheVariants as cause
+use Rattle.fsoe_base.specs.declared.did.Cause.TheVariants as reset_cause
 use Rattle.fsoe_base.specs.Codes.{wrong_crc}
 use Rattle.fsoe_base.specs.Did.{resets}
 use Rattle.seq_chain.specs.FreshIds.{step_in_load}
@@ -26,4 +26,4 @@ NotByStep s id id' = bit_xor (id_front s id) (id_front s id') ≢ step_in_load
 -- a frame passes all tests before that of its CRCs, and not this one, and so the session ends
 pub record EndsByCrcs (s : Setup) (e : List Deed) (bytes : List ℕ) : Type 0 where
   pub refused : verdict s e bytes ≡ Refused wrong_crc
-  pub ends : (step s e (move.Deliver bytes)).did ≡ resets false (cause.Found wrong_crc)
+  pub ends : (step s e (move.Deliver bytes)).did ≡ resets false (reset_cause.Found wrong_crc)

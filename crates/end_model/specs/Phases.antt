@@ -32,10 +32,10 @@ is_reset command.Reset = true
 is_reset _ = false
 
 -- whether frames of this command are guarded: they carry the connection id of their session
-abbrev pub is_guarded : Command → Bool
-is_guarded command.Reset = false
-is_guarded command.Session = false
-is_guarded _ = true
+abbrev pub is_guarded_command : Command → Bool
+is_guarded_command command.Reset = false
+is_guarded_command command.Session = false
+is_guarded_command _ = true
 
 -- whether these bytes are a frame with this command; no bytes are none
 abbrev pub has_command : Command → List ℕ → Bool
@@ -59,7 +59,7 @@ phase_of_frame bytes = phase_of_known (command_in bytes)
 -- whether there is a command, and one of guarded frames
 abbrev pub is_guarded_if : Option Command → Bool
 is_guarded_if None = false
-is_guarded_if (Some c) = is_guarded c
+is_guarded_if (Some c) = is_guarded_command c
 
 -- whether these bytes are a guarded frame
 abbrev pub is_guarded_frame : List ℕ → Bool

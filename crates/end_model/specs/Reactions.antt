@@ -28,7 +28,7 @@ use Rattle.fsoe_base.specs.declared.command.State.TheVariants as state
 use Rattle.fsoe_base.specs.declared.command.Command.{Command}
 use Rattle.fsoe_base.specs.declared.command.Command.TheVariants as command
 use Rattle.fsoe_base.specs.declared.command.Code.{Code}
-use Rattle.fsoe_base.specs.declared.did.Cause.TheVariants as cause
+use Rattle.fsoe_base.specs.declared.did.Cause.TheVariants as reset_cause
 use Rattle.fsoe_base.specs.declared.did.Dropped.TheVariants as why
 use Rattle.fsoe_base.specs.declared.did.Did.{Did}
 use Rattle.fsoe_base.specs.Codes.{command_not_allowed, unknown_command, wrong_connection, wrong_crc, watchdog_expired}
@@ -48,7 +48,7 @@ use Rattle.end_model.specs.Setup.{Setup, OfMaster, OfSlave, sends, receives, pie
 use Rattle.end_model.specs.Runs.{IsMaster, IsSlave, profile_of}
 use Rattle.end_model.specs.Phases.{phase_of, has_command}
 use Rattle.end_model.specs.Deed.{Deed, is_empty}
-use Rattle.end_model.specs.Chain.{since, own, taken, kept, fits}
+use Rattle.end_model.specs.Chain.{since, own, taken, kept, fits_session}
 use Rattle.end_model.specs.Payloads.{pay, pieces, count_in, session_id}
 use Rattle.end_model.specs.Readiness.{state_of, age, limit, allowed, upload_is_whole}
 use Rattle.end_model.specs.Verdict.{Verdict, Refused, Wrong, has_conn, contents, verdict}
@@ -99,7 +99,7 @@ pub record IsValid (s : Setup) (e : List Deed) (bytes : List ℕ) (c : Command) 
   pub load_is : (parts s bytes).load ≡ load
   pub is_allowed : allowed s e c ≡ true
   pub has_conn_id : has_conn s e c (parts s bytes).conn ≡ true
-  pub does_fit : fits s (since e) (parts s bytes) ≡ true
+  pub does_fit : fits_session s (since e) (parts s bytes) ≡ true
   pub is_sound : contents s e c (parts s bytes) ≡ None
 
 -- a frame fails a test with this code, the first test that it fails; and whether it passed that of its CRCs
@@ -114,11 +114,11 @@ pub data Fails (s : Setup) (e : List Deed) (bytes : List ℕ) : Bool → Code �
       → Fails s e bytes false wrong_connection
   WrongCrc : (c : Command) → c ≢ command.Reset → IsRead s e bytes (Some c) → allowed s e c ≡ true
       → has_conn s e c (parts s bytes).conn ≡ true
-      → fits s (since e) (parts s bytes) ≡ false
+      → fits_session s (since e) (parts s bytes) ≡ false
       → Fails s e bytes false wrong_crc
   WrongContents : (c : Command) (found : Code) → c ≢ command.Reset → IsRead s e bytes (Some c) → allowed s e c ≡ true
       → has_conn s e c (parts s bytes).conn ≡ true
-      → fits s (since e) (parts s bytes) ≡ true → contents s e c (parts s bytes) ≡ Some found
+      → fits_session s (since e) (parts s bytes) ≡ true → contents s e c (parts s bytes) ≡ Some found
       → Fails s e bytes true found
 
 -- the verdict on a frame that fails a test: on its contents where it passed that of its CRCs
@@ -224,12 +224,12 @@ pub data Reaction (s : Setup) (e : List Deed) : Move → Did → List ℕ → Ty
   Ages : CountsTicks s e → suc (age s e) < limit s e → Reaction s e move.Tick nothing []
   -- the age reaches the limit outside state Reset: the session ends
   Expires : state_of s e ≢ state.Reset → limit s e ≤ suc (age s e)
-      → Reaction s e move.Tick (resets false (cause.Found watchdog_expired)) (reset_frame watchdog_expired.0 (sends s))
+      → Reaction s e move.Tick (resets false (reset_cause.Found watchdog_expired)) (reset_frame watchdog_expired.0 (sends s))
   -- the age reaches the limit at a master in state Reset: it sends Reset again
   SendsAgain : IsMaster s → state_of s e ≡ state.Reset → limit s e ≤ suc (age s e)
       → Reaction s e move.Tick (record nothing { sent = true }) (reset_frame 0 (sends s))
   -- a reset of the end's own
-  ResetsItself : Reaction s e move.Local (resets false cause.Local) (reset_frame 0 (sends s))
+  ResetsItself : Reaction s e move.Local (resets false reset_cause.Local) (reset_frame 0 (sends s))
   -- a frame hasn't the length of the peer's frames
   DropsLength : (bytes : List ℕ) → length bytes ≢ frame_len (receives s) → Reaction s e (move.Deliver bytes) (dropped why.Length) []
   -- a frame is the one that is kept as taken last: outside state Reset alone, as nothing is kept there
@@ -245,10 +245,10 @@ pub data Reaction (s : Setup) (e : List Deed) : Move → Did → List ℕ → Ty
   -- a frame fails a test outside state Reset: the session ends
   Refuses : (bytes : List ℕ) (passed : Bool) (found : Code) → state_of s e ≢ state.Reset → verdict s e bytes ≡ failed_with passed found
       → Fails s e bytes passed found
-      → Reaction s e (move.Deliver bytes) (resets passed (cause.Found found)) (reset_frame found.0 (sends s))
+      → Reaction s e (move.Deliver bytes) (resets passed (reset_cause.Found found)) (reset_frame found.0 (sends s))
   -- the peer ends the session
   PeerResets : (bytes load : List ℕ) → state_of s e ≢ state.Reset → IsResetFrame s e bytes load
-      → Reaction s e (move.Deliver bytes) (resets false (cause.Peer (code (first_of load)))) (reset_frame 0 (sends s))
+      → Reaction s e (move.Deliver bytes) (resets false (reset_cause.Peer (code (first_of load)))) (reset_frame 0 (sends s))
   -- a frame is taken and answered
   Answers : (bytes load : List ℕ) (c : Command) (answer : List ℕ) → Taking e bytes load s c answer
       → Reaction s e (move.Deliver bytes) (takes_frame c load) answer

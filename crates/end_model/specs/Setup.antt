@@ -1,7 +1,7 @@
 -- What one end is set to, whichever end it is. The settings are this profile's own.
 use Rattle.std.specs.Prelude.{ℕ, min}
 use Rattle.fsoe_base.specs.declared.command.End.{End}
-use Rattle.fsoe_base.specs.declared.command.End.TheVariants as end_name
+use Rattle.fsoe_base.specs.declared.command.End.TheVariants as side
 use Rattle.fsoe_base.specs.declared.lengths.Lengths.{Lengths}
 use Rattle.param_load.specs.declared.master_settings.MasterSettings.{MasterSettings}
 use Rattle.param_load.specs.declared.slave_settings.SlaveSettings.{SlaveSettings}
@@ -13,8 +13,8 @@ pub data Setup : Type 0 where
 
 -- which end is set so
 abbrev pub end_of : Setup → End
-end_of (OfMaster ms) = end_name.Master
-end_of (OfSlave ss) = end_name.Slave
+end_of (OfMaster ms) = side.Master
+end_of (OfSlave ss) = side.Slave
 
 -- the lengths of the connection
 abbrev pub lengths_of : Setup → Lengths

@@ -6,7 +6,7 @@ use Rattle.fsoe_base.specs.declared.command.Command.{Command}
 use Rattle.fsoe_base.specs.declared.command.Command.TheVariants as command
 use Rattle.fsoe_base.specs.declared.command.Code.{Code}
 use Rattle.fsoe_base.specs.declared.did.Cause.{Cause}
-use Rattle.fsoe_base.specs.declared.did.Cause.TheVariants as cause
+use Rattle.fsoe_base.specs.declared.did.Cause.TheVariants as reset_cause
 use Rattle.fsoe_base.specs.declared.did.Dropped.TheVariants as why
 use Rattle.fsoe_base.specs.declared.did.Took.{Took}
 use Rattle.fsoe_base.specs.declared.did.Did.{Did}
@@ -22,7 +22,7 @@ use Rattle.fsoe_base.specs.Codes.{watchdog_expired}
 use Rattle.fsoe_base.specs.Command.{code}
 use Rattle.param_load.specs.Payload.{session_payload, padded}
 use Rattle.end_model.specs.Setup.{Setup, OfMaster, OfSlave, sends, piece_len}
-use Rattle.end_model.specs.Phases.{phase_of, is_reset, is_guarded}
+use Rattle.end_model.specs.Phases.{phase_of, is_reset, is_guarded_command}
 use Rattle.end_model.specs.Deed.{Deed}
 use Rattle.end_model.specs.Chain.{since, own, taken, seal}
 use Rattle.end_model.specs.Payloads.{pay, piece, pieces, count_in, session_id, conn_id}
@@ -36,7 +36,7 @@ takes_frame c load = did.takes c load (not (is_reset c))
 -- a test failed with this code: in state Reset the frame is dropped, else the session ends
 abbrev pub on_fault : State → Bool → Code → Did
 on_fault state.Reset passed found = record (dropped why.InReset) { passed = passed }
-on_fault _ passed found = resets passed (cause.Found found)
+on_fault _ passed found = resets passed (reset_cause.Found found)
 
 -- a master in state Reset takes the Reset frame with code 0 alone, which answers its own
 abbrev pub on_answered_reset : List ℕ → Did
@@ -46,7 +46,7 @@ on_answered_reset load = if first_of load == 0 then takes_frame command.Reset lo
 abbrev pub on_reset_frame : State → Setup → List ℕ → Did
 on_reset_frame state.Reset (OfMaster ms) load = on_answered_reset load
 on_reset_frame state.Reset (OfSlave ss) load = takes_frame command.Reset load
-on_reset_frame _ s load = resets false (cause.Peer (code (first_of load)))
+on_reset_frame _ s load = resets false (reset_cause.Peer (code (first_of load)))
 
 -- a frame that came, by the verdict on it
 abbrev pub on_verdict : State → Setup → Verdict → Did
@@ -61,7 +61,7 @@ on_verdict now s (Valid c load) = takes_frame c load
 abbrev pub on_expiry : State → Setup → Did
 on_expiry state.Reset (OfMaster ms) = record nothing { sent = true }
 on_expiry state.Reset (OfSlave ss) = nothing
-on_expiry _ s = resets false (cause.Found watchdog_expired)
+on_expiry _ s = resets false (reset_cause.Found watchdog_expired)
 
 -- a tick
 abbrev pub on_tick : Setup → List Deed → Did
@@ -71,22 +71,22 @@ on_tick s e = if reaches_limit s e then on_expiry (state_of s e) s else nothing
 abbrev pub did_on : Setup → List Deed → Move → Did
 did_on s e (move.Deliver bytes) = on_verdict (state_of s e) s (verdict s e bytes)
 did_on s e move.Tick = on_tick s e
-did_on s e move.Local = resets false cause.Local
+did_on s e move.Local = resets false reset_cause.Local
 did_on s e _ = nothing
 
 -- the next frame of the session, where e begins with the deed that sends it: a guarded frame carries the connection id
-abbrev pub sealed : Setup → List Deed → Command → List ℕ → List ℕ
-sealed s e c load = seal s (since e) (if is_guarded c then conn_id s e else 0) c load
+abbrev pub sealed_next : Setup → List Deed → Command → List ℕ → List ℕ
+sealed_next s e c load = seal s (since e) (if is_guarded_command c then conn_id s e else 0) c load
 
 -- a frame of a handshake: a piece with zeros after it
 abbrev pub with_piece : Setup → List Deed → Command → List ℕ → List ℕ
-with_piece s e c bytes = sealed s e c (padded bytes (sends s))
+with_piece s e c bytes = sealed_next s e c (padded bytes (sends s))
 
 -- a data frame: the offer, or zeros where the end is held
 abbrev pub with_data : Setup → List Deed → List ℕ
 with_data s e =
-    if held e then sealed s e command.FailSafeData (replicate (sends s) 0)
-    else sealed s e command.ProcessData (offer s e)
+    if held e then sealed_next s e command.FailSafeData (replicate (sends s) 0)
+    else sealed_next s e command.ProcessData (offer s e)
 
 -- the piece of a slave's session id that answers the last Session frame
 abbrev pub id_piece : SlaveSettings → List Deed → List ℕ
@@ -136,7 +136,7 @@ answer (OfSlave ss) e t = slave_answer ss e t.command t.load
 
 -- the code of a Reset frame: what the end found, else 0
 abbrev pub code_sent : Cause → ℕ
-code_sent (cause.Found found) = found.0
+code_sent (reset_cause.Found found) = found.0
 code_sent _ = 0
 
 -- the frame that is sent: Reset where the session ends, the answer to a frame that was taken, or a master's Reset again

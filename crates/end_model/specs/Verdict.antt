@@ -23,9 +23,9 @@ use Rattle.param_load.specs.AppRule.{rule_len}
 use Rattle.param_load.specs.Payload.{is_echo, is_padded}
 use Rattle.param_load.specs.UploadView.{upload_fault}
 use Rattle.end_model.specs.Setup.{Setup, OfMaster, OfSlave, receives, piece_len}
-use Rattle.end_model.specs.Phases.{is_guarded}
+use Rattle.end_model.specs.Phases.{is_guarded_command}
 use Rattle.end_model.specs.Deed.{Deed}
-use Rattle.end_model.specs.Chain.{since, own, kept, fits}
+use Rattle.end_model.specs.Chain.{since, own, kept, fits_session}
 use Rattle.end_model.specs.Payloads.{pay, piece, count_in, session_id, slave_conn, uploaded}
 use Rattle.end_model.specs.Readiness.{allowed}
 
@@ -57,7 +57,7 @@ is_conn (OfSlave ss) e field = is_slave_conn (slave_conn ss e) field
 
 -- whether a frame has the right connection id: a guarded one the session's, another one 0
 abbrev pub has_conn : Setup → List Deed → Command → ℕ → Bool
-has_conn s e c field = if is_guarded c then is_conn s e field else field == 0
+has_conn s e c field = if is_guarded_command c then is_conn s e field else field == 0
 
 -- the contents of a frame of an upload: the fields that it ends, in order, then the padding
 abbrev pub slave_upload_fault : SlaveSettings → List Deed → State → Expected → List ℕ → Option Code
@@ -101,7 +101,7 @@ judged_contents c load (Some found) = Wrong found
 
 -- the tests of a session, at the end that these deeds leave
 abbrev pub fault_after : Setup → List Deed → SessionFrameView → Option Code
-fault_after s e f = session_fault (allowed s e f.command) (has_conn s e f.command f.frame.conn) (fits s (since e) f.frame)
+fault_after s e f = session_fault (allowed s e f.command) (has_conn s e f.command f.frame.conn) (fits_session s (since e) f.frame)
 
 -- a frame of a session: refused by the first of the session's tests that fails, else judged by its contents
 abbrev pub judged_session : Setup → List Deed → SessionFrameView → Option Code → Verdict

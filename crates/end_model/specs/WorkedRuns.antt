@@ -9,7 +9,7 @@ use Rattle.fsoe_base.specs.declared.command.Command.TheVariants as command
 use Rattle.fsoe_base.specs.declared.lengths.Lengths.{Lengths}
 use Rattle.fsoe_base.specs.Command.{code}
 use Rattle.fsoe_frame.specs.Parts.{frame_of}
-use Rattle.param_load.specs.declared.app_rule.AppRule.TheVariants as rule
+use Rattle.param_load.specs.declared.app_rule.AppRule.TheVariants as app_rule
 use Rattle.param_load.specs.declared.entry.Entry.{Entry}
 use Rattle.param_load.specs.declared.entry.Move.{Move}
 use Rattle.param_load.specs.declared.entry.Move.TheVariants as move
@@ -54,7 +54,7 @@ slave_values = record {
   address = 2;
   hand = 200;
   most = 1000;
-  rule = rule.Any 0;
+  rule = app_rule.Any 0;
   nonce = 2;
   profile = profile.One;
   some_hand = ltb-true 0 200 refl;
@@ -243,7 +243,7 @@ WrongWatchdog =
 -- a slave that wants one application parameter
 unfoldable pub WrongParameters : Type 0
 WrongParameters =
-    drop 7 (report_lines (OfSlave (record slave_values { rule = rule.Any 1; acceptable = refl })) (take 8 to_slave))
+    drop 7 (report_lines (OfSlave (record slave_values { rule = app_rule.Any 1; acceptable = refl })) (take 8 to_slave))
     ≡ codes "reset found 0a Reset 0000 > 2a0a00b1130000"
     ∷ []
 

@@ -5,7 +5,7 @@ use Rattle.fsoe_base.specs.Command.{command_name, state_name}
 use Rattle.fsoe_base.specs.declared.command.Code.{Code}
 use Rattle.fsoe_base.specs.declared.command.State.{State}
 use Rattle.fsoe_base.specs.declared.did.Cause.{Cause}
-use Rattle.fsoe_base.specs.declared.did.Cause.TheVariants as cause
+use Rattle.fsoe_base.specs.declared.did.Cause.TheVariants as reset_cause
 use Rattle.fsoe_base.specs.declared.did.Did.{Did}
 use Rattle.fsoe_base.specs.declared.did.Dropped.{Dropped}
 use Rattle.fsoe_base.specs.declared.did.Dropped.TheVariants as dropped
@@ -17,9 +17,9 @@ code_text code = encode_lower (code.0 ∷ [])
 
 -- why an end went to state Reset, with the code that its peer sent or that it found
 abbrev pub cause_text : Cause → List ℕ
-cause_text cause.Local = codes "reset own"
-cause_text (cause.Peer code) = codes "reset peer " ++ code_text code
-cause_text (cause.Found code) = codes "reset found " ++ code_text code
+cause_text reset_cause.Local = codes "reset own"
+cause_text (reset_cause.Peer code) = codes "reset peer " ++ code_text code
+cause_text (reset_cause.Found code) = codes "reset found " ++ code_text code
 
 -- why a frame was dropped
 abbrev pub dropped_text : Dropped → List ℕ

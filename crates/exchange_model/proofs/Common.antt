@@ -6,18 +6,18 @@ pub use Rattle.end_model.proofs.SealedFrames.{offer_len, padded_len}
 pub use Rattle.end_model.proofs.Shown.{fail_safe, looking_back}
 pub use Rattle.end_model.proofs.SoundRuns.{answer_sent, handshake-data, next-data, reacted}
 pub use Rattle.end_model.proofs.Taken.{answer_is, data_after, exchange_of}
-pub use Rattle.end_model.specs.Chain.{fits, kept, newest_crc, own, own_link, seal, since, taken, taken_link}
+pub use Rattle.end_model.specs.Chain.{fits_session, kept, newest_crc, own, own_link, seal, since, taken, taken_link}
 pub use Rattle.end_model.specs.Deed.{Deed, delivered, is_empty, ticked}
 pub use Rattle.end_model.specs.Entries.{entry_of}
 pub use Rattle.end_model.specs.Neighbours.{IsOtherThanNewest, NeighboursDiffer}
 pub use Rattle.end_model.specs.Outputs.{held_up, out, out_after, outputs, zeros}
 pub use Rattle.end_model.specs.Payloads.{conn_id, count_in, first_conn, id_sent, joined, nonce, pay, piece, pieces, pieces_for, session_id, terms, terms_in, uploaded, whole}
-pub use Rattle.end_model.specs.Phases.{command_in, has_command, is_data_frame, is_data_if, is_guarded, is_reset, phase_of, phase_of_frame, phase_of_known, same_phase}
+pub use Rattle.end_model.specs.Phases.{command_in, has_command, is_data_frame, is_data_if, is_guarded_command, is_reset, phase_of, phase_of_frame, phase_of_known, same_phase}
 pub use Rattle.end_model.specs.Reactions.{AfterConnection, AfterSession, Answers, Expires, IsReaction, IsRead, IsResetFrame, IsValid, MasterFirstData, MasterGoesOn, MasterMoreData, MasterNextPhase, MasterStarts, OfConnection, OfParameter, OfSession, PeerResets, Reaction, Refuses, ResetsItself, SendsAgain, SlaveFirstData, SlaveGoesOn, SlaveMoreData, SlaveNextPhase, Taking, parts, received, with_answer}
 pub use Rattle.end_model.specs.Readiness.{held, master_allows, offer, phase_sent, phase_taken, reaches_limit, slave_allows, state_of, ticks, told_in, told_terms, upload_is_whole}
 pub use Rattle.end_model.specs.Runs.{IsNext, IsProper, IsRun, entries}
 pub use Rattle.end_model.specs.Setup.{OfMaster, OfSlave, Setup, piece_len, receives, sends}
-pub use Rattle.end_model.specs.Step.{after_phase, answer, begun, deed_of, download_frame, id_piece, on_verdict, run, sealed, slave_answer, step, takes_frame, with_data, with_piece}
+pub use Rattle.end_model.specs.Step.{after_phase, answer, begun, deed_of, download_frame, id_piece, on_verdict, run, sealed_next, slave_answer, step, takes_frame, with_data, with_piece}
 pub use Rattle.end_model.specs.Verdict.{Valid, Verdict, contents, has_conn, judged, verdict}
 pub use Rattle.exchange_model.specs.Ends.{of_end, peer, same_end}
 pub use Rattle.exchange_model.specs.Fair.{Fair, IsFromItem, IsTakenFrom, OutputsAreDue, TakesAwaited, data_taken, frame_if, frame_with, in_time, numbers_taken, offers_bit, outputs_after, outputs_at, outputs_by, outputs_due, received_len, with_number}

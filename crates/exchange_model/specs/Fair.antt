@@ -3,7 +3,7 @@
 use Rattle.std.specs.Prelude.{ℕ, ◌≡◌, nat_eq, nat_lt, List, [], ◌∷◌, replicate, Bool, false, ◌&&◌, Option, Some, None, is_some, IsSome, if◌then◌else◌}
 use Rattle.std.specs.List.{IsDistinct}
 use Rattle.fsoe_base.specs.declared.command.End.{End}
-use Rattle.fsoe_base.specs.declared.command.End.TheVariants as end_name
+use Rattle.fsoe_base.specs.declared.command.End.TheVariants as side
 use Rattle.fsoe_base.specs.declared.command.Command.{Command}
 use Rattle.fsoe_base.specs.declared.command.Command.TheVariants as command
 use Rattle.fsoe_base.specs.declared.did.Took.{Took}
@@ -106,8 +106,8 @@ OutputsAreDue lengths (x ∷ w) = (x.outputs ≡ outputs_due (received_len lengt
 -- a run is fair, where both ends have these lengths
 pub record Fair (lengths : Lengths) (w : List Entry) : Type 0 where
   pub from_awaited : TakesAwaited lengths w
-  pub master_once : IsDistinct nat_eq (numbers_taken end_name.Master w)
-  pub slave_once : IsDistinct nat_eq (numbers_taken end_name.Slave w)
+  pub master_once : IsDistinct nat_eq (numbers_taken side.Master w)
+  pub slave_once : IsDistinct nat_eq (numbers_taken side.Slave w)
   pub outputs : OutputsAreDue lengths w
 
 -- whether an offer has this bit as 1: an end that is held offers zeros, and so does one that put nothing yet

@@ -3,7 +3,7 @@
 use Rattle.std.specs.Prelude.{ℕ, ◌+◌, ◌≡◌, ◌≤◌, ◌==◌, IsTrue, List, [], ◌∷◌, length, Bool, true, false, ◌&&◌, ◌||◌, not, Option, Some, None, if◌then◌else◌}
 use Rattle.std.specs.List.{list_all}
 use Rattle.fsoe_base.specs.declared.command.End.{End}
-use Rattle.fsoe_base.specs.declared.command.End.TheVariants as end_name
+use Rattle.fsoe_base.specs.declared.command.End.TheVariants as side
 use Rattle.fsoe_base.specs.declared.command.State.{State}
 use Rattle.fsoe_base.specs.declared.command.State.TheVariants as state
 use Rattle.param_load.specs.declared.entry.Move.{Move}
@@ -58,7 +58,7 @@ in_turn next (_ ∷ events) = in_turn next events
 abbrev pub ticks_first : List Event → Bool
 ticks_first [] = false
 ticks_first (event.Deliver to back ∷ events) = false
-ticks_first (event.Tick end_name.Master ∷ events) = true
+ticks_first (event.Tick side.Master ∷ events) = true
 ticks_first (_ ∷ events) = ticks_first events
 
 -- whether an event is a tick
@@ -79,11 +79,11 @@ is_counted _ = true
 -- whether an end may have a tick now: the master's first tick reaches its limit, and no other tick of the master does,
 -- and none of a slave outside state Reset
 abbrev pub may_tick : MasterSettings → SlaveSettings → List Entry → End → Bool
-may_tick ms ss w end_name.Master =
-    let e : List Deed = deeds end_name.Master w in
+may_tick ms ss w side.Master =
+    let e : List Deed = deeds side.Master w in
     if had_tick e then not (reaches_limit (OfMaster ms) e) else reaches_limit (OfMaster ms) e
-may_tick ms ss w end_name.Slave =
-    let e : List Deed = deeds end_name.Slave w in
+may_tick ms ss w side.Slave =
+    let e : List Deed = deeds side.Slave w in
     not (is_counted (state_of (OfSlave ss) e) && reaches_limit (OfSlave ss) e)
 
 -- whether an event may happen now, as far as ticks go
@@ -106,6 +106,6 @@ keeps_time ms ss (event ∷ events) w = may_happen ms ss w event && if_on w (ent
 -- reaches its limit, and all else is puts, holds and nonces
 pub record IsHonest (ms : MasterSettings) (ss : SlaveSettings) (events : List Event) : Type 0 where
   pub plain : IsTrue (list_all is_plain events)
-  pub turns : IsTrue (in_turn end_name.Slave events)
+  pub turns : IsTrue (in_turn side.Slave events)
   pub begun : IsTrue (ticks_first events)
   pub time : IsTrue (keeps_time ms ss events [])

@@ -10,7 +10,7 @@ use Rattle.param_load.specs.declared.terms.Terms.{Terms}
 use Rattle.param_load.specs.declared.entry.Move.{Move}
 use Rattle.param_load.specs.declared.entry.Move.TheVariants as move
 use Rattle.param_load.specs.declared.entry.Entry.{Entry}
-use Rattle.end_model.specs.Phases.{is_guarded, is_data_frame, has_command}
+use Rattle.end_model.specs.Phases.{is_guarded_command, is_data_frame, has_command}
 use Rattle.end_model.specs.Deed.{delivered, is_empty}
 use Rattle.end_model.specs.Readiness.{held_after}
 use Rattle.exchange_model.specs.Ends.{same_end, peer, of_end}
@@ -107,7 +107,7 @@ number_if bytes (Some i) = if pointwise nat_eq i.bytes bytes then Some i.number 
 abbrev pub item_taken : List Item → End → List ℕ → Option Took → Option ℕ
 item_taken before which bytes None = None
 item_taken before which bytes (Some t) =
-    number_if bytes (if is_guarded t.command then awaited before which else newest (items_of (peer which) before))
+    number_if bytes (if is_guarded_command t.command then awaited before which else newest (items_of (peer which) before))
 
 -- the item of an entry that sent a frame, where w are the entries before it and `before` their items
 abbrev pub item_of : Entry → List Entry → List Item → Item

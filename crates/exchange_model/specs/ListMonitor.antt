@@ -2,7 +2,7 @@
 use Rattle.std.specs.Prelude.{ℕ, suc, ◌≡◌, ◌-◌, List, [], ◌∷◌, ◌++◌, length, reverse, Bool, ◌&&◌, not, Option, Some, None, option_map, if◌then◌else◌}
 use Rattle.std.specs.List.{find, slice_get}
 use Rattle.fsoe_base.specs.declared.command.End.{End}
-use Rattle.fsoe_base.specs.declared.command.End.TheVariants as end_name
+use Rattle.fsoe_base.specs.declared.command.End.TheVariants as side
 use Rattle.fsoe_base.specs.declared.command.Command.TheVariants as command
 use Rattle.param_load.specs.declared.entry.Entry.{Entry}
 use Rattle.end_model.specs.Phases.{has_command}
@@ -32,7 +32,7 @@ pub record ListView : Type 0 where
 
 -- a monitor that noted these entries
 abbrev pub list_of : List Entry → ListView
-list_of w = record { noted = length w; other = first_other w; master = listed (items_of end_name.Master (items w)); slave = listed (items_of end_name.Slave (items w)) }
+list_of w = record { noted = length w; other = first_other w; master = listed (items_of side.Master (items w)); slave = listed (items_of side.Slave (items w)) }
 
 -- a monitor that had noted some entries has noted this one too
 pub record ListsEntry (old : ListView) (x : Entry) (new : ListView) : Type 0 where
@@ -61,8 +61,8 @@ side_in mine theirs = record { newest = last_sent mine; awaited = answer_in thei
 
 -- what is kept of an end, looked up in the lists
 abbrev pub looked_up : End → ListView → Side
-looked_up end_name.Master v = side_in v.master v.slave
-looked_up end_name.Slave v = side_in v.slave v.master
+looked_up side.Master v = side_in v.master v.slave
+looked_up side.Slave v = side_in v.slave v.master
 
 -- the items of an end after an entry of its own
 abbrev pub list_after : Side → Side → Entry → List Listed → List Listed
@@ -72,8 +72,8 @@ list_after own other_side x found =
 
 -- the lists after an entry of this end
 abbrev pub lists_after : End → ListView → Entry → ListView
-lists_after end_name.Master v x = record v { master = list_after (looked_up end_name.Master v) (looked_up end_name.Slave v) x v.master }
-lists_after end_name.Slave v x = record v { slave = list_after (looked_up end_name.Slave v) (looked_up end_name.Master v) x v.slave }
+lists_after side.Master v x = record v { master = list_after (looked_up side.Master v) (looked_up side.Slave v) x v.master }
+lists_after side.Slave v x = record v { slave = list_after (looked_up side.Slave v) (looked_up side.Master v) x v.slave }
 
 -- a monitor after an entry
 abbrev pub listed_next : ListView → Entry → ListView

@@ -2,12 +2,12 @@
 use Rattle.std.specs.Prelude.{ℕ, suc, ◌≡◌, nat_eq, List, ◌∷◌, length, Bool, false, ◌&&◌, not, Option, Some, None, is_some, if◌then◌else◌}
 use Rattle.std.specs.Cmp.Lexicographic.{pointwise}
 use Rattle.fsoe_base.specs.declared.command.End.{End}
-use Rattle.fsoe_base.specs.declared.command.End.TheVariants as end_name
+use Rattle.fsoe_base.specs.declared.command.End.TheVariants as side
 use Rattle.fsoe_base.specs.declared.command.Command.TheVariants as command
 use Rattle.fsoe_base.specs.declared.did.Did.{Did}
 use Rattle.fsoe_base.specs.declared.did.Took.{Took}
 use Rattle.param_load.specs.declared.entry.Entry.{Entry}
-use Rattle.end_model.specs.Phases.{is_guarded, is_guarded_frame, has_command}
+use Rattle.end_model.specs.Phases.{is_guarded_command, is_guarded_frame, has_command}
 use Rattle.end_model.specs.Deed.{delivered, is_empty}
 use Rattle.exchange_model.specs.declared.side.Sent.{Sent}
 use Rattle.exchange_model.specs.Ends.{same_end}
@@ -42,7 +42,7 @@ pub record MonitorView : Type 0 where
 
 -- a monitor that noted these entries
 abbrev pub view_of : List Entry → MonitorView
-view_of w = record { noted = length w; other = first_other w; master = kept_of end_name.Master (items w); slave = kept_of end_name.Slave (items w) }
+view_of w = record { noted = length w; other = first_other w; master = kept_of side.Master (items w); slave = kept_of side.Slave (items w) }
 
 -- a monitor that had noted some entries has noted this one too
 pub record NotesEntry (old : MonitorView) (x : Entry) (new : MonitorView) : Type 0 where
@@ -88,7 +88,7 @@ is_other_to own passed came = passed && is_guarded_frame came && not (is_some (n
 -- the number of the peer's item that an end took from these bytes
 abbrev pub number_taken : Side → Side → List ℕ → Option Took → Option ℕ
 number_taken own peer bytes None = None
-number_taken own peer bytes (Some t) = number_of bytes (if is_guarded t.command then own.awaited else peer.newest)
+number_taken own peer bytes (Some t) = number_of bytes (if is_guarded_command t.command then own.awaited else peer.newest)
 
 -- the next item of an end, after this one
 abbrev pub next_sent : Option Sent → List ℕ → Sent
@@ -115,8 +115,8 @@ peer_after own peer came took sent = if is_empty sent then peer else heard_next 
 
 -- what is kept of an end
 abbrev pub side_of : End → MonitorView → Side
-side_of end_name.Master v = v.master
-side_of end_name.Slave v = v.slave
+side_of side.Master v = v.master
+side_of side.Slave v = v.slave
 
 -- the same after an entry of either end
 abbrev pub side_after : End → End → MonitorView → List ℕ → Option Took → List ℕ → Side
@@ -128,6 +128,6 @@ abbrev pub noted_next : MonitorView → End → List ℕ → Did → List ℕ �
 noted_next v at came did sent = record {
   noted = suc v.noted;
   other = first_of_both v.other (is_other_to (side_of at v) did.passed came) (suc v.noted);
-  master = side_after end_name.Master at v came did.took sent;
-  slave = side_after end_name.Slave at v came did.took sent;
+  master = side_after side.Master at v came did.took sent;
+  slave = side_after side.Slave at v came did.took sent;
 }

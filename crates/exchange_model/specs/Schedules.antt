@@ -3,7 +3,7 @@ use Rattle.std.specs.Prelude.{ℕ, nat_eq, List, [], ◌∷◌, ◌++◌, codes,
 use Rattle.std.specs.Cmp.Lexicographic.{pointwise}
 use Rattle.std.specs.List.{flat_map}
 use Rattle.hex.specs.Hex.{decode_of}
-use Rattle.fsoe_base.specs.declared.command.End.TheVariants as end_name
+use Rattle.fsoe_base.specs.declared.command.End.TheVariants as side
 use Rattle.fsoe_base.specs.declared.command.End.{End}
 use Rattle.param_load.specs.declared.entry.Entry.{Entry}
 use Rattle.param_load.specs.declared.master_settings.MasterSettings.{MasterSettings}
@@ -24,47 +24,47 @@ use Rattle.exchange_model.specs.World.{deeds, next_entry, setup_of}
 
 -- the frame so many back of those of the slave comes to the master
 abbrev pub dm : ℕ → Event
-dm back = event.Deliver end_name.Master back
+dm back = event.Deliver side.Master back
 
 -- the frame so many back of those of the master comes to the slave
 abbrev pub ds : ℕ → Event
-ds back = event.Deliver end_name.Slave back
+ds back = event.Deliver side.Slave back
 
 -- the same with one byte altered by a mask
 abbrev pub altered_ds : ℕ → ℕ → ℕ → Event
-altered_ds back pos mask = event.Altered end_name.Slave back pos mask
+altered_ds back pos mask = event.Altered side.Slave back pos mask
 
 -- these bytes come to the slave, in hexadecimal
 abbrev pub rs : List ℕ → Event
-rs text = event.Raw end_name.Slave (if_bytes (decode_of text))
+rs text = event.Raw side.Slave (if_bytes (decode_of text))
 
 -- a tick of the master
 abbrev pub tm : Event
-tm = event.Tick end_name.Master
+tm = event.Tick side.Master
 
 -- a tick of the slave
 abbrev pub ts : Event
-ts = event.Tick end_name.Slave
+ts = event.Tick side.Slave
 
 -- a load is put at the master, in hexadecimal
 abbrev pub pm : List ℕ → Event
-pm text = event.Put end_name.Master (if_bytes (decode_of text))
+pm text = event.Put side.Master (if_bytes (decode_of text))
 
 -- a load is put at the slave, in hexadecimal
 abbrev pub ps : List ℕ → Event
-ps text = event.Put end_name.Slave (if_bytes (decode_of text))
+ps text = event.Put side.Slave (if_bytes (decode_of text))
 
 -- the slave is held, or held no more
 abbrev pub hs : Bool → Event
-hs failsafe = event.Hold end_name.Slave failsafe
+hs failsafe = event.Hold side.Slave failsafe
 
 -- the slave's nonce is set
 abbrev pub ns : ℕ → Event
-ns id = event.Nonce end_name.Slave id
+ns id = event.Nonce side.Slave id
 
 -- a reset of the slave's own
 abbrev pub zs : Event
-zs = event.Local end_name.Slave
+zs = event.Local side.Slave
 
 -- so many times the master's last frame comes to the slave, and then the slave's last to the master
 abbrev pub rounds : ℕ → List Event

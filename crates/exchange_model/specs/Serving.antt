@@ -2,7 +2,7 @@
 -- numbers of deliveries are this profile's own.
 use Rattle.std.specs.Prelude.{ℕ, suc, ◌≡◌, nat_le, nat_lt, IsTrue, IsSome, All, List, [], ◌∷◌, length, Bool, true, false, ◌&&◌, None, is_some, if◌then◌else◌}
 use Rattle.fsoe_base.specs.declared.command.End.{End}
-use Rattle.fsoe_base.specs.declared.command.End.TheVariants as end_name
+use Rattle.fsoe_base.specs.declared.command.End.TheVariants as side
 use Rattle.fsoe_base.specs.declared.command.State.{State}
 use Rattle.fsoe_base.specs.declared.command.State.TheVariants as state
 use Rattle.param_load.specs.declared.entry.Move.{Move}
@@ -38,8 +38,8 @@ in_data which w = same_phase state.Data (state_told which w)
 -- the master is in Data exactly where at least n deliveries came to it, and the slave exactly where more than n came to
 -- it
 pub record InDataAfter (n : ℕ) (w : List Entry) : Type 0 where
-  pub master : in_data end_name.Master w ≡ nat_le n (deliveries_to end_name.Master w)
-  pub slave : in_data end_name.Slave w ≡ nat_lt n (deliveries_to end_name.Slave w)
+  pub master : in_data side.Master w ≡ nat_le n (deliveries_to side.Master w)
+  pub slave : in_data side.Slave w ≡ nat_lt n (deliveries_to side.Slave w)
 
 -- that holds before the first entry and after each
 abbrev pub InDataThroughout : ℕ → List Entry → Type 0

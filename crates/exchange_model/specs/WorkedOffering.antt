@@ -2,7 +2,7 @@
 -- the peer's last frame.
 use Rattle.std.specs.Prelude.{ℕ, ◌≡◌, List, [], ◌∷◌, ◌++◌, take, replicate}
 use Rattle.fsoe_base.specs.declared.command.End.{End}
-use Rattle.fsoe_base.specs.declared.command.End.TheVariants as end_name
+use Rattle.fsoe_base.specs.declared.command.End.TheVariants as side
 use Rattle.param_load.specs.declared.entry.Entry.{Entry}
 use Rattle.schedule_file.specs.declared.event.Event.{Event}
 use Rattle.schedule_file.specs.declared.event.Event.TheVariants as event
@@ -34,5 +34,5 @@ pub record ShowsLongest (which : End) (load : List ℕ) (events : List Event) : 
 
 -- each end does so: it takes its peer's last frame four ticks after it was sent
 pub record BothShowLongest : Type 0 where
-  pub slave : ShowsLongest end_name.Slave (1 ∷ 0 ∷ []) (until_data ++ replicate 4 ts ++ ds 1 ∷ replicate 4 ts)
-  pub master : ShowsLongest end_name.Master (128 ∷ 0 ∷ []) (until_data ++ ds 1 ∷ replicate 4 tm ++ dm 1 ∷ replicate 4 tm)
+  pub slave : ShowsLongest side.Slave (1 ∷ 0 ∷ []) (until_data ++ replicate 4 ts ++ ds 1 ∷ replicate 4 ts)
+  pub master : ShowsLongest side.Master (128 ∷ 0 ∷ []) (until_data ++ ds 1 ∷ replicate 4 tm ++ dm 1 ∷ replicate 4 tm)

@@ -2,9 +2,9 @@
 -- other entry, and whether the run is fair.
 use Rattle.std.specs.Prelude.{◌≡◌, ℕ, ◌-◌, refl, List, [], ◌∷◌, ◌++◌, codes, length, take, drop, replicate, true, Option, Some, None}
 use Rattle.std.proofs.lemmas.Bool.{ltb-true}
-use Rattle.fsoe_base.specs.declared.command.End.TheVariants as end_name
+use Rattle.fsoe_base.specs.declared.command.End.TheVariants as side
 use Rattle.fsoe_base.specs.declared.lengths.Lengths.{Lengths}
-use Rattle.param_load.specs.declared.app_rule.AppRule.TheVariants as rule
+use Rattle.param_load.specs.declared.app_rule.AppRule.TheVariants as app_rule
 use Rattle.param_load.specs.declared.profile.Profile.TheVariants as profile
 use Rattle.param_load.specs.declared.entry.Entry.{Entry}
 use Rattle.param_load.specs.declared.master_settings.MasterSettings.{MasterSettings}
@@ -64,7 +64,7 @@ bytewise_master = record master_values { lengths = one_and_one; app = 0x0A ∷ 0
 
 -- a slave that wants three, over frames of one byte
 abbrev pub bytewise_slave : SlaveSettings
-bytewise_slave = record slave_values { lengths = one_and_one; rule = rule.Any 3; acceptable = refl }
+bytewise_slave = record slave_values { lengths = one_and_one; rule = app_rule.Any 3; acceptable = refl }
 
 -- the longest frames of a master, and short ones of the slave
 abbrev pub long_and_short : Lengths
@@ -135,10 +135,10 @@ pub record Refusals : Type 0 where
   -- it accepts only shorter watchdogs
   pub long_watchdog : nth_line 12 master_values (record slave_values { most = 50; some_most = ltb-true 0 50 refl }) ≡ codes "s reset found 09 Reset 0000 > 2a090083850000" ∷ []
   -- it wants one application parameter, and the master has none
-  pub no_parameters : nth_line 14 master_values (record slave_values { rule = rule.Any 1; acceptable = refl }) ≡ codes "s reset found 0a Reset 0000 > 2a0a00b1130000" ∷ []
+  pub no_parameters : nth_line 14 master_values (record slave_values { rule = app_rule.Any 1; acceptable = refl }) ≡ codes "s reset found 0a Reset 0000 > 2a0a00b1130000" ∷ []
   -- an application parameter is above the highest that it accepts
   pub high_parameter :
-      nth_line 16 (record master_values { app = 0x30 ∷ [] }) (record slave_values { rule = rule.Ranges (0x10 ∷ []) (0x20 ∷ []); acceptable = refl })
+      nth_line 16 (record master_values { app = 0x30 ∷ [] }) (record slave_values { rule = app_rule.Ranges (0x10 ∷ []) (0x20 ∷ []); acceptable = refl })
       ≡ codes "s reset found 0b Reset 0000 > 2a0b0032890000" ∷ []
   -- a forged watchdog 0 whose CRC fits is refused, and the entry is other
   pub forged_watchdog :
@@ -213,7 +213,7 @@ old_frames_run events =
 pub record DataRuns : Type 0 where
   -- the frame that the slave took last is a repeat, although a newer one was sent; it doesn't restart the age
   pub repeated : drop 19 (pair_lines (after_data (ds 2 ∷ []))) ≡ codes "s drop Repeat Data 0100" ∷ []
-  pub age_goes_on : age (OfSlave slave_values) (deeds end_name.Slave (after_data (ts ∷ ds 2 ∷ []))) ≡ 1
+  pub age_goes_on : age (OfSlave slave_values) (deeds side.Slave (after_data (ts ∷ ds 2 ∷ []))) ≡ 1
   -- one altered group ends the session, and no entry is other
   pub whole_groups : begin_with (codes "s took ProcessData Data 0102030405060708 > 36" ∷ []) (take 1 (drop 10 (pair_lines altered_group_run))) ≡ true
   pub altered_group : Tells 12 altered_group_run None (codes "s reset found 04 Reset 0000000000000000 > 2a0400a6340000b91400009c0200007f0f0000" ∷ [])

@@ -3,8 +3,8 @@
 use Rattle.std.specs.Prelude.{ℕ, ◌≡◌, refl, List, [], ◌∷◌, ◌++◌, codes, take, replicate, true, false}
 use Rattle.std.specs.List.{list_all}
 use Rattle.std.proofs.lemmas.Bool.{ltb-true}
-use Rattle.fsoe_base.specs.declared.command.End.TheVariants as end_name
-use Rattle.param_load.specs.declared.app_rule.AppRule.TheVariants as rule
+use Rattle.fsoe_base.specs.declared.command.End.TheVariants as side
+use Rattle.param_load.specs.declared.app_rule.AppRule.TheVariants as app_rule
 use Rattle.param_load.specs.declared.entry.Entry.{Entry}
 use Rattle.param_load.specs.declared.slave_settings.SlaveSettings.{SlaveSettings}
 use Rattle.end_model.specs.WorkedRuns.{slave_values, two_and_two}
@@ -44,12 +44,12 @@ pub record HonestRuns : Type 0 where
   -- after seven exchanges, which are the first 17 events, the master is in Data, and the slave is with the next
   -- delivery
   pub reaches_data :
-      (deliveries_to end_name.Master (first_of_all 17) ≡ 7)
-      × (deliveries_to end_name.Slave (first_of_all 17) ≡ 7)
-      × (in_data end_name.Master (first_of_all 16) ≡ false)
-      × (in_data end_name.Master (first_of_all 17) ≡ true)
-      × (in_data end_name.Slave (first_of_all 17) ≡ false)
-      × (in_data end_name.Slave (first_of_all 18) ≡ true)
+      (deliveries_to side.Master (first_of_all 17) ≡ 7)
+      × (deliveries_to side.Slave (first_of_all 17) ≡ 7)
+      × (in_data side.Master (first_of_all 16) ≡ false)
+      × (in_data side.Master (first_of_all 17) ≡ true)
+      × (in_data side.Slave (first_of_all 17) ≡ false)
+      × (in_data side.Slave (first_of_all 18) ≡ true)
 
 -- settings and schedules that aren't
 pub record DishonestRuns : Type 0 where
@@ -62,7 +62,7 @@ pub record DishonestRuns : Type 0 where
       × (Match master_of_two slave_values → ⊥)
       × (Match (record master_values { watchdog = 1001; some_watchdog = ltb-true 0 1001 refl }) slave_values → ⊥)
       × (Match (record master_values { app = 0x30 ∷ [] }) slave_values → ⊥)
-      × (Match (record master_values { app = 0x30 ∷ [] }) (record slave_values { rule = rule.Ranges (0x10 ∷ []) (0x20 ∷ []); acceptable = refl }) → ⊥)
+      × (Match (record master_values { app = 0x30 ∷ [] }) (record slave_values { rule = app_rule.Ranges (0x10 ∷ []) (0x20 ∷ []); acceptable = refl }) → ⊥)
   -- an older frame, an altered one, an invented one and a reset have no place in an honest schedule
   pub not_plain :
       (list_all is_plain (until_data ++ ds 2 ∷ []) ≡ false)
@@ -71,8 +71,8 @@ pub record DishonestRuns : Type 0 where
       × (list_all is_plain (until_data ++ zs ∷ []) ≡ false)
   -- nor has a delivery to the master first, or two to one end
   pub out_of_turn :
-      (in_turn end_name.Slave (tm ∷ dm 1 ∷ []) ≡ false)
-      × (in_turn end_name.Slave (until_data ++ ds 1 ∷ ds 1 ∷ []) ≡ false)
+      (in_turn side.Slave (tm ∷ dm 1 ∷ []) ≡ false)
+      × (in_turn side.Slave (until_data ++ ds 1 ∷ ds 1 ∷ []) ≡ false)
   -- the master ticks, and before all deliveries
   pub ticked_late :
       (ticks_first [] ≡ false)

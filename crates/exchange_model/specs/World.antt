@@ -3,7 +3,7 @@
 -- own.
 use Rattle.std.specs.Prelude.{ℕ, ◌≡◌, List, [], ◌∷◌, Option, Some, None, if◌then◌else◌}
 use Rattle.fsoe_base.specs.declared.command.End.{End}
-use Rattle.fsoe_base.specs.declared.command.End.TheVariants as end_name
+use Rattle.fsoe_base.specs.declared.command.End.TheVariants as side
 use Rattle.param_load.specs.declared.entry.Move.{Move}
 use Rattle.param_load.specs.declared.entry.Move.TheVariants as move
 use Rattle.param_load.specs.declared.entry.Entry.{Entry}
@@ -21,8 +21,8 @@ use Rattle.exchange_model.specs.Ends.{same_end, peer}
 
 -- what an end is set to
 abbrev pub setup_of : MasterSettings → SlaveSettings → End → Setup
-setup_of ms ss end_name.Master = OfMaster ms
-setup_of ms ss end_name.Slave = OfSlave ss
+setup_of ms ss side.Master = OfMaster ms
+setup_of ms ss side.Slave = OfSlave ss
 
 -- the deed that an entry tells
 abbrev pub deed_in : Entry → Deed

@@ -1,7 +1,7 @@
 //! What a monitor reads of an entry.
 ghost use Rattle.std.specs.Prelude.{◌≡◌};
 ghost use Rattle.fsoe_base.specs.declared.command.Command.TheVariants as command;
-ghost use Rattle.end_model.specs.Phases.{is_guarded, is_guarded_frame, has_command};
+ghost use Rattle.end_model.specs.Phases.{is_guarded_command, is_guarded_frame, has_command};
 ghost use Rattle.end_model.specs.Deed.{delivered};
 
 use fsoe_base::Command;
@@ -19,7 +19,7 @@ pub fn delivered(what: &Move) -> &[u8]
 
 /// Whether frames of this command are guarded.
 pub(crate) fn is_guarded(command: Command) -> bool
-    ensures { result ≡ is_guarded command }
+    ensures { result ≡ is_guarded_command command }
 {
     match command {
         Command::Reset | Command::Session => false,

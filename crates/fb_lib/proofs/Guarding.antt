@@ -7,7 +7,7 @@ use Rattle.fb_lib.specs.Cycle.{Cycle}
 use Rattle.fb_lib.specs.Value.{value}
 use Rattle.fb_lib.specs.Guarded.{is_guarded}
 use Rattle.fb_lib.specs.Standing.{AreOff, IsOffIfGuarded, kind_of}
-use Rattle.fb_lib.specs.Steps.{next_held, told}
+use Rattle.fb_lib.specs.Steps.{next_held, block_gives}
 
 -- an input that is guarded is false
 pub off_at : (k : ℕ) (gs bs : List Bool) → AreOff gs bs → get_or gs k false ≡ true → get_or bs k false ≡ false
@@ -34,13 +34,13 @@ pub value_off : (k : BlockKind) (n : ℕ) (gs : List Bool) (c : Cycle) (e : List
 value_off k n gs c e h l = search (rules, some-off, all-off, off_at)
 
 -- and so is what a block gives, whatever it holds
-step-off : (n : ℕ) (h : Held) (gs : List Bool) (c : Cycle) → AreOff gs c.ins → is_guarded (kind_of h) gs ≡ true → told n (next_held n h c) c ≡ false
+step-off : (n : ℕ) (h : Held) (gs : List Bool) (c : Cycle) → AreOff gs c.ins → is_guarded (kind_of h) gs ≡ true → block_gives n (next_held n h c) c ≡ false
 step-off n h gs c k l = search (rules, some-off, all-off, off_at)
 
 pub told_off : (n : ℕ) (old new : Held) (ticked : Bool) (ins : List Bool) (given : Bool)
-    → (let c : Cycle = record { ticked = ticked; ins = ins } in new ≡ next_held n old c) → (let c : Cycle = record { ticked = ticked; ins = ins } in given ≡ told n new c) → IsOffIfGuarded (kind_of old) ins given
+    → (let c : Cycle = record { ticked = ticked; ins = ins } in new ≡ next_held n old c) → (let c : Cycle = record { ticked = ticked; ins = ins } in given ≡ block_gives n new c) → IsOffIfGuarded (kind_of old) ins given
 told_off n old new ticked ins given is h = record {
   off = λ gs off g.
       let c : Cycle = record { ticked = ticked; ins = ins } in
-      h ∙ ap (λ (v : Held). told n v c) is ∙ step-off n old gs c off g;
+      h ∙ ap (λ (v : Held). block_gives n v c) is ∙ step-off n old gs c off g;
 }

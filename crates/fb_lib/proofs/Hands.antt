@@ -4,7 +4,7 @@ use Rattle.std.specs.Bool.{beq}
 use Rattle.fb_lib.specs.declared.two_hand.TwoHand.{TwoHand}
 use Rattle.fb_lib.specs.declared.two_hand.TwoHand.TheVariants as hands
 use Rattle.fb_lib.specs.Cycle.{Cycle, first, second}
-use Rattle.fb_lib.specs.Value.{ticks}
+use Rattle.fb_lib.specs.Value.{ticked_cycles}
 use Rattle.fb_lib.specs.Steps.{risen, next_hands}
 use Rattle.fb_lib.specs.Kept.{hands_of}
 use Rattle.std.proofs.lemmas.Grind.{common_steps}
@@ -23,7 +23,7 @@ next-by : (n gap : ℕ) (t a b now_both ready before : Bool) → (now_both ≡ t
     → next_hands n (hands_by (now_both && before) ready gap) t a b ≡ after before ready t gap a b
 next-by n gap t a b now_both ready before h k = grind arith
 
-gap-next : (q : Bool) (c : Cycle) (e : List Cycle) → ticks (if q then c ∷ e else []) ≡ (if q then risen (ticks e) c.ticked else 0)
+gap-next : (q : Bool) (c : Cycle) (e : List Cycle) → ticked_cycles (if q then c ∷ e else []) ≡ (if q then risen (ticked_cycles e) c.ticked else 0)
 gap-next q c e = grind (arith, common_steps)
 
 -- the buttons that looking back finds after one more cycle

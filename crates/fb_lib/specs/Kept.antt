@@ -8,16 +8,16 @@ use Rattle.fb_lib.specs.declared.kind.BlockKind.TheVariants as kind
 use Rattle.fb_lib.specs.declared.two_hand.TwoHand.{TwoHand}
 use Rattle.fb_lib.specs.declared.two_hand.TwoHand.TheVariants as hands
 use Rattle.fb_lib.specs.Cycle.{Cycle, first, second}
-use Rattle.fb_lib.specs.LookBack.{is_now, run, before_run, since}
+use Rattle.fb_lib.specs.LookBack.{is_now, run_until_now, before_run, has_since}
 use Rattle.fb_lib.specs.Steps.{BlockView}
-use Rattle.fb_lib.specs.Value.{ticks, latch, estop, exactly_one, neither, two_hand, since_input, disagrees, is_late, is_released, watched, feedback}
+use Rattle.fb_lib.specs.Value.{ticked_cycles, latch, estop, exactly_one, neither, two_hand, since_input, disagrees, is_late, is_released, watched, feedback}
 
 -- the two buttons after these cycles
 abbrev pub hands_of : ℕ → List Cycle → TwoHand
 hands_of n e =
     if two_hand n e
     then hands.On
-    else (if is_now neither (before_run exactly_one e) then hands.Ready (ticks (run exactly_one e)) else hands.Spent)
+    else (if is_now neither (before_run exactly_one e) then hands.Ready (ticked_cycles (run_until_now exactly_one e)) else hands.Spent)
 
 -- what a block keeps after these cycles
 abbrev pub held_of : BlockKind → ℕ → List Cycle → Held
@@ -28,13 +28,13 @@ held_of kind.Or n e = held.Or
 held_of kind.Latch n e = held.Latch (record { on = latch e })
 held_of kind.Estop n e = held.Estop (record { on = estop e; ack = is_now second e })
 held_of kind.TwoHand n e = held.TwoHand (hands_of n e)
-held_of kind.OnDelay n e = held.OnDelay (record { age = min n (ticks (run first e)) })
-held_of kind.OffDelay n e = held.OffDelay (record { left = if list_any first e then n - ticks (since_input e) else 0 })
+held_of kind.OnDelay n e = held.OnDelay (record { age = min n (ticked_cycles (run_until_now first e)) })
+held_of kind.OffDelay n e = held.OffDelay (record { left = if list_any first e then n - ticked_cycles (since_input e) else 0 })
 held_of kind.Feedback n e =
     held.Feedback (record {
       on = feedback n e;
-      age = ticks (map (λ w. w.cycle) (run disagrees (watched n e)));
-      bad = since (is_late n) (λ w. not (is_released w)) (watched n e);
+      age = ticked_cycles (map (λ w. w.cycle) (run_until_now disagrees (watched n e)));
+      bad = has_since (is_late n) (λ w. not (is_released w)) (watched n e);
     })
 
 -- a block of this kind and number after these cycles

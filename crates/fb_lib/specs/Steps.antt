@@ -78,17 +78,17 @@ next_held n (held.OffDelay d) c = held.OffDelay (record { left = off_left n d.le
 next_held n (held.Feedback f) c = held.Feedback (next_feedback n f c.ticked (first c) (second c))
 
 -- what a block gives in its last cycle, by what it keeps after it
-abbrev pub told : ℕ → Held → Cycle → Bool
-told n held.Const0 c = false
-told n held.Const1 c = true
-told n held.And c = list_all (λ b. b) c.ins
-told n held.Or c = list_any (λ b. b) c.ins
-told n (held.Latch l) c = l.on
-told n (held.Estop s) c = s.on
-told n (held.TwoHand h) c = is_on h
-told n (held.OnDelay d) c = on_told n d.age (first c)
-told n (held.OffDelay d) c = off_told d.left (first c)
-told n (held.Feedback f) c = f.on
+abbrev pub block_gives : ℕ → Held → Cycle → Bool
+block_gives n held.Const0 c = false
+block_gives n held.Const1 c = true
+block_gives n held.And c = list_all (λ b. b) c.ins
+block_gives n held.Or c = list_any (λ b. b) c.ins
+block_gives n (held.Latch l) c = l.on
+block_gives n (held.Estop s) c = s.on
+block_gives n (held.TwoHand h) c = is_on h
+block_gives n (held.OnDelay d) c = on_told n d.age (first c)
+block_gives n (held.OffDelay d) c = off_told d.left (first c)
+block_gives n (held.Feedback f) c = f.on
 
 -- what contracts see of a block
 pub record BlockView : Type 0 where

@@ -1,8 +1,8 @@
 //! A function block.
 ghost use Rattle.std.specs.Prelude.{◌≡◌, ◌<◌, IsTrue, [], length};
-ghost use Rattle.fb_lib.specs.Kind.{takes};
+ghost use Rattle.fb_lib.specs.Kind.{takes_inputs};
 ghost use Rattle.fb_lib.specs.Standing.{BlockStands, BlockFollows, BlockGives, IsOffIfGuarded};
-ghost use Rattle.fb_lib.specs.Steps.{next_block, told};
+ghost use Rattle.fb_lib.specs.Steps.{next_block, block_gives};
 
 use crate::held::Held;
 use crate::kind::{BlockKind, MOST_INPUTS};
@@ -45,7 +45,7 @@ impl Block {
 
     /// Whether a block of this kind may have `n` inputs.
     pub fn takes(&self, n: usize) -> bool
-        ensures { result ≡ takes self.now.kind n }
+        ensures { result ≡ takes_inputs self.now.kind n }
     {
         match self.kind() {
             BlockKind::Const0 | BlockKind::Const1 => n == 0,
@@ -60,9 +60,9 @@ impl Block {
     /// it. `ticked` says whether the cycle counts as one unit of time.
     #[tactic(auto, using(crate::proofs::Looking::follows_by, crate::proofs::Looking::gives_by))]
     pub fn step(&mut self, ticked: bool, ins: &[bool]) -> bool
-        requires { IsTrue (takes self.old.kind (length ins.now)) }
+        requires { IsTrue (takes_inputs self.old.kind (length ins.now)) }
         ensures next { self.new ≡ next_block self.old (record { ticked = ticked; ins = ins.now }) }
-        ensures told { result ≡ told self.new.n self.new.held (record { ticked = ticked; ins = ins.now }) }
+        ensures block_gives { result ≡ block_gives self.new.n self.new.held (record { ticked = ticked; ins = ins.now }) }
         ensures gives { BlockGives self.old (record { ticked = ticked; ins = ins.now }) result }
         ensures follows { BlockFollows self.old (record { ticked = ticked; ins = ins.now }) self.new }
         ensures kind { self.new.kind ≡ self.old.kind }
@@ -74,11 +74,11 @@ impl Block {
     // The step of what the block keeps, from which looking back follows.
     #[tactic(auto, using(crate::proofs::Guarding::told_off))]
     fn advance(&mut self, ticked: bool, ins: &[bool]) -> bool
-        requires { IsTrue (takes self.old.kind (length ins.now)) }
+        requires { IsTrue (takes_inputs self.old.kind (length ins.now)) }
         ensures next { self.new ≡ next_block self.old (record { ticked = ticked; ins = ins.now }) }
         ensures guarded { IsOffIfGuarded self.old.kind ins.now result }
         ensures fits { self.old.n < 65536 }
-        ensures told { result ≡ told self.new.n self.new.held (record { ticked = ticked; ins = ins.now }) }
+        ensures block_gives { result ≡ block_gives self.new.n self.new.held (record { ticked = ticked; ins = ins.now }) }
     {
         self.held.step(self.n, ticked, ins)
     }

@@ -2,10 +2,10 @@
 ghost use Rattle.std.specs.Prelude.{◌≡◌, ℕ, IsTrue, [], length};
 ghost use Rattle.std.specs.List.{list_all, list_any};
 ghost use Rattle.fb_lib.specs.declared.held.Held.TheVariants as held;
-ghost use Rattle.fb_lib.specs.Kind.{takes};
+ghost use Rattle.fb_lib.specs.Kind.{takes_inputs};
 ghost use Rattle.fb_lib.specs.Kept.{held_of};
 ghost use Rattle.fb_lib.specs.Standing.{kind_of};
-ghost use Rattle.fb_lib.specs.Steps.{next_held, told};
+ghost use Rattle.fb_lib.specs.Steps.{next_held, block_gives};
 
 use crate::delays::{OffDelay, OnDelay};
 use crate::estop::Estop;
@@ -67,9 +67,9 @@ impl Held {
 
     /// Takes the next cycle of a block with number `n`, and tells its output.
     pub(crate) fn step(&mut self, n: u16, ticked: bool, ins: &[bool]) -> bool
-        requires { IsTrue (takes (kind_of self.old) (length ins.now)) }
+        requires { IsTrue (takes_inputs (kind_of self.old) (length ins.now)) }
         ensures next { self.new ≡ next_held n self.old (record { ticked = ticked; ins = ins.now }) }
-        ensures told { result ≡ told n self.new (record { ticked = ticked; ins = ins.now }) }
+        ensures block_gives { result ≡ block_gives n self.new (record { ticked = ticked; ins = ins.now }) }
     {
         match self {
             Held::Const0 => false,

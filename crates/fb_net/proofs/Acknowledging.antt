@@ -1,18 +1,18 @@
 -- The drive of an emergency stop whose acknowledgement comes as two bits.
 use Rattle.fb_net.proofs.Common.{Bit, NetCycle, at_number, bit_at, block_cycles, block_values, cases_Bool, driven_images, has_bit, is_same_bit, list_any, second}
 use Rattle.std.proofs.Common.{◌≡◌, inl, inr, ℕ, Bool, true, false, not, ◌&&◌, ◌||◌, List, [], ◌∷◌, take, refl, sym, ap, ap₂, ◌∙◌, eq-eqb, arith, rules}
-use Rattle.fb_lib.specs.LookBack.{is_now, run}
+use Rattle.fb_lib.specs.LookBack.{is_now, run_until_now}
 use Rattle.fb_net.specs.declared.wire.Wire.TheVariants as wire
 use Rattle.fb_net.specs.Acknowledged.{stop_blocks, stop_drives, is_on, may_run, in_order, is_acknowledged, is_let_go}
 use Rattle.fb_net.proofs.Bits.{driven_bit}
 
 -- what was seen, after one more cycle
 seen-more : (p : NetCycle → Bool) (ps : List (NetCycle → Bool)) (q : NetCycle → Bool) (c : NetCycle) (e : List NetCycle)
-    → in_order (p ∷ ps) (run q (c ∷ e)) ≡ (q c && ((p c && in_order ps (run q (c ∷ e))) || in_order (p ∷ ps) (run q e)))
+    → in_order (p ∷ ps) (run_until_now q (c ∷ e)) ≡ (q c && ((p c && in_order ps (run_until_now q (c ∷ e))) || in_order (p ∷ ps) (run_until_now q e)))
 seen-more p ps q c e = grind arith
 
 -- the second block: the acknowledgement was seen released
-released-seen : (s t p r : Bit) (e : List NetCycle) → at_number (block_values (stop_blocks s t p r) e) 2 false ≡ in_order (is_on r ∷ []) (run (may_run s t) e)
+released-seen : (s t p r : Bit) (e : List NetCycle) → at_number (block_values (stop_blocks s t p r) e) 2 false ≡ in_order (is_on r ∷ []) (run_until_now (may_run s t) e)
 released-seen s t p r [] = refl
 released-seen s t p r (c ∷ e) =
     ap (λ (x : Bool). may_run s t c && (is_on r c || x)) (released-seen s t p r e) ∙ set (may_run s t c) (is_on r c) _ ∙ sym (seen-more (is_on r) [] (may_run s t) c e)
@@ -22,7 +22,7 @@ released-seen s t p r (c ∷ e) =
 
 -- the fourth: and pressed after that
 pressed-seen : (s t p r : Bit) (e : List NetCycle)
-    → at_number (block_values (stop_blocks s t p r) e) 4 false ≡ in_order (is_on p ∷ is_on r ∷ []) (run (may_run s t) e)
+    → at_number (block_values (stop_blocks s t p r) e) 4 false ≡ in_order (is_on p ∷ is_on r ∷ []) (run_until_now (may_run s t) e)
 pressed-seen s t p r [] = refl
 pressed-seen s t p r (c ∷ e) =
     ap₂ (λ (x y : Bool). may_run s t c && ((x && (is_on p c && true)) || y)) (released-seen s t p r (c ∷ e)) (pressed-seen s t p r e)
@@ -35,11 +35,11 @@ pressed-seen s t p r (c ∷ e) =
 abbrev was : Bit → Bit → Bit → Bit → List NetCycle → Bool
 was s t p r e = is_now second (block_cycles (block_values (take 5 (stop_blocks s t p r))) (wire.Block 1 ∷ wire.Block 5 ∷ []) e)
 
-was-released : (s t p r : Bit) (e : List NetCycle) → was s t p r e ≡ (in_order (is_on p ∷ is_on r ∷ []) (run (may_run s t) e) && (is_now (is_on r) e && true))
+was-released : (s t p r : Bit) (e : List NetCycle) → was s t p r e ≡ (in_order (is_on p ∷ is_on r ∷ []) (run_until_now (may_run s t) e) && (is_now (is_on r) e && true))
 was-released s t p r e = search (rules, pressed-seen)
 
 released-again : (s t p r : Bit) (e : List NetCycle)
-    → (in_order (is_on p ∷ is_on r ∷ []) (run (may_run s t) e) && (is_now (is_on r) e && true)) ≡ true → is_acknowledged s t p r e ≡ true
+    → (in_order (is_on p ∷ is_on r ∷ []) (run_until_now (may_run s t) e) && (is_now (is_on r) e && true)) ≡ true → is_acknowledged s t p r e ≡ true
 released-again s t p r e h = search rules
 
 -- the last: it rises where that was first seen, and stays on
@@ -88,12 +88,12 @@ not-second q p ps (c ∷ e) h =
     none : (a : Bool) → ((a && false) || false) ≡ false
     none a = grind arith
 
-pub stays_off : (s t p r : Bit) (e : List NetCycle) → (list_any (is_on p) (run (may_run s t) e) && list_any (is_on r) (run (may_run s t) e)) ≡ false
+pub stays_off : (s t p r : Bit) (e : List NetCycle) → (list_any (is_on p) (run_until_now (may_run s t) e) && list_any (is_on r) (run_until_now (may_run s t) e)) ≡ false
     → is_acknowledged s t p r e ≡ false
 stays_off s t p r e h =
-    elim (cases_Bool (list_any (is_on p) (run (may_run s t) e))) [
+    elim (cases_Bool (list_any (is_on p) (run_until_now (may_run s t) e))) [
       | inl some ↦
-          not-first (is_on r) (is_on p ∷ is_on r ∷ []) (run (may_run s t) e)
-          (sym (ap (λ (x : Bool). x && list_any (is_on r) (run (may_run s t) e)) some) ∙ h)
-      | inr none ↦ not-second (is_on r) (is_on p) (is_on r ∷ []) (run (may_run s t) e) none
+          not-first (is_on r) (is_on p ∷ is_on r ∷ []) (run_until_now (may_run s t) e)
+          (sym (ap (λ (x : Bool). x && list_any (is_on r) (run_until_now (may_run s t) e)) some) ∙ h)
+      | inr none ↦ not-second (is_on r) (is_on p) (is_on r ∷ []) (run_until_now (may_run s t) e) none
     ]

@@ -1,5 +1,5 @@
 -- A net without a fault can run.
-use Rattle.fb_net.proofs.Common.{All, AllReady, BlockSpec, BlocksStand, Drive, IsNewNet, NetCycle, block_fault, blocks_fault, drives_fault, first_fault, net_block, plan, takes, with_block}
+use Rattle.fb_net.proofs.Common.{All, AllReady, BlockSpec, BlocksStand, Drive, IsNewNet, NetCycle, block_fault, blocks_fault, drives_fault, first_fault, net_block, plan, takes_inputs, with_block}
 use Rattle.std.proofs.Common.{◌≡◌, ℕ, ◌+◌, IsTrue, Bool, List, [], ◌∷◌, length, Option, Some, None, if◌then◌else◌, arith}
 use Rattle.std.specs.Option.{option_or}
 use Rattle.std.proofs.lemmas.List.Elements.{All-head, All-tail}
@@ -16,7 +16,7 @@ ready-by : (ins : List ℕ) (before : ℕ) (bs : List BlockSpec) → All IsNew b
 ready-by ins before [] new h = tt
 ready-by ins before (b ∷ bs) new h =
     let t = both-none (block_fault ins before b) (blocks_fault ins (before + 1) bs) h in (
-      record { takes = allowed (takes b.block.kind (length b.ins)) _ _ t.0; fits = (All-head IsNew b bs new).fits },
+      record { takes = allowed (takes_inputs b.block.kind (length b.ins)) _ _ t.0; fits = (All-head IsNew b bs new).fits },
       ready-by ins (before + 1) bs (All-tail IsNew b bs new) t.1,
     )
 

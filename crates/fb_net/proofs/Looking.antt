@@ -1,5 +1,5 @@
 -- The values of the blocks that are stepped in order are what looking back over the net's cycles says.
-use Rattle.fb_net.proofs.Common.{AllReady, BlockSpec, BlockStands, BlocksStand, CanRun, Cycle, IsReady, NetCycle, block_cycles, cycle_of, follows_by, given, gives_by, net_block, next_block, next_held, plan, run_blocks, run_values, told, values_from, with_block}
+use Rattle.fb_net.proofs.Common.{AllReady, BlockSpec, BlockStands, BlocksStand, CanRun, Cycle, IsReady, NetCycle, block_cycles, cycle_of, follows_by, given, gives_by, net_block, next_block, next_held, plan, run_blocks, run_values, block_gives, values_from, with_block}
 use Rattle.std.proofs.Common.{◌≡◌, Bool, List, [], ◌∷◌, ◌++◌, refl, sym, ap, subst, ◌∙◌}
 use Rattle.fb_net.proofs.Holding.{plan_stays}
 
@@ -10,7 +10,7 @@ more-is : (before : List NetCycle → List Bool) (b : BlockSpec) (c : NetCycle) 
 more-is before b c e r s =
     let d : Cycle = cycle_of (before (c ∷ e)) c b.ins in
     ap (λ (v : Bool). before (c ∷ e) ++ v ∷ [])
-    ((gives_by b.block (next_block b.block d) d (told b.block.n (next_held b.block.n b.block.held d) d) r.fits refl refl).gives
+    ((gives_by b.block (next_block b.block d) d (block_gives b.block.n (next_held b.block.n b.block.held d) d) r.fits refl refl).gives
     b.block.kind b.block.n (block_cycles before b.ins e) s)
 
 pub values_are : (before : List NetCycle → List Bool) (bs : List BlockSpec) (c : NetCycle) (e : List NetCycle) → AllReady (plan bs)

@@ -1,5 +1,5 @@
 -- The blocks of a net that are stepped in order.
-use Rattle.fb_net.proofs.Common.{AllReady, BlockSpec, IsReady, NetCycle, common_steps, given, net_block, plan, run_blocks, run_values, stepped, take-set_at}
+use Rattle.fb_net.proofs.Common.{AllReady, BlockSpec, IsReady, NetCycle, common_steps, given, net_block, plan, run_blocks, run_values, block_after, take-set_at}
 use Rattle.std.proofs.Common.{◌≡◌, ℕ, zero, suc, ◌+◌, ◌<◌, ◌≤◌, Bool, List, [], ◌∷◌, ◌++◌, length, get_or, take, drop, set, refl, sym, ap, ◌∙◌, arith}
 use Rattle.std.proofs.lemmas.List.{append-nil, drop_all, take_all}
 
@@ -27,7 +27,7 @@ pub values_more : (bs first : List BlockSpec) (i : ℕ) (b : BlockSpec) (values 
 values_more bs first i b values items c all h k l m n = grind (arith, common_steps)
 
 pub blocks_more : (bs first : List BlockSpec) (i : ℕ) (b new : BlockSpec) (values items : List Bool) (c : NetCycle) (all : List BlockSpec)
-    → i < length bs → b ≡ get_or bs i b → drop i bs ≡ drop i first → items ≡ values ++ given values c b ∷ [] → new ≡ stepped values c b
+    → i < length bs → b ≡ get_or bs i b → drop i bs ≡ drop i first → items ≡ values ++ given values c b ∷ [] → new ≡ block_after values c b
     → take i bs ++ run_blocks values c (drop i first) ≡ all
     → take (i + 1) (set bs i new) ++ run_blocks items c (drop (i + 1) first) ≡ all
 blocks_more bs first i b new values items c all h k l m n o = grind (arith, common_steps)

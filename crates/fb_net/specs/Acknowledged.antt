@@ -6,7 +6,7 @@ use Rattle.failsafe_io.specs.declared.bit.Bit.{Bit}
 use Rattle.failsafe_io.specs.Bits.{at_number, bit_at}
 use Rattle.fb_lib.specs.declared.kind.BlockKind.{BlockKind}
 use Rattle.fb_lib.specs.declared.kind.BlockKind.TheVariants as kind
-use Rattle.fb_lib.specs.LookBack.{is_now, run}
+use Rattle.fb_lib.specs.LookBack.{is_now, run_until_now}
 use Rattle.fb_net.specs.declared.spec.Drive.{Drive}
 use Rattle.fb_net.specs.declared.wire.Wire.{Wire}
 use Rattle.fb_net.specs.declared.wire.Wire.TheVariants as wire
@@ -50,7 +50,7 @@ in_order (p ∷ ps) (c ∷ e) = (p c && in_order ps (c ∷ e)) || in_order (p �
 -- released, then pressed, then released again
 abbrev pub is_acknowledged : Bit → Bit → Bit → Bit → List NetCycle → Bool
 is_acknowledged stop there pressed released e =
-    in_order (is_on released ∷ is_on pressed ∷ is_on released ∷ []) (run (may_run stop there) e)
+    in_order (is_on released ∷ is_on pressed ∷ is_on released ∷ []) (run_until_now (may_run stop there) e)
 
 -- the acknowledgement is released now, and wasn't in the cycle before, or is pressed as well
 abbrev pub is_let_go : Bit → Bit → List NetCycle → Bool

@@ -8,7 +8,7 @@ use Rattle.fb_lib.specs.declared.kind.BlockKind.TheVariants as kind
 use Rattle.fb_lib.specs.declared.two_hand.TwoHand.{TwoHand}
 use Rattle.fb_lib.specs.declared.two_hand.TwoHand.TheVariants as hands
 use Rattle.fb_lib.specs.Cycle.{Cycle}
-use Rattle.fb_lib.specs.Steps.{next_held, next_block, told}
+use Rattle.fb_lib.specs.Steps.{next_held, next_block, block_gives}
 use Rattle.failsafe_io.specs.Application.{Answer}
 use Rattle.fb_net.specs.declared.wire.Wire.{Wire}
 use Rattle.fb_net.specs.declared.spec.BlockSpec.{BlockSpec}
@@ -21,11 +21,11 @@ abbrev pub cycle_of : List Bool → NetCycle → List Wire → Cycle
 cycle_of values c ins = record { ticked = c.ticked; ins = map (wire_value values c.inputs) ins }
 
 -- a block after the cycle, and what it gives
-abbrev pub stepped : List Bool → NetCycle → BlockSpec → BlockSpec
-stepped values c b = record b { block = next_block b.block (cycle_of values c b.ins) }
+abbrev pub block_after : List Bool → NetCycle → BlockSpec → BlockSpec
+block_after values c b = record b { block = next_block b.block (cycle_of values c b.ins) }
 
 abbrev pub given : List Bool → NetCycle → BlockSpec → Bool
-given values c b = told b.block.n (next_held b.block.n b.block.held (cycle_of values c b.ins)) (cycle_of values c b.ins)
+given values c b = block_gives b.block.n (next_held b.block.n b.block.held (cycle_of values c b.ins)) (cycle_of values c b.ins)
 
 -- the values of blocks, after those of the blocks before them
 abbrev pub run_values : List Bool → NetCycle → List BlockSpec → List Bool
@@ -35,7 +35,7 @@ run_values values c (b ∷ bs) = run_values (values ++ given values c b ∷ []) 
 -- the blocks after the cycle
 abbrev pub run_blocks : List Bool → NetCycle → List BlockSpec → List BlockSpec
 run_blocks values c [] = []
-run_blocks values c (b ∷ bs) = stepped values c b ∷ run_blocks (values ++ given values c b ∷ []) c bs
+run_blocks values c (b ∷ bs) = block_after values c b ∷ run_blocks (values ++ given values c b ∷ []) c bs
 
 -- 1 for true, 0 for false
 abbrev pub flag : Bool → ℕ

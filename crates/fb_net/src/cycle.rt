@@ -2,11 +2,11 @@
 ghost use Rattle.std.specs.Prelude.{◌≡◌, ◌≤◌, IsTrue, false, [], map, length, take};
 ghost use Rattle.failsafe_io.specs.Bits.{at_number};
 ghost use Rattle.fb_lib.specs.declared.kind.TheConstants.{MOST_INPUTS};
-ghost use Rattle.fb_lib.specs.Kind.{takes};
+ghost use Rattle.fb_lib.specs.Kind.{takes_inputs};
 ghost use Rattle.fb_net.specs.Values.{wire_value};
 ghost use Rattle.fb_net.specs.Outputs.{driven_images};
 ghost use Rattle.fb_net.specs.Standing.{CanRun};
-ghost use Rattle.fb_net.specs.Steps.{stepped, given, run_values, run_blocks};
+ghost use Rattle.fb_net.specs.Steps.{block_after, given, run_values, run_blocks};
 
 use crate::images::{bit_at, clear, set_bit};
 use crate::spec::{BlockSpec, Drive};
@@ -50,9 +50,9 @@ fn read_wires(wires: &[Wire], inputs: &[Image], values: &[bool]) -> ArrayVec<boo
 
 /// Steps a block, and gives its value.
 fn step_block(spec: &mut BlockSpec, ticked: bool, inputs: &[Image], values: &[bool]) -> bool
-    requires { IsTrue (takes spec.old.block.kind (length spec.old.ins)) }
-    ensures stepped { spec.new
-        ≡ stepped values.now (record { ticked = ticked; inputs = inputs.now }) spec.old }
+    requires { IsTrue (takes_inputs spec.old.block.kind (length spec.old.ins)) }
+    ensures block_after { spec.new
+        ≡ block_after values.now (record { ticked = ticked; inputs = inputs.now }) spec.old }
     ensures given { result
         ≡ given values.now (record { ticked = ticked; inputs = inputs.now }) spec.old }
 {

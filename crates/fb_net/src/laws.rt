@@ -3,7 +3,7 @@ ghost use Rattle.std.specs.Prelude.{◌≡◌, ℕ, true, false, Bool, ◌&&◌,
 ghost use Rattle.std.specs.List.{list_any};
 ghost use Rattle.failsafe_io.specs.declared.bit.Bit.{Bit};
 ghost use Rattle.failsafe_io.specs.Bits.{bit_at, has_bit, is_same_bit};
-ghost use Rattle.fb_lib.specs.LookBack.{run};
+ghost use Rattle.fb_lib.specs.LookBack.{run_until_now};
 ghost use Rattle.fb_net.specs.declared.spec.Drive.{Drive};
 ghost use Rattle.fb_net.specs.Values.{NetCycle, NetBlock, wire_value, block_values};
 ghost use Rattle.fb_net.specs.Outputs.{driven_images, net_outputs};
@@ -60,7 +60,7 @@ pub fn acknowledged()
     ensures at_release { (stop there pressed released : Bit) (c : NetCycle) (e : List NetCycle)
         → is_acknowledged stop there pressed released (c ∷ e) ≡ true → is_acknowledged stop there pressed released e ≡ false
         → is_let_go pressed released (c ∷ e) ≡ true }
-    ensures stuck { (stop there pressed released : Bit) (e : List NetCycle) → let since : List NetCycle = run (may_run stop there) e in
+    ensures stuck { (stop there pressed released : Bit) (e : List NetCycle) → let since : List NetCycle = run_until_now (may_run stop there) e in
         (list_any (is_on pressed) since && list_any (is_on released) since) ≡ false → is_acknowledged stop there pressed released e ≡ false }
     ensures row { StopRow }
     ensures guards { GuardRow }

@@ -14,7 +14,7 @@ pub use Rattle.file_run.specs.Report.{ended_with, refused_line}
 pub use Rattle.file_run.specs.Reporting.{Always, BeginsReport, CutsReport, IsPrefix, MemoryUse, Reporting, ReportsSoFar, TakesMemory, input_stopped, refused_at}
 pub use Rattle.file_run.specs.Running.{HasRead, IsFullness, LeavesDone, Lines, Running, Runs, Saying, SaysSo, Seen, Sent, Standing, input_on, more_on, since}
 pub use Rattle.file_run.specs.Stop.{halt_of, halt_stopped, halted_by, last_of}
-pub use Rattle.file_run.specs.WholeLines.{ReadsUpTo, TookLines, joined}
+pub use Rattle.file_run.specs.WholeLines.{ReadsUpTo, TookLines, with_newlines}
 pub use Rattle.file_run.specs.declared.halt.Halt.{Halt}
 pub use Rattle.file_run.specs.declared.refusal.Refusal.{Refusal}
 pub use Rattle.file_run.specs.declared.stopped.Stopped.{Stopped}

@@ -1,13 +1,13 @@
 -- Whole lines that are taken one after another.
-use Rattle.file_run.proofs.Common.{Bool, Consumes, Err, Goes, Halt, Halts, Held, IsLent, IsLine, Option, Stalls, TookLines, TookOneAtMost, append-nil, consumes_then, joined, length-append, length_push, most_held, prepend_known}
+use Rattle.file_run.proofs.Common.{Bool, Consumes, Err, Goes, Halt, Halts, Held, IsLent, IsLine, Option, Stalls, TookLines, TookOneAtMost, append-nil, consumes_then, with_newlines, length-append, length_push, most_held, prepend_known}
 use Rattle.std.proofs.Common.{◌≡◌, ℕ, ◌+◌, List, [], ◌∷◌, ◌++◌, ◌≤◌, length, refl, ap, arith, ◌∙◌, sym, subst, append_assoc, rules}
 use Rattle.std.proofs.lemmas.List.Elements.{All-append, All-push}
 use Rattle.file_run.specs.declared.halt.Halt.TheVariants as halt
 
-pub joined-append : (xs ys : List (List ℕ)) → joined (xs ++ ys) ≡ joined xs ++ joined ys
+pub joined-append : (xs ys : List (List ℕ)) → with_newlines (xs ++ ys) ≡ with_newlines xs ++ with_newlines ys
 joined-append [] ys = refl
 joined-append (line ∷ xs) ys =
-    ap (λ (z : List ℕ). (line ++ 10 ∷ []) ++ z) (joined-append xs ys) ∙ sym (append_assoc (line ++ 10 ∷ []) (joined xs) (joined ys))
+    ap (λ (z : List ℕ). (line ++ 10 ∷ []) ++ z) (joined-append xs ys) ∙ sym (append_assoc (line ++ 10 ∷ []) (with_newlines xs) (with_newlines ys))
 
 -- before the first line
 pub took_none : (left : Option (List ℕ)) → TookLines 0 left left
@@ -20,12 +20,12 @@ is_lent reader left = grind arith
 -- a line more
 pub took_line : (k lines : ℕ) (a b c : Option (List ℕ)) (line : List ℕ) → TookLines k a b → IsLine line → Consumes b c (line ++ 10 ∷ []) → lines ≡ k + 1 → TookLines lines a c
 took_line k lines a b c line took is goes next =
-    let whole : joined took.lines ++ (line ++ 10 ∷ []) ≡ joined (took.lines ++ line ∷ []) = search (rules, joined, joined-append) in
+    let whole : with_newlines took.lines ++ (line ++ 10 ∷ []) ≡ with_newlines (took.lines ++ line ∷ []) = search (rules, with_newlines, joined-append) in
     record {
       lines = took.lines ++ line ∷ [];
       each = All-push IsLine took.lines line took.each is;
       counts = length_push took.lines line ∙ ap (λ (n : ℕ). n + 1) took.counts ∙ sym next;
-      taken = subst (Consumes a c) whole (consumes_then a b c (joined took.lines) (line ++ 10 ∷ []) took.taken goes);
+      taken = subst (Consumes a c) whole (consumes_then a b c (with_newlines took.lines) (line ++ 10 ∷ []) took.taken goes);
     }
 
 pub took_one : (a b : Option (List ℕ)) (line : List ℕ) → IsLine line → Consumes a b (line ++ 10 ∷ []) → TookOneAtMost a b
@@ -37,7 +37,7 @@ took_then k m a b c first then = record {
   lines = first.lines ++ then.lines;
   each = All-append IsLine first.lines then.lines first.each then.each;
   counts = omega (arith, first.counts, then.counts, length-append first.lines then.lines);
-  taken = subst (Consumes a c) (sym (joined-append first.lines then.lines)) (consumes_then a b c (joined first.lines) (joined then.lines) first.taken then.taken);
+  taken = subst (Consumes a c) (sym (joined-append first.lines then.lines)) (consumes_then a b c (with_newlines first.lines) (with_newlines then.lines) first.taken then.taken);
 }
 
 -- a read that failed takes nothing
@@ -46,7 +46,7 @@ took_still k a b c took goes = record {
   lines = took.lines;
   each = took.each;
   counts = took.counts;
-  taken = subst (Consumes a c) (append-nil (joined took.lines)) (consumes_then a b c (joined took.lines) [] took.taken goes);
+  taken = subst (Consumes a c) (append-nil (with_newlines took.lines)) (consumes_then a b c (with_newlines took.lines) [] took.taken goes);
 }
 
 -- why an input goes no further, after these whole lines

@@ -1,7 +1,7 @@
 -- Why an input goes no further, how a run ends then, and the last line that it writes.
 use Rattle.std.specs.Prelude.{ℕ, ◌+◌, List, []}
 use Rattle.fsoe_io.specs.declared.line.LineFault.{LineFault}
-use Rattle.fsoe_io.specs.declared.line.LineFault.TheVariants as fault
+use Rattle.fsoe_io.specs.declared.line.LineFault.TheVariants as line_fault
 use Rattle.fsoe_io.specs.declared.status.Ended.{Ended}
 use Rattle.fsoe_io.specs.declared.status.Status.TheVariants as status
 use Rattle.file_run.specs.Refusal.{input_cause}
@@ -14,9 +14,9 @@ use Rattle.file_run.specs.declared.stopped.Stopped.TheVariants as stopped
 
 -- a failed read comes after so many whole lines; a refused line is the one after them
 abbrev pub halt_of : LineFault → ℕ → Halt
-halt_of fault.Read before = halt.Read before
-halt_of fault.Long before = halt.Refused (before + 1) refusal.Long
-halt_of fault.NoNewline before = halt.Refused (before + 1) refusal.NoNewline
+halt_of line_fault.Read before = halt.Read before
+halt_of line_fault.Long before = halt.Refused (before + 1) refusal.Long
+halt_of line_fault.NoNewline before = halt.Refused (before + 1) refusal.NoNewline
 
 -- an event of the line of this number isn't done
 abbrev pub halt_stopped : Stopped → ℕ → Halt

@@ -5,16 +5,16 @@ use Rattle.std.specs.Io.KnownBytes.{Consumes, prepend_known}
 use Rattle.fsoe_io.specs.Line.{IsLine, most_held}
 
 -- lines, each with its newline
-abbrev pub joined : List (List ℕ) → List ℕ
-joined [] = []
-joined (line ∷ lines) = (line ++ 10 ∷ []) ++ joined lines
+abbrev pub with_newlines : List (List ℕ) → List ℕ
+with_newlines [] = []
+with_newlines (line ∷ lines) = (line ++ 10 ∷ []) ++ with_newlines lines
 
 -- so many whole lines were taken from what was to come, and the rest is to come now
 pub record TookLines (count : ℕ) (old new : Option (List ℕ)) : Type 0 where
   pub lines : List (List ℕ)
   pub each : All IsLine lines
   pub counts : length lines ≡ count
-  pub taken : Consumes old new (joined lines)
+  pub taken : Consumes old new (with_newlines lines)
 
 -- so many whole lines were taken from a source, and what else was read of it a reader holds
 pub record ReadsTo (lines : ℕ) (old left : Option (List ℕ)) : Type 0 where

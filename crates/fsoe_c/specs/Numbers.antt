@@ -4,7 +4,7 @@ use Rattle.fsoe_base.specs.Command.{command_byte}
 use Rattle.fsoe_base.specs.declared.command.State.{State}
 use Rattle.fsoe_base.specs.declared.command.State.TheVariants as state
 use Rattle.fsoe_base.specs.declared.did.Cause.{Cause}
-use Rattle.fsoe_base.specs.declared.did.Cause.TheVariants as cause
+use Rattle.fsoe_base.specs.declared.did.Cause.TheVariants as reset_cause
 use Rattle.fsoe_base.specs.declared.did.Dropped.{Dropped}
 use Rattle.fsoe_base.specs.declared.did.Dropped.TheVariants as dropped
 use Rattle.fsoe_base.specs.declared.did.Took.{Took}
@@ -36,16 +36,16 @@ took_number (Some took) = command_byte took.command
 -- why an end went to state Reset, 0 where it didn't
 abbrev pub reset_number : Option Cause → ℕ
 reset_number None = 0
-reset_number (Some cause.Local) = 1
-reset_number (Some (cause.Peer code)) = 2
-reset_number (Some (cause.Found code)) = 3
+reset_number (Some reset_cause.Local) = 1
+reset_number (Some (reset_cause.Peer code)) = 2
+reset_number (Some (reset_cause.Found code)) = 3
 
 -- the code of a reset, 0 where there is none
 abbrev pub code_number : Option Cause → ℕ
 code_number None = 0
-code_number (Some cause.Local) = 0
-code_number (Some (cause.Peer code)) = code.0
-code_number (Some (cause.Found code)) = code.0
+code_number (Some reset_cause.Local) = 0
+code_number (Some (reset_cause.Peer code)) = code.0
+code_number (Some (reset_cause.Found code)) = code.0
 
 -- why a frame was dropped, 0 where none was
 abbrev pub dropped_number : Option Dropped → ℕ

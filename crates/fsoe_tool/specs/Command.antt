@@ -6,29 +6,29 @@ use Rattle.fsoe_base.specs.declared.command.End.TheVariants as side
 use Rattle.schedule_file.specs.Field.{number_said, word_in}
 use Rattle.schedule_file.specs.Limits.{max_events}
 use Rattle.fsoe_tool.specs.declared.command.Command.{Command}
-use Rattle.fsoe_tool.specs.declared.command.Command.TheVariants as command
+use Rattle.fsoe_tool.specs.declared.command.Command.TheVariants as tool
 
 -- the command of one word
 abbrev pub command_alone : List ℕ → Option Command
 command_alone = word_in (
-    (codes "replay", command.Replay) ∷ (codes "image", command.Image) ∷ (codes "diagnose", command.Diagnose)
-    ∷ (codes "convert", command.Convert) ∷ [])
+    (codes "replay", tool.Replay) ∷ (codes "image", tool.Image) ∷ (codes "diagnose", tool.Diagnose)
+    ∷ (codes "convert", tool.Convert) ∷ [])
 
 -- the node at the end that a word names
 abbrev pub node_at : List ℕ → Option Command
-node_at = word_in ((codes "master", command.Node side.Master) ∷ (codes "slave", command.Node side.Slave) ∷ [])
+node_at = word_in ((codes "master", tool.Node side.Master) ∷ (codes "slave", tool.Node side.Slave) ∷ [])
 
 -- the schedule of this number, for so many events, from 1 on
 abbrev pub bulk_of : Option ℕ → Option ℕ → Option Command
 bulk_of None events = None
 bulk_of (Some number) None = None
-bulk_of (Some number) (Some events) = if events == 0 then None else Some (command.Bulk number events)
+bulk_of (Some number) (Some events) = if events == 0 then None else Some (tool.Bulk number events)
 
 -- the command of two words
 abbrev pub command_of_two : List ℕ → List ℕ → Option Command
 command_of_two first word =
     if bytes_eq first (codes "node") then node_at word
-    else if bytes_eq first (codes "plant") then Some command.Plant
+    else if bytes_eq first (codes "plant") then Some tool.Plant
     else None
 
 -- the command that words name: `node master`, `node slave`, `replay`, `image`, `diagnose`, `convert`, `plant` with the

@@ -15,22 +15,22 @@ use Rattle.plant_file.specs.Handed.{DeskTold, Handed}
 use Rattle.plant_file.specs.Plant.{RanFile}
 use Rattle.plant_run.specs.Ran.{RanPlant}
 use Rattle.fsoe_tool.specs.declared.command.Command.{Command}
-use Rattle.fsoe_tool.specs.declared.command.Command.TheVariants as command
+use Rattle.fsoe_tool.specs.declared.command.Command.TheVariants as tool
 
 -- whether what the words name reads an input: all but the schedule of a number do
 abbrev pub reads_input : Option Command → Bool
 reads_input None = false
-reads_input (Some (command.Node end)) = true
-reads_input (Some command.Replay) = true
-reads_input (Some (command.Bulk number events)) = false
-reads_input (Some command.Image) = true
-reads_input (Some command.Diagnose) = true
-reads_input (Some command.Convert) = true
-reads_input (Some command.Plant) = true
+reads_input (Some (tool.Node end)) = true
+reads_input (Some tool.Replay) = true
+reads_input (Some (tool.Bulk number events)) = false
+reads_input (Some tool.Image) = true
+reads_input (Some tool.Diagnose) = true
+reads_input (Some tool.Convert) = true
+reads_input (Some tool.Plant) = true
 
 -- whether the words name a plant, which alone has to do with the desk, the applications, the channels and the journal
 abbrev pub runs_plant : Option Command → Bool
-runs_plant (Some command.Plant) = true
+runs_plant (Some tool.Plant) = true
 runs_plant said = false
 
 -- the usage line was written, with status 2; or a first part of it, where a write failed
@@ -41,10 +41,10 @@ pub record RanUsage (ended : Ended) (sink : Told) : Type 0 where
 -- what holds of the run of what the words name: of a command all that its own call says
 abbrev pub Runs : {C : Type 0} → Option Command → Ended → Outside → DeskTold → Handed C → Type 0
 Runs None ended o desk h = RanUsage ended o.sink
-Runs (Some (command.Node end)) ended o desk h = RanNode end ended o
-Runs (Some command.Replay) ended o desk h = RanReplay ended o
-Runs (Some (command.Bulk number events)) ended o desk h = RanBulk number events ended o.sink
-Runs (Some command.Image) ended o desk h = RanImage ended o
-Runs (Some command.Diagnose) ended o desk h = RanDiagnose ended o
-Runs (Some command.Convert) ended o desk h = RanConvert ended o
-Runs (Some command.Plant) ended o desk h = RanFile RanPlant ended o desk h
+Runs (Some (tool.Node end)) ended o desk h = RanNode end ended o
+Runs (Some tool.Replay) ended o desk h = RanReplay ended o
+Runs (Some (tool.Bulk number events)) ended o desk h = RanBulk number events ended o.sink
+Runs (Some tool.Image) ended o desk h = RanImage ended o
+Runs (Some tool.Diagnose) ended o desk h = RanDiagnose ended o
+Runs (Some tool.Convert) ended o desk h = RanConvert ended o
+Runs (Some tool.Plant) ended o desk h = RanFile RanPlant ended o desk h

@@ -3,7 +3,7 @@ use Rattle.std.specs.Prelude.{ℕ, ◌-◌, ◌==◌, Bool, true, false, List, [
 use Rattle.fsoe_base.specs.declared.command.Code.{Code}
 use Rattle.fsoe_base.specs.declared.command.Command.TheVariants as command
 use Rattle.fsoe_base.specs.declared.did.Cause.{Cause}
-use Rattle.fsoe_base.specs.declared.did.Cause.TheVariants as cause
+use Rattle.fsoe_base.specs.declared.did.Cause.TheVariants as reset_cause
 use Rattle.fsoe_base.specs.declared.did.Did.{Did}
 use Rattle.fsoe_base.specs.declared.did.Dropped.{Dropped}
 use Rattle.fsoe_base.specs.declared.did.Dropped.TheVariants as dropped
@@ -66,7 +66,7 @@ ends v passed why x = makes_due v (phase.Reset no_session) x (resets passed why)
 
 -- a test fails: in state Reset the frame is dropped, and else the session ends
 abbrev pub refuses : MasterView → Code → Accepted
-refuses v x = if is_reset v.state.phase then drops v dropped.InReset else ends v false (cause.Found x) x
+refuses v x = if is_reset v.state.phase then drops v dropped.InReset else ends v false (reset_cause.Found x) x
 
 -- in state Reset the Reset frame with code 0 begins a session, and one with another code is dropped
 abbrev pub begins : MasterView → Code → Frame → Accepted
@@ -74,12 +74,12 @@ begins v x f = if x.0 == 0 then makes_due v (phase.Begin (bytes_of f)) local_res
 
 -- a valid Reset frame: outside state Reset the session ends
 abbrev pub on_reset_view : MasterView → Code → Frame → Accepted
-on_reset_view v x f = if is_reset v.state.phase then begins v x f else ends v false (cause.Peer x) local_reset
+on_reset_view v x f = if is_reset v.state.phase then begins v x f else ends v false (reset_cause.Peer x) local_reset
 
 -- a frame that passed the tests, by its contents
 abbrev pub settles : MasterView → SessionFrameView → Result Phase Code → Accepted
 settles v f (Ok p) = makes_due v p local_reset (takes f.command f.frame.load true)
-settles v f (Err x) = ends v true (cause.Found x) x
+settles v f (Err x) = ends v true (reset_cause.Found x) x
 
 -- a frame of a session
 abbrev pub on_session : MasterView → SessionFrameView → Option Code → Accepted
@@ -118,7 +118,7 @@ abbrev pub at_limit : MasterView → Outcome
 at_limit v =
     if is_reset v.state.phase
     then outcome_of (record v { timer = started v.kit.settings.watchdog }) (record did.nothing { sent = true }) (reset_frame 0 (sends (OfMaster v.kit.settings)))
-    else falls v (cause.Found watchdog_expired) watchdog_expired
+    else falls v (reset_cause.Found watchdog_expired) watchdog_expired
 
 -- a tick makes the age one more, and expires where that reaches the limit
 abbrev pub tick_of : MasterView → Outcome
@@ -132,7 +132,7 @@ with_kit v kit = outcome_of (record v { kit = kit }) did.nothing []
 abbrev pub after : MasterView → Move → Outcome
 after v (move.Deliver bytes) = on_frame v bytes
 after v move.Tick = tick_of v
-after v move.Local = falls v cause.Local local_reset
+after v move.Local = falls v reset_cause.Local local_reset
 after v (move.Put load) = with_kit v (record v.kit { offer = record v.kit.offer { load = load } })
 after v (move.Hold failsafe) = with_kit v (record v.kit { offer = record v.kit.offer { held = failsafe } })
 after v (move.Nonce id) = with_kit v (record v.kit { nonce = id })

@@ -1,5 +1,5 @@
 -- A delivery to one of many connections, by what its master and the application do.
-use Rattle.multi_master.proofs.Common.{Accepts, All-head, All-tail, AllZip, Answer, AnswersFrame, AppView, Call, Connection, Deed, Deliver, Delivery, Did, Follows, GuardsBy, IsWhere, MasterSettings, MasterView, Meant, Move, MultiView, PutsAnswer, Replies, RunsBy, RunsCycle, ShowsDue, StandsFor, Waits, answer, cycle_in, deed, due_in, event_at, event_on, get_or_from_slice_get, is_offer, map-set, meant, newest_at, next_deed, offer_at, offer_len, out, outputs_at, own_len, same_deed, settings_in, setup, tells_due, with_cycle, with_event, with_offer, with_offers}
+use Rattle.multi_master.proofs.Common.{Accepts, All-head, All-tail, AllZip, Answer, AnswersFrame, AppView, Call, Connection, Deed, Deliver, Delivery, Did, Follows, GuardsBy, IsWhere, MasterSettings, MasterView, Meant, Move, MultiView, PutsAnswer, Replies, RunsBy, RunsCycle, ShowsDue, StandsFor, Waits, app_answer, cycle_in, deed, due_in, moved_at, event_on, get_or_from_slice_get, is_offer, map-set, meant, newest_at, next_deed, offer_at, offer_len, out, connection_outputs, own_len, same_deed, settings_in, setup, tells_due, with_cycle, with_event, with_offer, with_offers}
 use Rattle.std.proofs.Common.{◌≡◌, ◌⊎◌, inl, inr, ℕ, suc, List, [], ◌∷◌, map, slice_get, slice_set, All, Option, Some, None, Bool, true, false, not, if◌then◌else◌, refl, sym, ap, ap₂, subst, ◌∙◌, arith}
 use Rattle.std.proofs.lemmas.List.{set-get_or}
 use Rattle.param_load.specs.declared.entry.Move.TheVariants as move
@@ -12,11 +12,11 @@ use Rattle.multi_master.proofs.Reading.{StandsIn, event_set, quiet_stands, stand
 
 -- the cycle of a delivery to a connection that exists
 cycle-is : (m : Meant) (place : ℕ) (c : Connection) (bytes : List ℕ) (b : Bool) → slice_get m.connections place ≡ Some c → tells_due (next_deed (move.Deliver bytes) c).did ≡ b
-    → cycle_in (Deliver (suc place) bytes) m ≡ (if b then Some (answer false (event_at (suc place) (move.Deliver bytes) m)) else None)
+    → cycle_in (Deliver (suc place) bytes) m ≡ (if b then Some (app_answer false (moved_at (suc place) (move.Deliver bytes) m)) else None)
 cycle-is m place c bytes b h k = grind arith
 
 -- the newest deed of a connection at which an event came
-newest-is : (m : Meant) (place : ℕ) (c : Connection) (what : Move) → slice_get m.connections place ≡ Some c → newest_at (suc place) (event_at (suc place) what m) ≡ Some (next_deed what c)
+newest-is : (m : Meant) (place : ℕ) (c : Connection) (what : Move) → slice_get m.connections place ≡ Some c → newest_at (suc place) (moved_at (suc place) what m) ≡ Some (next_deed what c)
 newest-is m place c what h = rw (event_set m.connections place c what h, set_there m.connections place c (with_event what c) h) refl
 
 -- what a delivery means: these calls stand with it, and the newest deed of its connection answers the frame
@@ -28,11 +28,11 @@ Delivers old place bytes did new frame =
 -- by its cycle, if it ran one, and the connection then
 delivers_so : (settings : List MasterSettings) (app : AppView) (old new : MultiView) (calls : List Call) (place : ℕ) (bytes : List ℕ) (did : Did) (frame : List ℕ) (o : Option Answer) (c : Connection) → StandsFor settings app old calls
     → cycle_in (Deliver (suc place) bytes) (meant settings app calls) ≡ o → slice_get (with_cycle o (meant settings app calls)).connections place ≡ Some c
-    → StandsIn (meant settings app calls).connections o (event_at (suc place) (move.Deliver bytes) (with_cycle o (meant settings app calls))) new → next_deed (move.Deliver bytes) c ≡ deed (move.Deliver bytes) did frame
+    → StandsIn (meant settings app calls).connections o (moved_at (suc place) (move.Deliver bytes) (with_cycle o (meant settings app calls))) new → next_deed (move.Deliver bytes) c ≡ deed (move.Deliver bytes) did frame
     → StandsFor settings app new (Deliver (suc place) bytes ∷ calls) × (newest_at (suc place) (meant settings app (Deliver (suc place) bytes ∷ calls)) ≡ Some (deed (move.Deliver bytes) did frame))
 delivers_so settings app old new calls place bytes did frame o c h ran at s is =
     let m : Meant = meant settings app calls in
-    let same = ap (λ (o : Option Answer). event_at (suc place) (move.Deliver bytes) (with_cycle o m)) ran in
+    let same = ap (λ (o : Option Answer). moved_at (suc place) (move.Deliver bytes) (with_cycle o m)) ran in
     (stands_so settings app old new calls (Deliver (suc place) bytes) o _ h ran same s, ap (newest_at (suc place)) same ∙ newest-is (with_cycle o m) place c (move.Deliver bytes) at ∙ ap (λ (x : Deed). Some x) is)
 
 pub delivered : (old new : MultiView) (place : ℕ) (bytes : List ℕ) (did : Did) (frame : List ℕ) → Delivers old place bytes did new frame → Follows old (Deliver (suc place) bytes) new × AnswersFrame old (suc place) bytes did frame
@@ -98,15 +98,15 @@ answered old new place bytes did frame before accepted ready last input put at a
     let c : Connection = p.there in
     let u = accepts.under_way c.settings c.deeds p.holds in
     let taken : tells_due (next_deed what c).did ≡ true = sym (ap (λ (x : Did). tells_due x) u.did) ∙ sym told ∙ waiting in
-    let heard : Meant = event_at (suc place) what m in
-    let inputs : new.inputs ≡ map outputs_at heard.connections =
-    ni ∙ ap₂ (λ (xs : List (List ℕ)) (x : List ℕ). slice_set xs place x) h.inputs_are (reads.shows _ u.waits) ∙ sym (ap (map outputs_at) (event_set cs place c what p.is) ∙ map-set outputs_at cs place (with_event what c))
+    let heard : Meant = moved_at (suc place) what m in
+    let inputs : new.inputs ≡ map connection_outputs heard.connections =
+    ni ∙ ap₂ (λ (xs : List (List ℕ)) (x : List ℕ). slice_set xs place x) h.inputs_are (reads.shows _ u.waits) ∙ sym (ap (map connection_outputs) (event_set cs place c what p.is) ∙ map-set connection_outputs cs place (with_event what c))
     in
     let lens : map own_len (slice_set old.masters place accepted) ≡ map offer_len heard.connections =
     map_set own_len old.masters place before accepted at (ap (λ s. s.lengths.master) same_settings) ∙ own_lens cs old.masters h.masters ∙ sym (event_keeps offer_len (suc place) what cs (λ c. refl))
     in
-    let a : Answer = answer false heard in
-    let x : RunsBy a m.app (map outputs_at heard.connections) (slice_set old.masters place accepted) new.app put new.changed = rw (inputs, h.app_is, lens) at cycle in
+    let a : Answer = app_answer false heard in
+    let x : RunsBy a m.app (map connection_outputs heard.connections) (slice_set old.masters place accepted) new.app put new.changed = rw (inputs, h.app_is, lens) at cycle in
     let offered : List Connection = with_offers a.outputs cs in
     let same : slice_set cs place c ≡ cs = ap (slice_set cs place) (sym (get_or_from_slice_get cs place c c p.is)) ∙ set-get_or cs place c in
     let stand = rw same at (zip_set (Stands bytes did) cs old.masters place c accepted (stand_alike bytes did cs old.masters h.masters) (inr (u.waits, waiting))) in
@@ -114,8 +114,8 @@ answered old new place bytes did frame before accepted ready last input put at a
     let q = at_place (Stands bytes did) offered put place ready y.0 ready_at in
     let waits = waits_there bytes did q.there ready due q.holds in
     let same_did : (next_deed what q.there).did ≡ record did { sent = true } = replies.did (delivery_at q.there bytes did) waits ∙ ap (λ (b : Bool). record did { sent = b }) due in
-    let kept : map outputs_at heard.connections ≡ map outputs_at (event_on (suc place) what offered) = sym (outputs_delivered (suc place) bytes cs a.outputs) in
-    let stands : StandsIn cs (Some a) (event_at (suc place) what (with_cycle (Some a) m)) new = record {
+    let kept : map connection_outputs heard.connections ≡ map connection_outputs (event_on (suc place) what offered) = sym (outputs_delivered (suc place) bytes cs a.outputs) in
+    let stands : StandsIn cs (Some a) (moved_at (suc place) what (with_cycle (Some a) m)) new = record {
       masters = rw (event_set offered place q.there what q.is) (stand_again bytes did (slice_set offered place (with_event what q.there)) new.masters rest (rw nm (zip_set (Stands bytes did) offered put place (with_event what q.there) last y.0 (inl (replies.is_after _ waits)))));
       app_is = x.app_is;
       inputs_are = inputs ∙ kept;

@@ -1,5 +1,5 @@
 -- What a call does, from what it does to the masters, the inputs and the application; first how all masters tick.
-use Rattle.multi_master.proofs.Common.{AllZip, AnswersTick, AppView, Cause, ChangeApp, Connection, Did, Follows, GuardsBy, IsRun, IsWhere, MasterView, MayBeRead, Meant, MultiView, RunsBy, RunsCycle, Tick, TicksEach, TicksOne, all_tick, answer, changed_from, meant, next_deed, numbers_of, offer_len, outputs_at, own_len, setup, with_cycle, with_event, with_offers}
+use Rattle.multi_master.proofs.Common.{AllZip, AnswersTick, AppView, Cause, ChangeApp, Connection, Did, Follows, GuardsBy, IsRun, IsWhere, MasterView, MayBeRead, Meant, MultiView, RunsBy, RunsCycle, Tick, TicksEach, TicksOne, all_tick, app_answer, changed_from, meant, next_deed, numbers_of, offer_len, connection_outputs, own_len, setup, with_cycle, with_event, with_offers}
 use Rattle.std.proofs.Common.{◌≡◌, ℕ, List, [], ◌∷◌, map, Option, Some, None, Bool, true, false, refl, sym, ap, ap₂, subst, ◌∙◌, suc, ◌++◌}
 use Rattle.multi_master.proofs.Putting.{all_outputs_put, all_put, where_put}
 use Rattle.multi_master.proofs.Reading.{StandsIn, stands_so}
@@ -8,24 +8,24 @@ use Rattle.multi_master.proofs.Quiet.{quiet_tick}
 
 -- the outputs of a master are as they were read, where they are read only if its session ended
 read-so : (c : Connection) (m : MasterView) (before after : List ℕ) (r : Option Cause) → (next_deed move.Tick c).did.reset ≡ r → IsRun (setup c) c.deeds → IsWhere (with_event move.Tick c) m
-    → before ≡ outputs_at c → MayBeRead r m before after → after ≡ outputs_at (with_event move.Tick c)
+    → before ≡ connection_outputs c → MayBeRead r m before after → after ≡ connection_outputs (with_event move.Tick c)
 read-so c m before after (Some why) e run w b p = p.shows c.settings _ w
 read-so c m before after None e run w b p = p ∙ b ∙ sym (quiet_tick (setup c) c.deeds run e)
 
 -- connections whose masters ticked: so these stand, these are their outputs, and so it is told what they did and sent
 record HaveTicked (cs : List Connection) (masters : List MasterView) (read : List (List ℕ)) (dids : List Did) (sent : List (List ℕ)) : Type 0 where
   stand : AllZip IsWhere (map (with_event move.Tick) cs) masters
-  read_are : read ≡ map outputs_at (map (with_event move.Tick) cs)
+  read_are : read ≡ map connection_outputs (map (with_event move.Tick) cs)
   dids_are : dids ≡ map (λ c. (next_deed move.Tick c).did) cs
   sent_are : sent ≡ map (λ c. (next_deed move.Tick c).sent) cs
 
 all_ticked : (cs : List Connection) (before : List MasterView) (inputs : List (List ℕ)) (after : List MasterView) (read : List (List ℕ)) (dids : List Did) (sent : List (List ℕ)) → AllZip IsWhere cs before
-    → inputs ≡ map outputs_at cs → TicksEach before inputs after read dids sent → HaveTicked cs after read dids sent
+    → inputs ≡ map connection_outputs cs → TicksEach before inputs after read dids sent → HaveTicked cs after read dids sent
 all_ticked [] [] [] [] [] [] [] h e t = record { stand = tt; read_are = refl; dids_are = refl; sent_are = refl }
 all_ticked (c ∷ cs) (m ∷ before) (input ∷ inputs) (m' ∷ after) (now ∷ read) (did ∷ dids) (frame ∷ sent) h e t =
     let stands : IsWhere (with_event move.Tick c) m' = t.0.follows.is_after c.settings c.deeds h.0 in
     let did-is : did ≡ (next_deed move.Tick c).did = t.0.answers.did c.settings c.deeds h.0 in
-    let is : now ≡ outputs_at (with_event move.Tick c) = read-so c m' input now did.reset (sym (ap (λ (d : Did). d.reset) did-is)) h.0.reached stands (cc e) t.0.read in
+    let is : now ≡ connection_outputs (with_event move.Tick c) = read-so c m' input now did.reset (sym (ap (λ (d : Did). d.reset) did-is)) h.0.reached stands (cc e) t.0.read in
     let sent-is = t.0.answers.sent c.settings c.deeds h.0 in
     let rest = all_ticked cs before inputs after read dids sent h.1 (cc e) t.1 in
     record { stand = (stands, rest.stand); read_are = cc; dids_are = cc; sent_are = cc }
@@ -54,13 +54,13 @@ own_lens _ _ h = absurd h
 
 -- a cycle was run while no frame was due, by connections where the same offers are changed
 cycle-stands : (m : Meant) (ticked : Bool) (cs : List Connection) (old : AppView) (middle : List MasterView) (new : MultiView) → ((loads : List (List ℕ)) → changed_from 1 m.connections loads ≡ changed_from 1 cs loads)
-    → old ≡ m.app → new.inputs ≡ map outputs_at m.connections → AllZip IsWhere m.connections middle → RunsCycle old ticked new.inputs middle new.app new.masters new.changed
-    → StandsIn cs (Some (answer ticked m)) (with_cycle (Some (answer ticked m)) m) new
+    → old ≡ m.app → new.inputs ≡ map connection_outputs m.connections → AllZip IsWhere m.connections middle → RunsCycle old ticked new.inputs middle new.app new.masters new.changed
+    → StandsIn cs (Some (app_answer ticked m)) (with_cycle (Some (app_answer ticked m)) m) new
 cycle-stands m ticked cs old middle new same a i w r =
-    let loads : List (List ℕ) = (answer ticked m).outputs in
-    let x : RunsBy (answer ticked m) m.app (map outputs_at m.connections) middle new.app new.masters new.changed = rw (i, a, own_lens m.connections middle w) at r in
+    let loads : List (List ℕ) = (app_answer ticked m).outputs in
+    let x : RunsBy (app_answer ticked m) m.app (map connection_outputs m.connections) middle new.app new.masters new.changed = rw (i, a, own_lens m.connections middle w) at r in
     let put = all_put IsWhere where_put 1 m.connections middle loads new.masters new.changed w x.puts in
-    let kept : map outputs_at m.connections ≡ map outputs_at (with_offers loads m.connections) = sym (all_outputs_put m.connections loads) in
+    let kept : map connection_outputs m.connections ≡ map connection_outputs (with_offers loads m.connections) = sym (all_outputs_put m.connections loads) in
     record {
       masters = put.0;
       app_is = x.app_is;

@@ -1,5 +1,5 @@
 -- Each connection's deeds are the run of its own events.
-use Rattle.multi_master.proofs.Common.{Answer, AppView, Call, ChangeApp, Connection, Deed, Deliver, MasterSettings, Meant, Move, Nonce, Tick, after, all_tick, append-nil, common_steps, connection, cycle_in, event_on, events_of, fresh, is_offer, meant, run, run_append, setup, step, with_cycle, with_event, with_offers}
+use Rattle.multi_master.proofs.Common.{Answer, AppView, Call, ChangeApp, Connection, Deed, Deliver, MasterSettings, Meant, Move, Nonce, Tick, after, all_tick, append-nil, common_steps, numbered_connection, cycle_in, event_on, events_of, new_connection, is_offer, meant, run, run_append, setup, step, with_cycle, with_event, with_offers}
 use Rattle.std.proofs.Common.{◌≡◌, ℕ, zero, suc, ◌==◌, List, [], ◌∷◌, ◌++◌, map, slice_get, Option, Some, None, IfSome, Bool, true, false, if◌then◌else◌, refl, sym, ap, subst, ◌∙◌, arith}
 use Rattle.std.proofs.lemmas.List.{map-id}
 use Rattle.std.proofs.lemmas.Option.{IfSome_then}
@@ -68,20 +68,20 @@ call-own own Tick m k h = cycle-own (own ++ move.Tick ∷ []) (cycle_in Tick m) 
 call-own own (Nonce link id) m k h = event-there own m.connections link k (move.Nonce id) refl h
 call-own own (ChangeApp app) m k h = rw (append-nil own) (cycle-own own (cycle_in (ChangeApp app) m) (record m { app = app }) k h)
 
-fresh-own : (settings : List MasterSettings) (k : ℕ) → IfSome (slice_get (map fresh settings) k) (IsOwn [])
+fresh-own : (settings : List MasterSettings) (k : ℕ) → IfSome (slice_get (map new_connection settings) k) (IsOwn [])
 fresh-own [] k = tt
 fresh-own (s ∷ ss) zero = record { run = refl; events = refl }
 fresh-own (s ∷ ss) (suc k) = fresh-own ss k
 
-all_own : (settings : List MasterSettings) (app : AppView) (calls : List Call) (link : ℕ) → IfSome (connection link (meant settings app calls)) (IsOwn (own_events link calls))
+all_own : (settings : List MasterSettings) (app : AppView) (calls : List Call) (link : ℕ) → IfSome (numbered_connection link (meant settings app calls)) (IsOwn (own_events link calls))
 all_own settings app calls zero = tt
 all_own settings app [] (suc k) = fresh-own settings k
 all_own settings app (call ∷ calls) (suc k) = call-own (own_events (suc k) calls) call (meant settings app calls) k (all_own settings app calls (suc k))
 
-pub runs_alone : (settings : List MasterSettings) (app : AppView) (calls : List Call) (link : ℕ) → IfSome (connection link (meant settings app calls)) (λ c. c.deeds ≡ run (setup c) (events_of c.deeds))
+pub runs_alone : (settings : List MasterSettings) (app : AppView) (calls : List Call) (link : ℕ) → IfSome (numbered_connection link (meant settings app calls)) (λ c. c.deeds ≡ run (setup c) (events_of c.deeds))
 runs_alone settings app calls link = IfSome_then _ (all_own settings app calls link) (λ c (own : IsOwn (own_events link calls) c). own.run)
 
-pub events_alone : (settings : List MasterSettings) (app : AppView) (calls : List Call) (link : ℕ) → IfSome (connection link (meant settings app calls)) (λ c. without_puts (events_of c.deeds) ≡ own_events link calls)
+pub events_alone : (settings : List MasterSettings) (app : AppView) (calls : List Call) (link : ℕ) → IfSome (numbered_connection link (meant settings app calls)) (λ c. without_puts (events_of c.deeds) ≡ own_events link calls)
 events_alone settings app calls link = IfSome_then _ (all_own settings app calls link) (λ c (own : IsOwn (own_events link calls) c). own.events)
 
 -- what is the same after an event stays so at all connections
@@ -99,5 +99,5 @@ call-settings : (call : Call) (m : Meant) → map (λ c. c.settings) (after call
 call-settings call m = grind (arith, event_keeps, all_settings_put, ticks-settings)
 
 pub settings_alone : (settings : List MasterSettings) (app : AppView) (calls : List Call) → map (λ c. c.settings) (meant settings app calls).connections ≡ settings
-settings_alone settings app [] = map-map (λ (c : Connection). c.settings) fresh settings ∙ map-id settings
+settings_alone settings app [] = map-map (λ (c : Connection). c.settings) new_connection settings ∙ map-id settings
 settings_alone settings app (call ∷ calls) = call-settings call (meant settings app calls) ∙ settings_alone settings app calls

@@ -1,5 +1,5 @@
 -- The answers of a cycle, put master by master.
-use Rattle.multi_master.proofs.Common.{AllZip, Connection, IsWhere, MasterView, MayBePut, PutsAnswer, PutsEach, changed_from, event_on, is_offer, numbers_of, offer_at, outputs_at, with_event, with_offer, with_offers}
+use Rattle.multi_master.proofs.Common.{AllZip, Connection, IsWhere, MasterView, MayBePut, PutsAnswer, PutsEach, changed_from, event_on, is_offer, numbers_of, offer_at, connection_outputs, with_event, with_offer, with_offers}
 use Rattle.std.proofs.Common.{◌≡◌, ℕ, zero, suc, List, [], ◌∷◌, ◌++◌, map, length, Bool, true, false, not, if◌then◌else◌, refl, sym, ap, ap₂, subst, ◌∙◌, arith, ◌+◌}
 use Rattle.std.specs.Prelude.{nat_eq}
 use Rattle.std.specs.Cmp.Lexicographic.{pointwise, same_text}
@@ -61,19 +61,19 @@ offers-keep f h _ _ = refl
 pub all_settings_put : (cs : List Connection) (loads : List (List ℕ)) → map (λ c. c.settings) (with_offers loads cs) ≡ map (λ c. c.settings) cs
 all_settings_put = offers-keep (λ c. c.settings) (λ c load. grind arith)
 
-pub outputs_put : (c : Connection) (load : List ℕ) → outputs_at (with_offer load c) ≡ outputs_at c
+pub outputs_put : (c : Connection) (load : List ℕ) → connection_outputs (with_offer load c) ≡ connection_outputs c
 outputs_put c load = grind arith
 
-pub all_outputs_put : (cs : List Connection) (loads : List (List ℕ)) → map outputs_at (with_offers loads cs) ≡ map outputs_at cs
-all_outputs_put = offers-keep outputs_at outputs_put
+pub all_outputs_put : (cs : List Connection) (loads : List (List ℕ)) → map connection_outputs (with_offers loads cs) ≡ map connection_outputs cs
+all_outputs_put = offers-keep connection_outputs outputs_put
 
 -- answers that were put before a frame change nothing of what the frame brings
-put-delivered : (c : Connection) (load bytes : List ℕ) (b : Bool) → outputs_at (with_event (move.Deliver bytes) (if b then c else with_event (move.Put load) c)) ≡ outputs_at (with_event (move.Deliver bytes) c)
+put-delivered : (c : Connection) (load bytes : List ℕ) (b : Bool) → connection_outputs (with_event (move.Deliver bytes) (if b then c else with_event (move.Put load) c)) ≡ connection_outputs (with_event (move.Deliver bytes) c)
 put-delivered c load bytes true = refl
 put-delivered c load bytes false = refl
 
 pub outputs_delivered : (link : ℕ) (bytes : List ℕ) (cs : List Connection) (loads : List (List ℕ))
-    → map outputs_at (event_on link (move.Deliver bytes) (with_offers loads cs)) ≡ map outputs_at (event_on link (move.Deliver bytes) cs)
+    → map connection_outputs (event_on link (move.Deliver bytes) (with_offers loads cs)) ≡ map connection_outputs (event_on link (move.Deliver bytes) cs)
 outputs_delivered link bytes cs [] = refl
 outputs_delivered zero bytes (c ∷ cs) (load ∷ loads) = all_outputs_put (c ∷ cs) (load ∷ loads)
 outputs_delivered (suc zero) bytes (c ∷ cs) (load ∷ loads) = ap₂ (λ (x : List ℕ) (xs : List (List ℕ)). x ∷ xs) (put-delivered c load bytes (is_offer load c)) (all_outputs_put cs loads)

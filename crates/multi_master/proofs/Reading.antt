@@ -1,5 +1,5 @@
 -- What is shown of one connection, and an event at one.
-use Rattle.multi_master.proofs.Common.{AllZip, Answer, AppView, Call, Connection, Deed, Follows, IsSound, IsWhere, MasterSettings, MasterView, Meant, Move, MultiView, Nonce, Setup, ShowsAt, StandsFor, after, changed_by, cycle_in, event_at, event_on, meant, numbers_of, outputs_at, setup, with_event}
+use Rattle.multi_master.proofs.Common.{AllZip, Answer, AppView, Call, Connection, Deed, Follows, IsSound, IsWhere, MasterSettings, MasterView, Meant, Move, MultiView, Nonce, Setup, ShowsAt, StandsFor, after, changed_by, cycle_in, moved_at, event_on, meant, numbers_of, connection_outputs, setup, with_event}
 use Rattle.failsafe_io.specs.declared.bit.Bit.{Bit}
 use Rattle.multi_master.specs.Calls.{Rule}
 use Rattle.multi_master.specs.Standing.{HasLink, MultiValue, seen}
@@ -28,7 +28,7 @@ event_set (a ∷ cs) (suc place) c what h = ap (λ (xs : List Connection). a ∷
 pub record StandsIn (cs : List Connection) (o : Option Answer) (later : Meant) (v : MultiView) : Type 0 where
   pub masters : AllZip IsWhere later.connections v.masters
   pub app_is : v.app ≡ later.app
-  pub inputs_are : v.inputs ≡ map outputs_at later.connections
+  pub inputs_are : v.inputs ≡ map connection_outputs later.connections
   pub changed_are : v.changed ≡ numbers_of (changed_by o cs)
   pub sound : IfSome o (IsSound later)
 
@@ -38,15 +38,15 @@ stands_so settings app old v calls call o later h k l m = grind arith
 
 -- an event at one connection that changes no outputs, and runs no cycle
 pub quiet_stands : (settings : List MasterSettings) (app : AppView) (old new : MultiView) (calls : List Call) (place : ℕ) (what : Move) (c : Connection) (last : MasterView) → StandsFor settings app old calls
-    → slice_get (meant settings app calls).connections place ≡ Some c → outputs_at (with_event what c) ≡ outputs_at c → IsWhere (with_event what c) last
+    → slice_get (meant settings app calls).connections place ≡ Some c → connection_outputs (with_event what c) ≡ connection_outputs c → IsWhere (with_event what c) last
     → new.masters ≡ slice_set old.masters place last → new.app ≡ old.app → new.inputs ≡ old.inputs → new.changed ≡ []
-    → StandsIn (meant settings app calls).connections None (event_at (suc place) what (meant settings app calls)) new
+    → StandsIn (meant settings app calls).connections None (moved_at (suc place) what (meant settings app calls)) new
 quiet_stands settings app old new calls place what c last h is o w nm na ni nc =
     let cs : List Connection = (meant settings app calls).connections in
     rw (event_set cs place c what is) (record {
       masters = rw nm (zip_set IsWhere cs old.masters place (with_event what c) last h.masters w);
       app_is = na ∙ h.app_is;
-      inputs_are = ni ∙ h.inputs_are ∙ sym (map_set outputs_at cs place c (with_event what c) is o);
+      inputs_are = ni ∙ h.inputs_are ∙ sym (map_set connection_outputs cs place c (with_event what c) is o);
       changed_are = nc;
       sound = tt;
     })
@@ -59,6 +59,6 @@ nonce_follows old new link place id m last at f nm na ni nc = record {
       let later : Meant = meant settings app calls in
       let p = at_place IsWhere later.connections old.masters place m h.masters at.at in
       let c : Connection = p.there in
-      stands_so settings app old new calls (Nonce link id) None (event_at (suc place) (move.Nonce id) later) h refl (ap (λ k. event_at k (move.Nonce id) later) at.number)
+      stands_so settings app old new calls (Nonce link id) None (moved_at (suc place) (move.Nonce id) later) h refl (ap (λ k. moved_at k (move.Nonce id) later) at.number)
       (quiet_stands settings app old new calls place (move.Nonce id) c last h p.is refl (f.is_after c.settings c.deeds p.holds) nm na ni nc);
 }

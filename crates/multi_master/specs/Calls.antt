@@ -7,7 +7,7 @@ use Rattle.param_load.specs.declared.entry.Move.{Move}
 use Rattle.param_load.specs.declared.entry.Move.TheVariants as move
 use Rattle.param_load.specs.declared.master_settings.MasterSettings.{MasterSettings}
 use Rattle.master_core.specs.Calls.{tells_due}
-use Rattle.multi_master.specs.Connection.{Connection, fresh, next_deed, with_event, outputs_at, offer_at, offer_len, is_offer, with_offers}
+use Rattle.multi_master.specs.Connection.{Connection, new_connection, next_deed, with_event, connection_outputs, offer_at, offer_len, is_offer, with_offers}
 
 -- how an application answers: by what it holds, whether the cycle is ticked, the inputs, and the lengths of the outputs
 abbrev pub Rule : Type 0
@@ -33,9 +33,9 @@ pub record Meant : Type 0 where
   pub app : AppView
 
 -- the connection with this number, if there is one
-abbrev pub connection : ℕ → Meant → Option Connection
-connection zero m = None
-connection (suc place) m = slice_get m.connections place
+abbrev pub numbered_connection : ℕ → Meant → Option Connection
+numbered_connection zero m = None
+numbered_connection (suc place) m = slice_get m.connections place
 
 -- an event at the connection with this number, if there is one, and at no other
 abbrev pub event_on : ℕ → Move → List Connection → List Connection
@@ -44,16 +44,16 @@ event_on zero what (c ∷ cs) = c ∷ cs
 event_on (suc zero) what (c ∷ cs) = with_event what c ∷ cs
 event_on (suc place) what (c ∷ cs) = c ∷ event_on place what cs
 
-abbrev pub event_at : ℕ → Move → Meant → Meant
-event_at link what m = record m { connections = event_on link what m.connections }
+abbrev pub moved_at : ℕ → Move → Meant → Meant
+moved_at link what m = record m { connections = event_on link what m.connections }
 
 -- a tick at each connection
 abbrev pub all_tick : Meant → Meant
 all_tick m = record m { connections = map (with_event move.Tick) m.connections }
 
 -- what the application that runs answers, in a cycle, to the masters' outputs
-abbrev pub answer : Bool → Meant → Answer
-answer ticked m = m.app.rule m.app.holds ticked (map outputs_at m.connections) (map offer_len m.connections)
+abbrev pub app_answer : Bool → Meant → Answer
+app_answer ticked m = m.app.rule m.app.holds ticked (map connection_outputs m.connections) (map offer_len m.connections)
 
 -- whether a frame for a connection is taken there, or ends its session: its deed says so
 abbrev pub is_heard : List ℕ → Option Connection → Bool
@@ -65,16 +65,16 @@ is_heard bytes (Some c) = tells_due (next_deed (move.Deliver bytes) c).did
 -- change of the application runs one of the new application
 abbrev pub cycle_in : Call → Meant → Option Answer
 cycle_in (Deliver link bytes) m =
-    if is_heard bytes (connection link m) then Some (answer false (event_at link (move.Deliver bytes) m)) else None
-cycle_in Tick m = Some (answer true (all_tick m))
+    if is_heard bytes (numbered_connection link m) then Some (app_answer false (moved_at link (move.Deliver bytes) m)) else None
+cycle_in Tick m = Some (app_answer true (all_tick m))
 cycle_in (Nonce link id) m = None
-cycle_in (ChangeApp app) m = Some (answer false (record m { app = app }))
+cycle_in (ChangeApp app) m = Some (app_answer false (record m { app = app }))
 
 -- after a cycle with this answer all offers are it, and each of its output bits is 0 that the application that runs
 -- guards by an input bit that is 0
 pub record IsSound (m : Meant) (a : Answer) : Type 0 where
   pub answered : map offer_at m.connections ≡ a.outputs
-  pub guarded : GuardsBy m.app.guards (map outputs_at m.connections) a.outputs
+  pub guarded : GuardsBy m.app.guards (map connection_outputs m.connections) a.outputs
 
 -- after a cycle with this answer, its outputs are the offers of the connections, and the application holds what the
 -- answer says; without a cycle nothing changes
@@ -85,14 +85,14 @@ with_cycle (Some a) m = record { connections = with_offers a.outputs m.connectio
 -- what a call means after those before: in a delivery the answers are put before the deed of the frame, so that its
 -- reply carries them
 abbrev pub after : Call → Meant → Meant
-after (Deliver link bytes) m = event_at link (move.Deliver bytes) (with_cycle (cycle_in (Deliver link bytes) m) m)
+after (Deliver link bytes) m = moved_at link (move.Deliver bytes) (with_cycle (cycle_in (Deliver link bytes) m) m)
 after Tick m = with_cycle (cycle_in Tick m) (all_tick m)
-after (Nonce link id) m = event_at link (move.Nonce id) m
+after (Nonce link id) m = moved_at link (move.Nonce id) m
 after (ChangeApp app) m = with_cycle (cycle_in (ChangeApp app) m) (record m { app = app })
 
 -- what these calls mean, from new masters with these settings and this application on
 abbrev pub meant : List MasterSettings → AppView → List Call → Meant
-meant settings app [] = record { connections = map fresh settings; app = app }
+meant settings app [] = record { connections = map new_connection settings; app = app }
 meant settings app (call ∷ calls) = after call (meant settings app calls)
 
 -- the answers that aren't the offers of these connections already, each with the number of its connection, from n on

@@ -15,8 +15,8 @@ pub record Connection : Type 0 where
   pub deeds : List Deed
 
 -- a connection at which nothing happened yet
-abbrev pub fresh : MasterSettings → Connection
-fresh settings = record { settings = settings; deeds = [] }
+abbrev pub new_connection : MasterSettings → Connection
+new_connection settings = record { settings = settings; deeds = [] }
 
 -- what its master is set to
 abbrev pub setup : Connection → Setup
@@ -31,8 +31,8 @@ abbrev pub with_event : Move → Connection → Connection
 with_event what c = record c { deeds = next_deed what c ∷ c.deeds }
 
 -- the outputs of its master, which are the inputs of an application
-abbrev pub outputs_at : Connection → List ℕ
-outputs_at c = out (setup c) c.deeds
+abbrev pub connection_outputs : Connection → List ℕ
+connection_outputs c = out (setup c) c.deeds
 
 -- what was put last, which the next data frame carries
 abbrev pub offer_at : Connection → List ℕ

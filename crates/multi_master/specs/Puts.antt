@@ -13,16 +13,16 @@ use Rattle.end_model.specs.Readiness.{offer}
 use Rattle.master_core.specs.MasterView.{MasterView}
 use Rattle.master_core.specs.Standing.{Follows, Answers, Shows}
 use Rattle.master_core.specs.Waiting.{Keeps, ShowsDue}
-use Rattle.multi_master.specs.Connection.{fresh, outputs_at}
+use Rattle.multi_master.specs.Connection.{new_connection, connection_outputs}
 use Rattle.multi_master.specs.Calls.{AppView}
 use Rattle.multi_master.specs.Standing.{IsWhere, due_in, own_len, settings_in}
 
 -- new masters with these settings, their outputs, and answers of the lengths of their frames; no offer was changed
 pub record AreNew (settings : List MasterSettings) (masters : List MasterView) (inputs answers : List (List ℕ)) (changed : List ℕ) : Type 0 where
-  pub stand : AllZip IsWhere (map fresh settings) masters
+  pub stand : AllZip IsWhere (map new_connection settings) masters
   pub settings_are : map settings_in masters ≡ settings
   pub rest : All (λ m. due_in m ≡ false) masters
-  pub inputs_are : inputs ≡ map outputs_at (map fresh settings)
+  pub inputs_are : inputs ≡ map connection_outputs (map new_connection settings)
   pub answers_fit : map length answers ≡ map own_len masters
   pub unchanged : changed ≡ []
 

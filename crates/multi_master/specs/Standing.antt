@@ -11,8 +11,8 @@ use Rattle.end_model.specs.Setup.{OfMaster, sends}
 use Rattle.master_core.specs.MasterView.{MasterView}
 use Rattle.master_core.specs.Now.{is_due}
 use Rattle.master_core.specs.Standing.{MasterIsAfter}
-use Rattle.multi_master.specs.Connection.{Connection, next_deed, outputs_at}
-use Rattle.multi_master.specs.Calls.{Rule, AppView, Call, Deliver, Meant, IsSound, connection, cycle_in, meant, changed_by}
+use Rattle.multi_master.specs.Connection.{Connection, next_deed, connection_outputs}
+use Rattle.multi_master.specs.Calls.{Rule, AppView, Call, Deliver, Meant, IsSound, numbered_connection, cycle_in, meant, changed_by}
 
 -- what a master of many connections is, with an application of any type: the masters in the order of the connections,
 -- the application that runs, the inputs that it reads in a cycle, and the connections whose offers the last call
@@ -105,7 +105,7 @@ numbers_of changed = map (λ x. x.0) changed
 pub record StandsFor (settings : List MasterSettings) (app : AppView) (v : MultiView) (calls : List Call) : Type 0 where
   pub masters : AllZip IsWhere (meant settings app calls).connections v.masters
   pub app_is : v.app ≡ (meant settings app calls).app
-  pub inputs_are : v.inputs ≡ map outputs_at (meant settings app calls).connections
+  pub inputs_are : v.inputs ≡ map connection_outputs (meant settings app calls).connections
   pub changed_are : v.changed ≡ numbers_of (changed settings app calls)
   pub sound : AllSound settings app calls
 
@@ -116,7 +116,7 @@ pub record Follows (old : MultiView) (call : Call) (new : MultiView) : Type 0 wh
 
 -- the newest deed of the connection with this number, none where there is no such connection
 abbrev pub newest_at : ℕ → Meant → Option Deed
-newest_at link m = slice_get (option_map_or (λ c. c.deeds) (connection link m) []) 0
+newest_at link m = slice_get (option_map_or (λ c. c.deeds) (numbered_connection link m) []) 0
 
 -- what is done with a frame, and the frame that is sent, are those of the newest deed of its connection
 pub record AnswersFrame (old : MultiView) (link : ℕ) (bytes : List ℕ) (done : Did) (sent : List ℕ) : Type 0 where
@@ -133,7 +133,7 @@ pub record AnswersTick (old : MultiView) (done : List Did) (frames : List (List 
 -- what is shown of a connection is this word of it
 pub record ShowsAt {X : Type 0} (v : MultiView) (link : ℕ) (shown : X) (word : Connection → X) : Type 0 where
   pub shows : (settings : List MasterSettings) (app : AppView) (calls : List Call) → StandsFor settings app v calls
-      → option_map word (connection link (meant settings app calls)) ≡ Some shown
+      → option_map word (numbered_connection link (meant settings app calls)) ≡ Some shown
 
 -- what is shown is this word of the application that runs
 pub record ShowsApp {X : Type 0} (v : MultiView) (shown : X) (word : AppView → X) : Type 0 where

@@ -7,7 +7,7 @@ ghost use Rattle.end_model.specs.Runs.{events_of};
 ghost use Rattle.end_model.specs.Step.{run};
 ghost use Rattle.master_core.specs.MasterView.{MasterView};
 ghost use Rattle.multi_master.specs.Connection.{Connection, setup, with_event, with_offer, offer_len};
-ghost use Rattle.multi_master.specs.Calls.{AppView, Call, connection, meant};
+ghost use Rattle.multi_master.specs.Calls.{AppView, Call, numbered_connection, meant};
 ghost use Rattle.multi_master.specs.Own.{own_events, without_puts};
 ghost use Rattle.multi_master.specs.Standing.{IsWhere};
 
@@ -16,8 +16,8 @@ ghost use Rattle.multi_master.specs.Standing.{IsWhere};
 /// them. Its settings don't change.
 #[tactic(auto, using(crate::proofs::Neighbours::runs_alone, crate::proofs::Neighbours::events_alone, crate::proofs::Neighbours::settings_alone))]
 pub fn neighbours()
-    ensures run { (settings : List MasterSettings) (app : AppView) (calls : List Call) (link : ℕ) → IfSome (connection link (meant settings app calls)) (λ c. c.deeds ≡ run (setup c) (events_of c.deeds)) }
-    ensures events { (settings : List MasterSettings) (app : AppView) (calls : List Call) (link : ℕ) → IfSome (connection link (meant settings app calls)) (λ c. without_puts (events_of c.deeds) ≡ own_events link calls) }
+    ensures run { (settings : List MasterSettings) (app : AppView) (calls : List Call) (link : ℕ) → IfSome (numbered_connection link (meant settings app calls)) (λ c. c.deeds ≡ run (setup c) (events_of c.deeds)) }
+    ensures events { (settings : List MasterSettings) (app : AppView) (calls : List Call) (link : ℕ) → IfSome (numbered_connection link (meant settings app calls)) (λ c. without_puts (events_of c.deeds) ≡ own_events link calls) }
     ensures settings { (settings : List MasterSettings) (app : AppView) (calls : List Call) → map (λ c. c.settings) (meant settings app calls).connections ≡ settings }
 {}
 

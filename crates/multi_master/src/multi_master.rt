@@ -38,7 +38,7 @@ impl<A> Model for MultiMaster<A> {
 }
 
 impl<A: Application> MultiMaster<A> {
-    ghost use Rattle.multi_master.specs.Connection.{setup, outputs_at, offer_at};
+    ghost use Rattle.multi_master.specs.Connection.{setup, connection_outputs, offer_at};
     ghost use Rattle.multi_master.specs.Calls.{AppView, Deliver, Tick, Nonce, ChangeApp};
     ghost use Rattle.multi_master.specs.New.{first_fault};
     ghost use Rattle.multi_master.specs.Standing.{app_view, seen, links, HasLink, StandsFor, Follows, AnswersFrame, AnswersTick, ShowsAt, ShowsApp, ShowsChanged, AreNumbers, settings_of};
@@ -196,7 +196,7 @@ impl<A: Application> MultiMaster<A> {
     /// bytes as its slave's frames have. They are zeros in every state except Data.
     pub fn outputs(&self, link: u16) -> &[u8]
         requires { HasLink self.now link }
-        ensures shown { ShowsAt (seen A.rule A.holds A.guards self.now) link result.now outputs_at }
+        ensures shown { ShowsAt (seen A.rule A.holds A.guards self.now) link result.now connection_outputs }
         ensures most { length result.now ≤ MOST_DATA }
     {
         self.connections.masters[usize::from(link) - 1].outputs()

@@ -8,7 +8,7 @@ use Rattle.end_model.specs.Deed.{Deed}
 use Rattle.end_model.specs.Setup.{Setup}
 use Rattle.end_model.specs.Step.{step, run, continued}
 use Rattle.file_run.specs.Reporting.{IsPrefix}
-use Rattle.node_runner.specs.Report.{deed_line, deed_lines, deeds}
+use Rattle.node_runner.specs.Report.{deed_line, deed_lines, node_deeds}
 use Rattle.node_runner.specs.Move.{move_of}
 
 -- there is a deed for each event
@@ -16,11 +16,11 @@ count_continued : (s : Setup) (moves : List Move) (e : List Deed) → length (co
 count_continued s [] e = omega arith
 count_continued s (m ∷ moves) e = omega (arith, count_continued s moves (step s e m ∷ e))
 
-pub count_deeds : (s : Setup) (events : List Event) → length (deeds s events) ≡ length events
+pub count_deeds : (s : Setup) (events : List Event) → length (node_deeds s events) ≡ length events
 count_deeds s events = omega (arith, count_continued s (map move_of events) [], length-map events move_of)
 
 -- one event more is one deed more
-pub deeds_more : (s : Setup) (events : List Event) (event : Event) → deeds s (events ++ event ∷ []) ≡ step s (deeds s events) (move_of event) ∷ deeds s events
+pub deeds_more : (s : Setup) (events : List Event) (event : Event) → node_deeds s (events ++ event ∷ []) ≡ step s (node_deeds s events) (move_of event) ∷ node_deeds s events
 deeds_more s events event = ap (run s) (map-append move_of events (event ∷ [])) ∙ run_append s (map move_of events) (move_of event ∷ [])
 
 -- the lines of the first deeds come first
@@ -31,9 +31,9 @@ lines_continued s (m ∷ moves) e =
     let later = lines_continued s moves (step s e m ∷ e) in
     (line ++ later.0, later.1 ∙ append_assoc (deed_lines s e) line later.0)
 
-pub lines_begin : (s : Setup) (events more : List Event) → IsPrefix (deed_lines s (deeds s events)) (deed_lines s (deeds s (events ++ more)))
+pub lines_begin : (s : Setup) (events more : List Event) → IsPrefix (deed_lines s (node_deeds s events)) (deed_lines s (node_deeds s (events ++ more)))
 lines_begin s events more =
-    let later = lines_continued s (map move_of more) (deeds s events) in (
+    let later = lines_continued s (map move_of more) (node_deeds s events) in (
       later.0,
       ap (λ (moves : List Move). deed_lines s (run s moves)) (map-append move_of events more)
           ∙ ap (deed_lines s) (run_append s (map move_of events) (map move_of more))

@@ -26,7 +26,7 @@ use Rattle.end_core.specs.declared.one_end.Core.{Core}
 use Rattle.node_runner.specs.Move.{move_of}
 use Rattle.node_runner.specs.Node.{FitsCore, NodeStands}
 use Rattle.node_runner.specs.Ran.{node_reporting}
-use Rattle.node_runner.specs.Report.{IsSetTo, step_line, deed_line, deed_lines, deeds}
+use Rattle.node_runner.specs.Report.{IsSetTo, step_line, deed_line, deed_lines, node_deeds}
 use Rattle.node_runner.proofs.DeedLines.{count_deeds, deeds_more, lines_begin}
 
 -- a new end that is set to what a header says
@@ -48,7 +48,7 @@ pub node_fits : (end : End) (core : Core) (event : Event) (number : ℕ) → May
 node_fits end core event number may =
     let k = may.stands in
     let said = may.said in
-    subst (λ (s : Setup). FitsEnd (end_of s) (sends s) (profile_of s) event) (sym (setup_is k.setup core (deeds k.setup may.log) k.is_after))
+    subst (λ (s : Setup). FitsEnd (end_of s) (sends s) (profile_of s) event) (sym (setup_is k.setup core (node_deeds k.setup may.log) k.is_after))
     (fits_set end may.heading k.setup event k.set (node_event_fits end may.heading said.0 said.1 event said.2 said.3))
 
 -- an event at an end, which did this and sent this frame, and what is shown after it, as a line
@@ -71,7 +71,7 @@ pub node_goes_on : (end : End) (old new : Core) (event : Event) (number : ℕ) (
 node_goes_on end old new event number did sent state outputs piece r = record {
   takes = λ h log text n k.
       let s : Setup = k.setup in
-      let e : List Deed = deeds s log in
+      let e : List Deed = node_deeds s log in
       let counted : number ≡ length e + 1 = omega (arith, n, count_deeds s log) in
       let line = line_is old new event number did sent state outputs piece r s e counted k.is_after in
       record {
@@ -92,7 +92,7 @@ node_so_far end core h log text k =
     let s : Setup = k.setup in
     record {
       begins = λ n more stop.
-          let lines : List ℕ = deed_lines s (deeds s (log ++ more)) in
+          let lines : List ℕ = deed_lines s (node_deeds s (log ++ more)) in
           let last : List ℕ = last_line (length (log ++ more)) stop in
           let begun = lines_begin s log more in (
             lines ++ last,
@@ -101,7 +101,7 @@ node_so_far end core h log text k =
             (
               begun.0 ++ last,
               ap (λ (z : List ℕ). z ++ last) begun.1
-                  ∙ append_assoc (deed_lines s (deeds s log)) begun.0 last
+                  ∙ append_assoc (deed_lines s (node_deeds s log)) begun.0 last
                   ∙ ap (λ (z : List ℕ). z ++ (begun.0 ++ last)) (sym k.lines),
             ),
           );

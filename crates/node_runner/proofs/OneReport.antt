@@ -13,7 +13,7 @@ use Rattle.schedule_file.specs.declared.header_kind.HeaderKind.TheVariants as ki
 use Rattle.schedule_file.specs.declared.event.Event.{Event}
 use Rattle.end_model.specs.Setup.{Setup, OfMaster, OfSlave}
 use Rattle.file_run.specs.Report.{last_line}
-use Rattle.node_runner.specs.Report.{AreLines, IsReport, IsSetTo, deed_lines, deeds}
+use Rattle.node_runner.specs.Report.{AreLines, IsReport, IsSetTo, deed_lines, node_deeds}
 
 one_setup : (end : End) (h : Heading) (s t : Setup) → IsSetTo end h s → IsSetTo end h t → s ≡ t
 one_setup side.Master h (OfMaster a) (OfMaster b) x y = ap OfMaster (one_master h a b x y)
@@ -32,7 +32,7 @@ header_set side.Slave bytes = IfSome_then (input_of (kind.Node side.Slave) bytes
 
 some_lines : (end : End) (heading : Option Heading) (events : List Event) → IfSome heading (λ h. (s : Setup) × IsSetTo end h s) → (lines : List ℕ) × AreLines end heading events lines
 some_lines end None events set = ([], refl)
-some_lines end (Some h) events set = (deed_lines set.0 (deeds set.0 events), (set.0, set.1, refl))
+some_lines end (Some h) events set = (deed_lines set.0 (node_deeds set.0 events), (set.0, set.1, refl))
 
 pub some_report : (end : End) (bytes : List ℕ) → (report : List ℕ) × IsReport end (input_of (kind.Node end) bytes) report
 some_report end bytes =

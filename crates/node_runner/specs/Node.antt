@@ -9,7 +9,7 @@ use Rattle.end_model.specs.Runs.{profile_of}
 use Rattle.end_core.specs.Core.{setup_of, IsAtRest}
 use Rattle.end_core.specs.Standing.{IsAfter}
 use Rattle.end_core.specs.declared.one_end.Core.{Core}
-use Rattle.node_runner.specs.Report.{IsSetTo, deed_lines, deeds}
+use Rattle.node_runner.specs.Report.{IsSetTo, deed_lines, node_deeds}
 
 -- an event that may come to this end: a put has as many bytes as it sends, and its profile allows a session id
 abbrev pub FitsCore : Core → Event → Type 0
@@ -20,6 +20,6 @@ FitsCore core event = let s = setup_of core in FitsEnd (end_of s) (sends s) (pro
 pub record NodeStands (end : End) (core : Core) (h : Heading) (log : List Event) (text : List ℕ) : Type 0 where
   pub setup : Setup
   pub set : IsSetTo end h setup
-  pub is_after : IsAfter setup core (deeds setup log)
+  pub is_after : IsAfter setup core (node_deeds setup log)
   pub rest : IsAtRest core
-  pub lines : text ≡ deed_lines setup (deeds setup log)
+  pub lines : text ≡ deed_lines setup (node_deeds setup log)

@@ -6,7 +6,7 @@ use Rattle.schedule_file.specs.Header.{Heading}
 use Rattle.schedule_file.specs.Input.{Input, schedule_format}
 use Rattle.schedule_file.specs.declared.event.Event.{Event}
 use Rattle.schedule_file.specs.declared.event.ScheduleLine.{ScheduleLine}
-use Rattle.schedule_file.specs.declared.header_kind.HeaderKind.TheVariants as kind
+use Rattle.schedule_file.specs.declared.header_kind.HeaderKind.TheVariants as header_kind
 use Rattle.file_run.specs.Outside.{Outside}
 use Rattle.file_run.specs.Ran.{RanOver}
 use Rattle.file_run.specs.Reporting.{Reporting, Never, ended_at}
@@ -18,7 +18,7 @@ NodeReports end input ended text = IsReport end input text × (ended ≡ ended_a
 
 -- what a node reports; it takes no memory
 abbrev pub node_reporting : End → Reporting Heading ScheduleLine Event
-node_reporting end = record { format = schedule_format (kind.Node end); judges = false; memory = Never; reports = NodeReports end }
+node_reporting end = record { format = schedule_format (header_kind.Node end); judges = false; memory = Never; reports = NodeReports end }
 
 -- the node at this end ran over an input
 abbrev pub RanNode : End → Ended → Outside → Type 0

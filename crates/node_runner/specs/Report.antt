@@ -30,8 +30,8 @@ deed_lines s [] = []
 deed_lines s (x ∷ e) = deed_lines s e ++ deed_line s e x
 
 -- the deeds of an end that is set so over these events
-abbrev pub deeds : Setup → List Event → List Deed
-deeds s events = run s (map move_of events)
+abbrev pub node_deeds : Setup → List Event → List Deed
+node_deeds s events = run s (map move_of events)
 
 -- an end is set to what a header says of it
 abbrev pub IsSetTo : End → Heading → Setup → Type 0
@@ -43,7 +43,7 @@ IsSetTo side.Slave h (OfMaster ms) = ⊥
 -- the lines of the events at this end, which is set to what the header says; without a whole header there are none
 abbrev pub AreLines : End → Option Heading → List Event → List ℕ → Type 0
 AreLines end None events text = text ≡ []
-AreLines end (Some h) events text = (s : Setup) × IsSetTo end h s × (text ≡ deed_lines s (deeds s events))
+AreLines end (Some h) events text = (s : Setup) × IsSetTo end h s × (text ≡ deed_lines s (node_deeds s events))
 
 -- the report of the node at this end: a line for each event, and a last one, which says how the input stops
 abbrev pub IsReport : End → Input → List ℕ → Type 0

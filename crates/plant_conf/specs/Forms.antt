@@ -13,11 +13,11 @@ use Rattle.fb_lib.specs.declared.kind.BlockKind.TheVariants as kind
 use Rattle.fb_net.specs.declared.wire.Wire.{Wire}
 use Rattle.fb_net.specs.declared.wire.Wire.TheVariants as wire
 use Rattle.param_load.specs.declared.app_rule.AppRule.{AppRule}
-use Rattle.param_load.specs.declared.app_rule.AppRule.TheVariants as rule
+use Rattle.param_load.specs.declared.app_rule.AppRule.TheVariants as app_rule
 use Rattle.schedule_file.specs.Field.{number_said, word_in}
 use Rattle.plant_conf.specs.declared.key.Key.{Key}
 use Rattle.plant_conf.specs.declared.fault.ConfFault.{ConfFault}
-use Rattle.plant_conf.specs.declared.fault.ConfFault.TheVariants as fault
+use Rattle.plant_conf.specs.declared.fault.ConfFault.TheVariants as conf_fault
 use Rattle.schedule_file.specs.Fields.{◌>>=◌, value_or}
 
 -- what a value says at a key, or why not
@@ -27,8 +27,8 @@ Form A = Key → Data → Result A ConfFault
 -- a value of this kind, else `Kind`; and in this form, else `Range`
 abbrev pub formed : {A B : Type 0} → (Data → Option B) → (B → Option A) → Form A
 formed kind form key d = do
-  found ← value_or (fault.Kind key) (kind d)
-  value_or (fault.Range key) (form found)
+  found ← value_or (conf_fault.Kind key) (kind d)
+  value_or (conf_fault.Range key) (form found)
 
 -- a whole number of these
 abbrev pub whole_said : (ℕ → Bool) → ℤ → Option ℕ
@@ -36,8 +36,8 @@ whole_said allowed (pos n) = if allowed n then Some n else None
 whole_said allowed (negsuc n) = None
 
 -- a whole number from `low` to `high`
-unfoldable pub number : ℕ → ℕ → Form ℕ
-number low high = formed as_integer (whole_said (λ n. nat_le low n && nat_le n high))
+unfoldable pub whole_number : ℕ → ℕ → Form ℕ
+whole_number low high = formed as_integer (whole_said (λ n. nat_le low n && nat_le n high))
 
 -- a number of safe data bytes that an end may have
 abbrev pub data_length : Form ℕ
@@ -58,20 +58,20 @@ hex_bytes most = formed as_str (λ t. at_most most (decode_of t))
 
 -- what a rule says of application parameters: any of as many bytes as these, or exactly these
 abbrev pub rule_said : List ℕ → List ℕ → Option AppRule
-rule_said app = word_in ((codes "any", rule.Any (length app)) ∷ (codes "exact", rule.Exact app) ∷ [])
+rule_said app = word_in ((codes "any", app_rule.Any (length app)) ∷ (codes "exact", app_rule.Exact app) ∷ [])
 
-abbrev pub app_rule : List ℕ → Form AppRule
-app_rule app = formed as_str (rule_said app)
+abbrev pub rule_form : List ℕ → Form AppRule
+rule_form app = formed as_str (rule_said app)
 
 -- the kinds of blocks
-abbrev pub kind_said : List ℕ → Option BlockKind
-kind_said = word_in (
+abbrev pub block_kind_said : List ℕ → Option BlockKind
+block_kind_said = word_in (
     (codes "const0", kind.Const0) ∷ (codes "const1", kind.Const1) ∷ (codes "and", kind.And) ∷ (codes "or", kind.Or)
     ∷ (codes "latch", kind.Latch) ∷ (codes "estop", kind.Estop) ∷ (codes "twohand", kind.TwoHand)
     ∷ (codes "ondelay", kind.OnDelay) ∷ (codes "offdelay", kind.OffDelay) ∷ (codes "feedback", kind.Feedback) ∷ [])
 
 abbrev pub block_kind : Form BlockKind
-block_kind = formed as_str kind_said
+block_kind = formed as_str block_kind_said
 
 -- the number of 16 bits that follows these bytes, where a text begins with them
 abbrev pub number_after : List ℕ → List ℕ → Option ℕ

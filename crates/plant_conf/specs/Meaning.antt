@@ -5,7 +5,7 @@ use Rattle.std.specs.Result.{result_unwrap_or}
 use Rattle.toml.specs.Data.{Members}
 use Rattle.toml.specs.Parse.{parse_document}
 use Rattle.plant_conf.specs.declared.fault.ConfFault.{ConfFault}
-use Rattle.plant_conf.specs.declared.fault.ConfFault.TheVariants as fault
+use Rattle.plant_conf.specs.declared.fault.ConfFault.TheVariants as conf_fault
 use Rattle.plant_conf.specs.declared.key.KeyTable.{KeyTable}
 use Rattle.plant_conf.specs.declared.key.KeyTable.TheVariants as table
 use Rattle.plant_conf.specs.ConfView.{ConfValues}
@@ -13,7 +13,7 @@ use Rattle.param_load.specs.SameConn.{same_conn}
 use Rattle.plant_conf.specs.Values.{LinkValues}
 use Rattle.schedule_file.specs.Fields.{◌>>=◌, value_or}
 use Rattle.plant_conf.specs.Forms.{tables}
-use Rattle.plant_conf.specs.Keys.{whole, optional, plant_keys, connection, block, drive, bound}
+use Rattle.plant_conf.specs.Keys.{whole_table, optional, plant_keys, connection, block, drive, bound}
 
 -- what is read of each, numbered from k on
 abbrev pub each : {A B : Type 0} → (ℕ → A → Result B ConfFault) → ℕ → List A → Result (List B) ConfFault
@@ -25,7 +25,7 @@ each read k (x ∷ xs) = do
 
 -- the tables of a name; there may be none
 unfoldable pub tables_of : KeyTable → Members → Result (List Members) ConfFault
-tables_of of document = optional [] tables (whole of) document
+tables_of of document = optional [] tables (whole_table of) document
 
 -- how many tables of a name there are; what is no array of tables counts as none
 unfoldable pub count_of : KeyTable → Members → ℕ
@@ -39,16 +39,16 @@ has_too_many document =
     || nat_lt 16 (count_of table.Bound document)
 
 abbrev pub few_tables : Members → Result (Unit {0}) ConfFault
-few_tables document = if has_too_many document then Err fault.TooMany else Ok tt
+few_tables document = if has_too_many document then Err conf_fault.TooMany else Ok tt
 
 -- at least one connection: an empty array counts as missing
 unfoldable pub some_links : List LinkValues → Result (Unit {0}) ConfFault
-some_links links = if length links == 0 then Err (fault.Missing (whole table.Connection)) else Ok tt
+some_links links = if length links == 0 then Err (conf_fault.Missing (whole_table table.Connection)) else Ok tt
 
 -- what two connections with one id are
 abbrev pub same_ids : Option (ℕ × ℕ) → Result (Unit {0}) ConfFault
 same_ids None = Ok tt
-same_ids (Some p) = Err (fault.SameConn p.0 p.1)
+same_ids (Some p) = Err (conf_fault.SameConn p.0 p.1)
 
 -- no two connections have one id
 unfoldable pub apart : List LinkValues → Result (Unit {0}) ConfFault
@@ -84,10 +84,10 @@ document_meaning document = do
 -- what a text means: `Syntax` where it is no TOML document
 abbrev pub text_meaning : List ℕ → Result ConfValues ConfFault
 text_meaning text = do
-  document ← value_or fault.Syntax (parse_document text)
+  document ← value_or conf_fault.Syntax (parse_document text)
   document_meaning document
 
 -- what bytes mean: `Syntax` where they are no UTF-8
 pub record Means (bytes : List ℕ) (said : Result ConfValues ConfFault) : Type 0 where
   pub text : IsUtf8 bytes → said ≡ text_meaning bytes
-  pub no_text : ¬ IsUtf8 bytes → said ≡ Err fault.Syntax
+  pub no_text : ¬ IsUtf8 bytes → said ≡ Err conf_fault.Syntax

@@ -1,5 +1,5 @@
 //! The keys of a table: each is there or not, is of a kind, and in its range or its form.
-#![tactic(auto, unfolding(crate::specs::Keys::required, crate::specs::Keys::optional, crate::specs::Forms::number, crate::specs::Forms::hex_bytes))]
+#![tactic(auto, unfolding(crate::specs::Keys::required, crate::specs::Keys::optional, crate::specs::Forms::whole_number, crate::specs::Forms::hex_bytes))]
 
 ghost use Rattle.std.specs.Prelude.{◌≡◌, ◌≢◌, ◌≤◌, ◌-◌, ◌^◌, IsTrue, IfOk, IfErr, option_map, string_bytes, length, []};
 ghost use Rattle.fsoe_base.specs.Lengths.{is_length};
@@ -9,7 +9,7 @@ ghost use Rattle.schedule_file.specs.Fields.{value_or};
 ghost use Rattle.std.specs.Result.{result_map_both};
 ghost use Rattle.toml.specs.View.{view, table_view};
 ghost use Rattle.plant_conf.specs.declared.fault.ConfFault.TheVariants as fault;
-ghost use Rattle.plant_conf.specs.Forms.{number, data_length, text, hex_bytes, app_rule, block_kind, bit_after, one_table, one_wire};
+ghost use Rattle.plant_conf.specs.Forms.{whole_number, data_length, text, hex_bytes, rule_form, block_kind, bit_after, one_table, one_wire};
 ghost use Rattle.plant_conf.specs.Keys.{value_at, required, optional};
 
 use crate::fault::ConfFault;
@@ -46,7 +46,7 @@ pub(crate) fn required_table(table: &Table, key: Key) -> Result<&Table, ConfFaul
 
 /// A whole number from `low` to `high`.
 fn number(value: &Value, key: Key, low: u64, high: u64) -> Result<u64, ConfFault>
-    ensures value { result ≡ number low high key (view value.now) }
+    ensures value { result ≡ whole_number low high key (view value.now) }
     ensures low { IfOk result (λ n. low ≤ n) }
     ensures high { IfOk result (λ n. n ≤ high) }
 {
@@ -59,7 +59,7 @@ fn number(value: &Value, key: Key, low: u64, high: u64) -> Result<u64, ConfFault
 
 /// A number of 16 bits that is at least `low`.
 fn number_16(value: &Value, key: Key, low: u16) -> Result<u16, ConfFault>
-    ensures value { result ≡ number low 65535 key (view value.now) }
+    ensures value { result ≡ whole_number low 65535 key (view value.now) }
     ensures low { IfOk result (λ n. low ≤ n) }
 {
     let n = number(value, key, u64::from(low), 65_535)?;
@@ -68,7 +68,7 @@ fn number_16(value: &Value, key: Key, low: u16) -> Result<u16, ConfFault>
 
 /// A number of 16 bits that has to be there, and is at least `low`.
 pub(crate) fn required_number(table: &Table, key: Key, low: u16) -> Result<u16, ConfFault>
-    ensures value { result ≡ required (number low 65535) key (table_view table.now) }
+    ensures value { result ≡ required (whole_number low 65535) key (table_view table.now) }
     ensures low { IfOk result (λ n. low ≤ n) }
 {
     number_16(required(table, key)?, key, low)
@@ -82,7 +82,7 @@ pub(crate) fn optional_number(
     default: u16,
 ) -> Result<u16, ConfFault>
     requires { low ≤ default }
-    ensures value { result ≡ optional default (number low 65535) key (table_view table.now) }
+    ensures value { result ≡ optional default (whole_number low 65535) key (table_view table.now) }
     ensures low { IfOk result (λ n. low ≤ n) }
 {
     match find(table, key) {
@@ -93,7 +93,7 @@ pub(crate) fn optional_number(
 
 /// A seed, or 0.
 pub(crate) fn optional_seed(table: &Table, key: Key) -> Result<u64, ConfFault>
-    ensures { result ≡ optional 0 (number 0 (2 ^ 63 - 1)) key (table_view table.now) }
+    ensures { result ≡ optional 0 (whole_number 0 (2 ^ 63 - 1)) key (table_view table.now) }
 {
     match find(table, key) {
         Some(value) => number(value, key, 0, i64::MAX as u64),
@@ -140,7 +140,7 @@ pub(crate) fn optional_bytes(table: &Table, key: Key) -> Result<AppBytes, ConfFa
 
 /// A rule for application parameters, which are these; any of their number where there is none.
 pub(crate) fn optional_rule(table: &Table, key: Key, app: &AppBytes) -> Result<AppRule, ConfFault>
-    ensures value { result ≡ optional (rule.Any (length app.now)) (app_rule app.now) key (table_view table.now) }
+    ensures value { result ≡ optional (rule.Any (length app.now)) (rule_form app.now) key (table_view table.now) }
     ensures acceptable { IfOk result (λ r. IsTrue (is_acceptable r)) }
 {
     let Some(value) = find(table, key) else {

@@ -1,6 +1,6 @@
 //! The keys of a plant's configuration.
 ghost use Rattle.std.specs.Prelude.{◌≡◌, ◌≤◌, ◌+◌, ◌++◌, length};
-ghost use Rattle.plant_conf.specs.Keys.{whole};
+ghost use Rattle.plant_conf.specs.Keys.{whole_table};
 ghost use Rattle.plant_conf.specs.declared.key.KeyName.TheVariants as name;
 ghost use Rattle.plant_conf.specs.Names.{key_word, key_text};
 
@@ -63,7 +63,7 @@ pub struct Key {
 
 /// A table as a whole.
 pub(crate) fn whole(table: KeyTable) -> Key
-    ensures { result ≡ whole table }
+    ensures { result ≡ whole_table table }
 {
     Key {
         table,
@@ -77,7 +77,7 @@ impl Key {
     pub fn word(self) -> &'static str
         ensures text { result.now ≡ key_word self.name self.table }
         ensures most { length result.now ≤ 13 }
-        ensures whole { self.name ≡ name.Whole → length result.now ≤ 10 }
+        ensures whole_table { self.name ≡ name.Whole → length result.now ≤ 10 }
     {
         match self.name {
             KeyName::Whole => match self.table {

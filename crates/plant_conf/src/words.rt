@@ -4,7 +4,7 @@ ghost use Rattle.std.specs.List.{after_first, before_first};
 ghost use Rattle.hex.specs.Hex.{decode_of};
 ghost use Rattle.param_load.specs.AppRule.{is_acceptable};
 ghost use Rattle.schedule_file.specs.Field.{number_said};
-ghost use Rattle.plant_conf.specs.Forms.{is_dot, number_after, bit_said, wire_said, kind_said, rule_said, at_most};
+ghost use Rattle.plant_conf.specs.Forms.{is_dot, number_after, bit_said, wire_said, block_kind_said, rule_said, at_most};
 
 use failsafe_io::Bit;
 use fb_lib::BlockKind;
@@ -76,7 +76,7 @@ pub(crate) fn wire(text: &[u8]) -> Option<Wire>
 
 /// The kind of a block.
 pub(crate) fn kind(text: &[u8]) -> Option<BlockKind>
-    ensures { result ≡ kind_said text.now }
+    ensures { result ≡ block_kind_said text.now }
 {
     find_word(&KINDS, text)
 }

@@ -1,5 +1,5 @@
 -- What the slaves and the masters of all connections do in a tick, and what is pushed then.
-use Rattle.plant_core.proofs.Common.{Acted, All-cons, All-drop, All-head, All-nil, All-tail, All-weaker, AreNoted, Change, Did, EachActs, EachLink, End, Entry, Fixed, IsNumber, IsPlant, IsSome, IsSomeAnd, Lengths, LinkConf, LinkIs, LinkStands, LinkView, MultiValue, NotesOne, Placed, Told, Trace, Use, all_at, append-nil, drop-set-lt, drop_more, each_uses, fixed_in, fixed_of, get_or_from_slice_get, lengths_at, length-set, lengths_kept, map_set, place_of, placed, same_length, sent_uses, slice_get-map, slice_get_read, slice_get_within, take_all, take_more_set}
+use Rattle.plant_core.proofs.Common.{Acted, All-cons, All-drop, All-head, All-nil, All-tail, All-weaker, AreNoted, Change, Did, EachActs, EachLink, End, Entry, Fixed, IsNumber, IsPlant, IsSome, IsSomeAnd, Lengths, LinkConf, LinkIs, LinkStands, LinkView, MultiValue, NotesOne, Placed, ChannelTold, Trace, Use, all_at, append-nil, drop-set-lt, drop_more, each_uses, fixed_in, fixed_of, get_or_from_slice_get, lengths_at, length-set, lengths_kept, map_set, place_of, placed, same_length, sent_uses, slice_get-map, slice_get_read, slice_get_within, take_all, take_more_set}
 use Rattle.std.proofs.Common.{◌≡◌, ◌≤◌, ℕ, zero, suc, ◌+◌, ◌-◌, ◌*◌, ◌<◌, ◌^◌, Bool, List, [], ◌∷◌, ◌++◌, take, drop, get_or, length, slice_get, slice_index_or, slice_set, Option, Some, option_map, refl, sym, ap, ap₂, subst, ◌∙◌, append_assoc, arith}
 use Rattle.std.proofs.lemmas.List.{drop_all}
 use Rattle.std.proofs.lemmas.List.Elements.{All-set}
@@ -10,27 +10,27 @@ abbrev pub one_each : (ℕ → LinkConf → Entry) → (ℕ → LinkConf → Lis
 one_each next done k link = next k link ∷ done k link
 
 -- one trace after another
-pub trace_append : (xs ys : List Use) (a b c : Told) → Trace xs a b → Trace ys b c → Trace (xs ++ ys) a c
-trace_append [] ys a b c t u = subst (λ (z : Told). Trace ys z c) (sym t) u
+pub trace_append : (xs ys : List Use) (a b c : ChannelTold) → Trace xs a b → Trace ys b c → Trace (xs ++ ys) a c
+trace_append [] ys a b c t u = subst (λ (z : ChannelTold). Trace ys z c) (sym t) u
 trace_append (x ∷ xs) ys a b c t u = (t.0, t.1, trace_append xs ys t.0 b c t.2 u)
 
 -- each connection up to a place acted, and the others are as they were: with what these become, all acted
-pub record EachTo (Acts : Change) (i : ℕ) (old new : List LinkView) (before after : Told) : Type 0 where
-  pub acted : (rest : List LinkView) (last : Told) → EachActs Acts i (drop i old) rest after last → EachActs Acts 0 old (take i new ++ rest) before last
+pub record EachTo (Acts : Change) (i : ℕ) (old new : List LinkView) (before after : ChannelTold) : Type 0 where
+  pub acted : (rest : List LinkView) (last : ChannelTold) → EachActs Acts i (drop i old) rest after last → EachActs Acts 0 old (take i new ++ rest) before last
   pub left : drop i new ≡ drop i old
   pub count : length new ≡ length old
 
-pub each_begun : (Acts : Change) (vs : List LinkView) (t : Told) → EachTo Acts 0 vs vs t t
+pub each_begun : (Acts : Change) (vs : List LinkView) (t : ChannelTold) → EachTo Acts 0 vs vs t t
 each_begun Acts vs t = record { acted = λ rest last h. h; left = refl; count = refl }
 
 -- what is left from a place on
 pub next_left : {X : Type 0} (xs : List X) (i : ℕ) (x : X) → slice_get xs i ≡ Some x → drop i xs ≡ x ∷ drop (i + 1) xs
 next_left xs i x at = drop_more xs i x (slice_get_within xs i x at) ∙ ap (λ z. z ∷ drop (i + 1) xs) (get_or_from_slice_get xs i x x at)
 
-pub still_there : (Acts : Change) (i : ℕ) (old new : List LinkView) (before after : Told) (v : LinkView) → EachTo Acts i old new before after → slice_get new i ≡ Some v → drop i old ≡ v ∷ drop (i + 1) new
+pub still_there : (Acts : Change) (i : ℕ) (old new : List LinkView) (before after : ChannelTold) (v : LinkView) → EachTo Acts i old new before after → slice_get new i ≡ Some v → drop i old ≡ v ∷ drop (i + 1) new
 still_there Acts i old new before after v g at = sym g.left ∙ next_left new i v at
 
-pub each_more : (Acts : Change) (i : ℕ) (first vs : List LinkView) (old new : LinkView) (start before after : Told) → EachTo Acts i first vs start before → i < length vs → old ≡ get_or vs i old → Acts i old new before after
+pub each_more : (Acts : Change) (i : ℕ) (first vs : List LinkView) (old new : LinkView) (start before after : ChannelTold) → EachTo Acts i first vs start before → i < length vs → old ≡ get_or vs i old → Acts i old new before after
     → EachTo Acts (i + 1) first (slice_set vs i new) start after
 each_more Acts i first vs old new start before after g within read acts =
     let at = slice_get_read vs (length vs) i old refl within read in
@@ -46,12 +46,12 @@ each_more Acts i first vs old new start before after g within read acts =
       count = length-set vs i new ∙ g.count;
     }
 
-pub each_acted : (Acts : Change) (i : ℕ) (old new : List LinkView) (before after : Told) → EachTo Acts i old new before after → length old ≤ i → EachActs Acts 0 old new before after
+pub each_acted : (Acts : Change) (i : ℕ) (old new : List LinkView) (before after : ChannelTold) → EachTo Acts i old new before after → length old ≤ i → EachActs Acts 0 old new before after
 each_acted Acts i old new before after g past =
     rw (take_all i new (omega (arith, g.count)), append-nil new) at (g.acted [] after (rw (drop_all i old past) refl))
 
 -- the place that comes next has room for an entry more
-pub next_few : (Acts : Change) (i : ℕ) (old new : List LinkView) (before after : Told) (v : LinkView) → EachTo Acts i old new before after → AreNoted (2 ^ 64 - 2) old → i < length new → v ≡ get_or new i v
+pub next_few : (Acts : Change) (i : ℕ) (old new : List LinkView) (before after : ChannelTold) (v : LinkView) → EachTo Acts i old new before after → AreNoted (2 ^ 64 - 2) old → i < length new → v ≡ get_or new i v
     → v.monitor.noted + 1 < 2 ^ 64
 next_few Acts i old new before after v g few within read =
     let at = slice_get_read new (length new) i v refl within read in
@@ -59,7 +59,7 @@ next_few Acts i old new before after v g few within read =
     omega arith
 
 -- what was noted with each, and what stays of it
-pub each_noted : (Acts : Change) (place most more : ℕ) (old new : List LinkView) (before after : Told) → ((n : ℕ) (v w : LinkView) (t u : Told) → Acts n v w t u → NotesOne v w) → EachActs Acts place old new before after
+pub each_noted : (Acts : Change) (place most more : ℕ) (old new : List LinkView) (before after : ChannelTold) → ((n : ℕ) (v w : LinkView) (t u : ChannelTold) → Acts n v w t u → NotesOne v w) → EachActs Acts place old new before after
     → most < more → AreNoted most old → AreNoted more new
 each_noted Acts place most more [] [] before after f h le few = All-nil (λ (z : LinkView). z.monitor.noted ≤ more)
 each_noted Acts place most more (v ∷ old) (w ∷ new) before after f h le few =
@@ -68,16 +68,16 @@ each_noted Acts place most more (v ∷ old) (w ∷ new) before after f h le few 
     All-cons (λ (z : LinkView). z.monitor.noted ≤ more) w new (omega arith) (each_noted Acts (suc place) most more old new h.0 after f h.2 le (All-tail (λ (z : LinkView). z.monitor.noted ≤ most) v old few))
 each_noted Acts place most more _ _ before after f h le few = absurd h
 
-pub each_fixed : (Acts : Change) (place : ℕ) (old new : List LinkView) (before after : Told) → ((n : ℕ) (v w : LinkView) (t u : Told) → Acts n v w t u → NotesOne v w) → EachActs Acts place old new before after
+pub each_fixed : (Acts : Change) (place : ℕ) (old new : List LinkView) (before after : ChannelTold) → ((n : ℕ) (v w : LinkView) (t u : ChannelTold) → Acts n v w t u → NotesOne v w) → EachActs Acts place old new before after
     → fixed_in new ≡ fixed_in old
 each_fixed Acts place [] [] before after f h = refl
 each_fixed Acts place (v ∷ old) (w ∷ new) before after f h = ap₂ (λ (x : Fixed) (xs : List Fixed). x ∷ xs) (f place v w before h.0 h.1).fixed (each_fixed Acts (suc place) old new h.0 after f h.2)
 each_fixed Acts place _ _ before after f h = absurd h
 
 -- each connection has one entry more, and its frame was pushed to this end
-pub all_acted : (Acts : Change) (to : End) (place : ℕ) (links : List LinkConf) (cut : ℕ → Bool) (done : ℕ → LinkConf → List Entry) (next : ℕ → LinkConf → Entry) (old new : List LinkView) (before after : Told)
-    → EachActs Acts place old new before after → EachLink (LinkIs cut done) (suc place) links old → ((n : ℕ) (v w : LinkView) (t u : Told) → Acts n v w t u → NotesOne v w)
-    → ((i n : ℕ) (link : LinkConf) (v w : LinkView) (t u : Told) → slice_get links i ≡ Some link → n ≡ place + i → Acts n v w t u → LinkStands link v (done (suc n) link) → Acted (suc n) to link (next (suc n) link) (done (suc n) link) v w t u)
+pub all_acted : (Acts : Change) (to : End) (place : ℕ) (links : List LinkConf) (cut : ℕ → Bool) (done : ℕ → LinkConf → List Entry) (next : ℕ → LinkConf → Entry) (old new : List LinkView) (before after : ChannelTold)
+    → EachActs Acts place old new before after → EachLink (LinkIs cut done) (suc place) links old → ((n : ℕ) (v w : LinkView) (t u : ChannelTold) → Acts n v w t u → NotesOne v w)
+    → ((i n : ℕ) (link : LinkConf) (v w : LinkView) (t u : ChannelTold) → slice_get links i ≡ Some link → n ≡ place + i → Acts n v w t u → LinkStands link v (done (suc n) link) → Acted (suc n) to link (next (suc n) link) (done (suc n) link) v w t u)
     → EachLink (LinkIs cut (one_each next done)) (suc place) links new × Trace (each_uses (λ k link. sent_uses (place_of k to) (next k link).sent (cut k)) (suc place) links) before after
 all_acted Acts to place [] cut done next [] [] before after h p notes f = (tt, h)
 all_acted Acts to place (link ∷ links) cut done next (v ∷ old) (w ∷ new) before after h p notes f =

@@ -1,5 +1,5 @@
 -- The names that more than one file of these proofs cites, passed on from one place. Declares nothing.
-pub use Rattle.black_channel.specs.Told.{Begins, PullsParcel, Told}
+pub use Rattle.black_channel.specs.Told.{Begins, PullsParcel, ChannelTold}
 pub use Rattle.black_channel.specs.declared.channel.Parcel.{Parcel}
 pub use Rattle.end_model.specs.Deed.{Deed, delivered}
 pub use Rattle.end_model.specs.Outputs.{out}
@@ -18,7 +18,7 @@ pub use Rattle.fsoe_base.specs.declared.did.Did.{Did}
 pub use Rattle.fsoe_base.specs.declared.lengths.Lengths.{Lengths}
 pub use Rattle.multi_master.proofs.Keeping.{written_back}
 pub use Rattle.multi_master.proofs.Places.{Placed, all_at, map_set, placed, same_length, some_at}
-pub use Rattle.multi_master.specs.Calls.{AppView, Call, ChangeApp, Deliver, IsSound, Meant, Nonce, Tick, changed_by, changed_from, connection, meant}
+pub use Rattle.multi_master.specs.Calls.{AppView, Call, ChangeApp, Deliver, IsSound, Meant, Nonce, Tick, changed_by, changed_from, numbered_connection, meant}
 pub use Rattle.multi_master.specs.Connection.{Connection, is_offer, next_deed, offer_at, setup}
 pub use Rattle.multi_master.specs.Standing.{AllSound, AnswersFrame, AnswersTick, IsNumber, IsWhere, MultiValue, MultiView, ShowsApp, ShowsAt, ShowsChanged, StandsFor, changed, newest_at, numbers_of, seen}
 pub use Rattle.param_load.specs.declared.entry.Entry.{Entry}
@@ -32,10 +32,10 @@ pub use Rattle.plant_core.specs.Standing.{AllNoted, AreNoted, EachLink, HasDone,
 pub use Rattle.plant_model.proofs.Growing.{IsOne, each_none, each_one, no_entry, not_same, pair_more, pair_one, pair_other, pair_own, pushes_each, sent_in, with_frame}
 pub use Rattle.plant_model.proofs.Masters.{master_with, mastered, offers_by}
 pub use Rattle.plant_model.specs.Acts.{Act, App, Beginning, Event, Happen, PullFrom, Said, Start, all_pushes, call_of, calls, delivery_call, is_cut, journal, line_step, masters, offer_step, offers, pushes_of, settings, steps_of, uses_after, uses_of}
-pub use Rattle.plant_model.specs.Bound.{Reacts, is_guarded, is_off, slave_offers}
+pub use Rattle.plant_model.specs.Bound.{Reacts, is_drive_guarded, is_off, slave_offers}
 pub use Rattle.plant_model.specs.Fits.{Fits, lengths_at, lengths_in}
 pub use Rattle.plant_model.specs.Gifts.{each_uses, place_of, sent_uses}
-pub use Rattle.plant_model.specs.Pair.{link_at, lowest_other, next_of, outputs_at, pair, pairs_by, pulls_after}
+pub use Rattle.plant_model.specs.Pair.{link_at, lowest_other, next_of, end_outputs, pair, pairs_by, pulls_after}
 pub use Rattle.plant_model.specs.Uses.{Trace, Use}
 pub use Rattle.plant_model.specs.declared.event.PlantEvent.{PlantEvent}
 pub use Rattle.plant_model.specs.declared.journal.JournalStep.{JournalStep}

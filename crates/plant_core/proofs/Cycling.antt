@@ -1,5 +1,5 @@
 -- Acts that run a cycle: the offers that it changed are noted with them.
-use Rattle.plant_core.proofs.Common.{Act, AnswersFrame, AnswersTick, App, AppView, Beginning, Call, ChangeApp, Connection, Deed, Deliver, Delivers, Did, Done, EachActs, End, Entry, Event, GoesOn, Happen, HasAgeParts, HasDone, HasWatchdog, IsNoted, IsOne, JournalStep, LinkConf, LinkIs, LinkStands, LinkView, LinksAre, MasterTicked, Meant, MultiView, OfMaster, OffersNoted, Parcel, Placed, PlantView, PullFrom, Said, Setup, ShowsAt, SlaveTicks, StandsFor, Tick, Told, Trace, Use, all_pushes, call_of, calls, connection, deed_in, deeds, delivery_call, each_uses, fixed_in, frames_of, is_cut, journal, line_step, link_at, master_with, mastered, masters, meant, newest_at, next_deed, next_entry, next_of, no_entry, offers, offers_by, option_to_list, pair, pair_more, pair_own, pairs_by, place_of, pushes_each, sent_uses, settings, setup, slice_get-map, told_terms, watchdog_in}
+use Rattle.plant_core.proofs.Common.{Act, AnswersFrame, AnswersTick, App, AppView, Beginning, Call, ChangeApp, Connection, Deed, Deliver, Delivers, Did, Done, EachActs, End, Entry, Event, GoesOn, Happen, HasAgeParts, HasDone, HasWatchdog, IsNoted, IsOne, JournalStep, LinkConf, LinkIs, LinkStands, LinkView, LinksAre, MasterTicked, Meant, MultiView, OfMaster, OffersNoted, Parcel, Placed, PlantView, PullFrom, Said, Setup, ShowsAt, SlaveTicks, StandsFor, Tick, ChannelTold, Trace, Use, all_pushes, call_of, calls, numbered_connection, deed_in, deeds, delivery_call, each_uses, fixed_in, frames_of, is_cut, journal, line_step, link_at, master_with, mastered, masters, meant, newest_at, next_deed, next_entry, next_of, no_entry, offers, offers_by, option_to_list, pair, pair_more, pair_own, pairs_by, place_of, pushes_each, sent_uses, settings, setup, slice_get-map, told_terms, watchdog_in}
 use Rattle.std.proofs.Common.{false, true, ◌≡◌, ℕ, suc, Bool, List, [], ◌∷◌, ◌++◌, slice_get, slice_set, Option, Some, None, option_map, map, refl, sym, ap, ap₂, subst, ◌∙◌, append_assoc, arith, rules}
 use Rattle.fsoe_base.specs.declared.command.End.TheVariants as side
 use Rattle.param_load.specs.declared.terms.Terms.{Terms}
@@ -17,7 +17,7 @@ use Rattle.plant_core.proofs.Readers.{told_by}
 
 -- a line of the script that runs a cycle: its step is noted and done first, and then the offers that the cycle changed,
 -- with which nothing is sent
-cycled : (b : Beginning) (said : Said) (done : List Act) (call : Call) (old new : PlantView) (mid : List LinkView) (before after : Told) → HasDone b old done → call_of b (Happen said) ≡ Some call → multi.Follows old.master call new.master
+cycled : (b : Beginning) (said : Said) (done : List Act) (call : Call) (old new : PlantView) (mid : List LinkView) (before after : ChannelTold) → HasDone b old done → call_of b (Happen said) ≡ Some call → multi.Follows old.master call new.master
     → OffersNoted new.master mid new.links (old.journal ++ line_step said ∷ []) new.journal → LinksAre b.links (λ k. is_cut k (Happen said ∷ done)) (pairs_by (old.journal ++ line_step said ∷ [])) mid
     → (((at : End) (k : ℕ) (link : LinkConf) → frames_of at (pair link k new.journal) ≡ frames_of at (pair link k (old.journal ++ line_step said ∷ [])))
     → Trace (all_pushes b.links (λ k. is_cut k (Happen said ∷ done)) old.journal new.journal) before after) → Done b done (Happen said ∷ []) new before after
@@ -74,7 +74,7 @@ tick_pushes links cut steps now quiet =
     (pushes_each side.Master 1 links cut steps now (λ k link. (master_next steps k link).sent) (λ k link from below. quiet side.Master k link ∙ ap (frames_of side.Master) (ticked link k steps)))
 
 -- a tick
-pub tick_goes : (old new : PlantView) (mid late : List LinkView) (dids : List Did) (frames : List (List ℕ)) (before between after : Told) → EachActs SlaveTicks 0 old.links mid before between → multi.Follows old.master Tick new.master
+pub tick_goes : (old new : PlantView) (mid late : List LinkView) (dids : List Did) (frames : List (List ℕ)) (before between after : ChannelTold) → EachActs SlaveTicks 0 old.links mid before between → multi.Follows old.master Tick new.master
     → AnswersTick old.master dids frames → EachActs (MasterTicked dids frames) 0 mid late between after → OffersNoted new.master late new.links (old.journal ++ step.Script event.Tick ∷ []) new.journal
     → GoesOn old (Happen (Event event.Tick) ∷ []) new before after
 tick_goes old new mid late dids frames before between after slaves follows answers masters offers = record {
@@ -100,7 +100,7 @@ tick_goes old new mid late dids frames before between after slaves follows answe
 }
 
 -- another application
-pub app_goes : (old new : PlantView) (app : AppView) (t : Told) → multi.Follows old.master (ChangeApp app) new.master → OffersNoted new.master old.links new.links (old.journal ++ step.App ∷ []) new.journal
+pub app_goes : (old new : PlantView) (app : AppView) (t : ChannelTold) → multi.Follows old.master (ChangeApp app) new.master → OffersNoted new.master old.links new.links (old.journal ++ step.App ∷ []) new.journal
     → GoesOn old (Happen (App app) ∷ []) new t t
 app_goes old new app t follows offers = record {
   fixed = offers.fixed;
@@ -114,14 +114,14 @@ app_goes old new app t follows offers = record {
 }
 
 -- the newest deed of a connection
-newest_of : (m : Meant) (n : ℕ) (c : Connection) (x : Deed) (e : List Deed) (y : Deed) → connection n m ≡ Some c → c.deeds ≡ x ∷ e → newest_at n m ≡ Some y → x ≡ y
+newest_of : (m : Meant) (n : ℕ) (c : Connection) (x : Deed) (e : List Deed) (y : Deed) → numbered_connection n m ≡ Some c → c.deeds ≡ x ∷ e → newest_at n m ≡ Some y → x ≡ y
 newest_of m n c x e y h k l = grind arith
 
 -- the entry of the master has the parts that its call told
 frame_parts : (b : Beginning) (done : List Act) (old : MultiView) (parcel : Parcel) (n place : ℕ) (frame : List ℕ) (did : Did) (sent : List ℕ) (terms : Option Terms) (link : LinkConf) (steps : List JournalStep) → IsOne (step.Pulled parcel) n side.Master (move.Deliver frame) → n ≡ suc place → slice_get b.links place ≡ Some link
     → call_of b (PullFrom (Some parcel)) ≡ Some (Deliver n frame)
     → StandsFor (settings b) b.app old (calls b done) → AnswersFrame old n frame did sent
-    → option_map (λ (c : Connection). told_terms (setup c) c.deeds) (connection n (meant (settings b) b.app (Deliver n frame ∷ calls b done))) ≡ Some terms
+    → option_map (λ (c : Connection). told_terms (setup c) c.deeds) (numbered_connection n (meant (settings b) b.app (Deliver n frame ∷ calls b done))) ≡ Some terms
     → journal b (PullFrom (Some parcel) ∷ done) ≡ steps ++ step.Pulled parcel ∷ []
     → HasAgeParts (next_of side.Master (move.Deliver frame) link (pair link n steps)) side.Master false frame did sent (watchdog_in terms)
 frame_parts b done old parcel n place frame did sent terms link steps one e is call h answers told journal_is =
@@ -132,9 +132,9 @@ frame_parts b done old parcel n place frame did sent terms link steps one e is c
     let deeds_are : c.deeds ≡ deed_in x ∷ deeds side.Master (pair link n steps) = search (rules, pair) in
     let m : Meant = meant (settings b) b.app (Deliver n frame ∷ calls b done) in
     let meant_is : masters b (act ∷ done) ≡ m = ap (λ (o : Option Call). meant (settings b) b.app (option_to_list o ++ calls b done)) call in
-    let there : connection n m ≡ Some c = ap₂ connection e (sym meant_is) ∙ mastered b (act ∷ done) place link is in
+    let there : numbered_connection n m ≡ Some c = ap₂ numbered_connection e (sym meant_is) ∙ mastered b (act ∷ done) place link is in
     let same = newest_of m n c (deed_in x) (deeds side.Master (pair link n steps)) (record { what = move.Deliver frame; did = did; sent = sent }) there deeds_are (answers.answers (settings b) b.app (calls b done) h) in
-    let told_so = told_by terms told_terms (connection n m) c there told ∙ ap (told_terms (OfMaster link.master)) deeds_are in
+    let told_so = told_by terms told_terms (numbered_connection n m) c there told ∙ ap (told_terms (OfMaster link.master)) deeds_are in
     record {
       parts = record { end_is = refl; came_is = refl; did_is = ap (λ (z : Deed). z.did) same; sent_is = ap (λ (z : Deed). z.sent) same };
       tick_is = refl;
@@ -142,7 +142,7 @@ frame_parts b done old parcel n place frame did sent terms link steps one e is c
     }
 
 -- a parcel for the master of a connection
-pub master_delivered : (old new : PlantView) (to : Place) (place : ℕ) (frame : List ℕ) (mid : List LinkView) (js : List JournalStep) (did : Did) (sent : List ℕ) (terms : Option Terms) (was is : LinkView) (before after : Told) → to.end ≡ side.Master
+pub master_delivered : (old new : PlantView) (to : Place) (place : ℕ) (frame : List ℕ) (mid : List LinkView) (js : List JournalStep) (did : Did) (sent : List ℕ) (terms : Option Terms) (was is : LinkView) (before after : ChannelTold) → to.end ≡ side.Master
     → multi.Follows old.master (Deliver to.link frame) new.master → AnswersFrame old.master to.link frame did sent → ShowsAt new.master to.link terms (λ c. told_terms (setup c) c.deeds) → OffersNoted new.master old.links mid old.journal js
     → Placed mid to.link place was → IsNoted side.Master false frame did sent (watchdog_in terms) was is → Trace (sent_uses (place_of to.link side.Slave) sent was.cut) before after → new.links ≡ slice_set mid place is
     → new.journal ≡ js ++ step.Pulled (record { to = to; frame = frame }) ∷ [] → Delivers old (record { to = to; frame = frame }) new before after

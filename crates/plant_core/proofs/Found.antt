@@ -1,5 +1,5 @@
 -- What a plant shows by the number of a connection, which may not exist.
-use Rattle.plant_core.proofs.Common.{Act, Beginning, BoundSpec, EachLink, End, Entry, IfSome, LinkConf, LinkIs, LinkStands, LinkView, PlantStands, PlantView, Shows, ShowsApp, ShowsOn, ShowsWorst, TellsStill, Unset, bit_of, calls, deeds, is_cut, is_guarded, journal, kept_at, link_at, next_offered, of_end, offers_bit, option_copied, option_map_or, out, outputs_at, pair, pairs_by, settings, slice_get_past, slice_get_read}
+use Rattle.plant_core.proofs.Common.{Act, Beginning, BoundSpec, EachLink, End, Entry, IfSome, LinkConf, LinkIs, LinkStands, LinkView, PlantStands, PlantView, Shows, ShowsApp, ShowsOn, ShowsWorst, TellsStill, Unset, bit_of, calls, deeds, is_cut, is_drive_guarded, journal, kept_at, link_at, next_offered, of_end, offers_bit, option_copied, option_map_or, out, end_outputs, pair, pairs_by, settings, slice_get_past, slice_get_read}
 use Rattle.std.proofs.Common.{Bor, ◌≡◌, ◌≤◌, ◌-◌, ◌&&◌, ℕ, zero, suc, Bool, false, not, List, [], ◌∷◌, slice_get, Option, Some, None, refl, sym, ap, ◌∙◌, arith, rules}
 use Rattle.std.specs.Slice.{IsItemAt}
 use Rattle.fsoe_base.specs.declared.command.End.TheVariants as side
@@ -57,7 +57,7 @@ no_worst v k end at = record { shows = other_shown v k None _ (sym at) }
 
 pub on_shown : (v : PlantView) (bit : Bit) (l : LinkView) (outputs : List ℕ) (shown : Bool) → Some l ≡ kept_at v.links bit.link → Shows l.slave outputs out → shown ≡ bit_of outputs bit.bit → ShowsOn v bit shown
 on_shown v bit l outputs shown at s e = record {
-  shows = shown_of v bit.link l shown false (λ link w. bit_of (outputs_at link side.Slave w) bit.bit) at (λ link w h. e ∙ ap (λ (z : List ℕ). bit_of z bit.bit) (s.shows link.slave (deeds side.Slave w) h.slave));
+  shows = shown_of v bit.link l shown false (λ link w. bit_of (end_outputs link side.Slave w) bit.bit) at (λ link w h. e ∙ ap (λ (z : List ℕ). bit_of z bit.bit) (s.shows link.slave (deeds side.Slave w) h.slave));
 }
 
 pub not_on : (v : PlantView) (bit : Bit) → None ≡ kept_at v.links bit.link → ShowsOn v bit false
@@ -68,5 +68,5 @@ pub still_without : (v : PlantView) (bound : BoundSpec) (guarded : Bool) → Non
 still_without v bound guarded none s = record {
   tells = λ b acts h.
       s.shows (settings b) b.app (calls b acts) h.has_done.master
-      ∙ sym (ap (λ (o : Option LinkConf). not (offers_bit bound.estop.bit (option_map_or (λ link. next_offered (of_end side.Slave (pair link bound.estop.link (journal b acts)))) o Unset)) && is_guarded b bound acts) (missing b v acts bound.estop.link h (sym none)));
+      ∙ sym (ap (λ (o : Option LinkConf). not (offers_bit bound.estop.bit (option_map_or (λ link. next_offered (of_end side.Slave (pair link bound.estop.link (journal b acts)))) o Unset)) && is_drive_guarded b bound acts) (missing b v acts bound.estop.link h (sym none)));
 }

@@ -1,5 +1,5 @@
 -- The slave of a connection and what notes its pair, after a deed of either end.
-use Rattle.plant_core.proofs.Common.{Acted, AgesNote, AgesView, Deed, Did, End, Entry, Fixed, HasAgeParts, IfSome, IsNoted, Lengths, LinkConf, LinkStands, LinkView, MayMove, Move, NotesOne, OfSlave, SlaveActs, SlaveIsAfter, SlaveView, Told, Trace, deed_in, deeds, delivered, is_some, new_ages, new_link, next_of, place_of, same_end, sent_uses, told_terms, watchdog_in}
+use Rattle.plant_core.proofs.Common.{Acted, AgesNote, AgesView, Deed, Did, End, Entry, Fixed, HasAgeParts, IfSome, IsNoted, Lengths, LinkConf, LinkStands, LinkView, MayMove, Move, NotesOne, OfSlave, SlaveActs, SlaveIsAfter, SlaveView, ChannelTold, Trace, deed_in, deeds, delivered, is_some, new_ages, new_link, next_of, place_of, same_end, sent_uses, told_terms, watchdog_in}
 use Rattle.fsoe_base.specs.declared.did.Took.{Took}
 use Rattle.end_model.specs.Step.{step}
 use Rattle.std.proofs.Common.{◌≡◌, ℕ, ◌+◌, List, [], ◌∷◌, Bool, false, ap, ap₂, refl, sym, subst, Option, if◌then◌else◌, ◌∙◌, arith}
@@ -43,7 +43,7 @@ notes_one old new noted settings aged cut = record {
 pub no_tick : (ss : SlaveSettings) (what : Move) → MayMove ss what → (is_tick what ≡ false) × (delivered what ≡ [])
 no_tick ss what h = grind arith
 
-pub slave_acts : (k : ℕ) (what : Move) (tick : Bool) (came : List ℕ) (old mid new : LinkView) (did : Did) (sent : List ℕ) (terms : Option Terms) (watchdog : Option ℕ) (before after : Told) → slave_core.Follows old.slave what mid.slave → slave_core.Answers old.slave what did sent
+pub slave_acts : (k : ℕ) (what : Move) (tick : Bool) (came : List ℕ) (old mid new : LinkView) (did : Did) (sent : List ℕ) (terms : Option Terms) (watchdog : Option ℕ) (before after : ChannelTold) → slave_core.Follows old.slave what mid.slave → slave_core.Answers old.slave what did sent
     → slave_core.Shows mid.slave terms told_terms → watchdog ≡ watchdog_in terms → IsNoted side.Slave tick came did sent watchdog mid new → Trace (sent_uses (place_of k side.Master) sent mid.cut) before after
     → is_tick what ≡ tick → delivered what ≡ came → mid.slave.kit.settings ≡ old.slave.kit.settings → mid ≡ record old { slave = mid.slave } → SlaveActs k what old new before after
 slave_acts k what tick came old mid new did sent terms watchdog before after follows answers shown told noted pushed ticked brought settings stays = record {
@@ -81,7 +81,7 @@ master_stands tick came did sent watchdog old new link w x noted h is = record {
 }
 
 -- and its frame is pushed
-pub master_acts : (n : ℕ) (tick : Bool) (came : List ℕ) (did : Did) (sent : List ℕ) (watchdog : Option ℕ) (old new : LinkView) (before after : Told) (link : LinkConf) (w : List Entry) (x : Entry) → IsNoted side.Master tick came did sent watchdog old new
+pub master_acts : (n : ℕ) (tick : Bool) (came : List ℕ) (did : Did) (sent : List ℕ) (watchdog : Option ℕ) (old new : LinkView) (before after : ChannelTold) (link : LinkConf) (w : List Entry) (x : Entry) → IsNoted side.Master tick came did sent watchdog old new
     → Trace (sent_uses (place_of n side.Slave) sent old.cut) before after → LinkStands link old w → HasAgeParts x side.Master tick came did sent watchdog → Acted n side.Slave link x w old new before after
 master_acts n tick came did sent watchdog old new before after link w x noted pushed h is = record {
   stands = master_stands tick came did sent watchdog old new link w x noted h is;

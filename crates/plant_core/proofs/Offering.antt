@@ -1,5 +1,5 @@
 -- The offers that a cycle changed, in the journal and at their connections.
-use Rattle.plant_core.proofs.Common.{AllSound, AppView, Call, Connection, End, Entry, IfSome, IsNoted, IsOne, IsSound, JournalStep, LinkConf, LinkView, LinksAre, Meant, MultiView, OffersNoted, ShowsAt, ShowsChanged, StandsFor, changed, changed_by, changed_from, connection, fixed_in, frames_of, get_or_from_slice_get, is_offer, map-append, meant, next_of, nothing, numbers_of, offer_at, offer_step, option_map_or, pair, pairs_by, slice_get-map, slice_get_within, take_all, take_more}
+use Rattle.plant_core.proofs.Common.{AllSound, AppView, Call, Connection, End, Entry, IfSome, IsNoted, IsOne, IsSound, JournalStep, LinkConf, LinkView, LinksAre, Meant, MultiView, OffersNoted, ShowsAt, ShowsChanged, StandsFor, changed, changed_by, changed_from, numbered_connection, fixed_in, frames_of, get_or_from_slice_get, is_offer, map-append, meant, next_of, nothing, numbers_of, offer_at, offer_step, option_map_or, pair, pairs_by, slice_get-map, slice_get_within, take_all, take_more}
 use Rattle.std.proofs.Common.{◌≡◌, ◌≤◌, ℕ, suc, ◌+◌, ◌==◌, Bool, true, false, List, [], ◌∷◌, ◌++◌, map, take, length, slice_get, slice_set, Option, Some, None, option_map, if◌then◌else◌, refl, sym, ap, ap₂, subst, ◌∙◌, append_assoc, arith, rules}
 use Rattle.fsoe_base.specs.declared.command.End.TheVariants as side
 use Rattle.failsafe_io.specs.Application.{Answer}
@@ -14,7 +14,7 @@ use Rattle.plant_core.proofs.OneDeed.{one_links}
 
 -- what a connection offers, as a step
 abbrev pub shown_step : Meant → ℕ → JournalStep
-shown_step m k = step.Offer k (option_map_or offer_at (connection k m) [])
+shown_step m k = step.Offer k (option_map_or offer_at (numbered_connection k m) [])
 
 -- the offers of these connections are noted
 pub record OffersOf (master : MultiView) (listed : List ℕ) (old new : List LinkView) (before after : List JournalStep) : Type 0 where
@@ -41,7 +41,7 @@ offers_next master listed i n place shown load old mid v is before js after h fo
       steps = a ∙ ap (λ (z : List JournalStep). z ++ x ∷ []) h.steps ∙ append_assoc before h.offers (x ∷ []);
       offers_are = λ settings app calls s.
           let m : Meant = meant settings app calls in
-          let offered : option_map_or offer_at (connection n m) [] ≡ load = shown_or (connection n m) shown (shows.shows settings app calls s) ∙ sym same in
+          let offered : option_map_or offer_at (numbered_connection n m) [] ≡ load = shown_or (numbered_connection n m) shown (shows.shows settings app calls s) ∙ sym same in
           ap₂ (λ (xs : List JournalStep) (l : List ℕ). xs ++ step.Offer n l ∷ []) (h.offers_are settings app calls s) (sym offered) ∙ sym (map-append (shown_step m) (take i listed) (n ∷ [])) ∙ ap (map (shown_step m)) (sym (take_next listed i n found));
       links = λ links cut steps s.
           subst (λ (z : List JournalStep). LinksAre links cut (pairs_by z) (slice_set mid place is)) (append_assoc steps h.offers (x ∷ []))

@@ -1,5 +1,5 @@
 -- Acts in which one end of one connection does something, and no cycle is run.
-use Rattle.plant_core.proofs.Common.{Act, Acted, Beginning, Call, Delivers, Done, End, Entry, Event, Fits, GoesOn, Happen, HasDone, IfSome, IsNoted, IsOne, IsSome, IsSomeAnd, JournalStep, LinkConf, LinkIs, LinkStands, LinkView, LinksAre, MayMove, Move, MultiView, Nonce, Parcel, Placed, PlantEvent, PlantView, PullFrom, SlaveActs, StandsFor, Told, Trace, Use, all_pushes, append-nil, call_of, calls, delivery_call, each_none, each_one, eq-eqb, fixed_in, fixed_of, frames_of, is_cut, journal, Lengths, lengths_at, lengths_kept, link_at, next_of, no_entry, not_same, nothing, offers, offers_by, option_to_list, pair, pair_one, pair_other, pair_own, pairs_by, peer, place_of, pushes_each, pushes_of, sent_in, sent_uses, settings, slave_move, steps_of, uses_of, with_frame}
+use Rattle.plant_core.proofs.Common.{Act, Acted, Beginning, Call, Delivers, Done, End, Entry, Event, Fits, GoesOn, Happen, HasDone, IfSome, IsNoted, IsOne, IsSome, IsSomeAnd, JournalStep, LinkConf, LinkIs, LinkStands, LinkView, LinksAre, MayMove, Move, MultiView, Nonce, Parcel, Placed, PlantEvent, PlantView, PullFrom, SlaveActs, StandsFor, ChannelTold, Trace, Use, all_pushes, append-nil, call_of, calls, delivery_call, each_none, each_one, eq-eqb, fixed_in, fixed_of, frames_of, is_cut, journal, Lengths, lengths_at, lengths_kept, link_at, next_of, no_entry, not_same, nothing, offers, offers_by, option_to_list, pair, pair_one, pair_other, pair_own, pairs_by, peer, place_of, pushes_each, pushes_of, sent_in, sent_uses, settings, slave_move, steps_of, uses_of, with_frame}
 use Rattle.std.proofs.Common.{◌≡◌, ◌≢◌, ◌≤◌, ◌<◌, ◌+◌, ◌-◌, length, ℕ, suc, ◌==◌, Bool, false, List, [], ◌∷◌, ◌++◌, slice_get, slice_index_or, slice_set, Option, Some, None, if◌then◌else◌, refl, sym, ap, ap₂, subst, ◌∙◌, arith}
 use Rattle.fsoe_base.specs.declared.command.End.TheVariants as side
 use Rattle.param_load.specs.declared.entry.Move.TheVariants as move
@@ -14,7 +14,7 @@ use Rattle.plant_core.proofs.Linked.{master_acts}
 use Rattle.plant_core.proofs.Linking.{from_one, each_at, each_from, each_map, each_set}
 
 -- what a part of an act makes of the connections, and what is pushed then: the journal was `before`, and is `now`
-pub record Grown (links : List LinkConf) (cut : ℕ → Bool) (before now : List JournalStep) (vs : List LinkView) (first last : Told) : Type 0 where
+pub record Grown (links : List LinkConf) (cut : ℕ → Bool) (before now : List JournalStep) (vs : List LinkView) (first last : ChannelTold) : Type 0 where
   pub are : LinksAre links cut (pairs_by now) vs
   pub pushed : Trace (all_pushes links cut before now) first last
 
@@ -48,7 +48,7 @@ quiet_pushes links cut before now h =
     ap₂ (λ (xs ys : List Use). xs ++ ys) (none side.Slave) (none side.Master)
 
 -- no connection has an entry more
-pub none_acted : (links : List LinkConf) (cut : ℕ → Bool) (before now : List JournalStep) (vs : List LinkView) (t : Told) → LinksAre links cut (pairs_by before) vs
+pub none_acted : (links : List LinkConf) (cut : ℕ → Bool) (before now : List JournalStep) (vs : List LinkView) (t : ChannelTold) → LinksAre links cut (pairs_by before) vs
     → ((k : ℕ) (link : LinkConf) → 1 ≤ k → k < 1 + length links → pair link k now ≡ pair link k before) → Grown links cut before now vs t t
 none_acted links cut before now vs t h same = record {
   are = each_from (LinkIs cut (pairs_by before)) (LinkIs cut (pairs_by now)) 1 links vs h
@@ -83,7 +83,7 @@ one_pushes links cut before steps s n end what place link quiet one is e =
     ∙ sent_once n end (next_of end what link (pair link n steps)) (cut n)
 
 -- one connection has an entry more, after steps in which nothing was sent since `before`
-pub one_acted : (links : List LinkConf) (cut : ℕ → Bool) (before steps : List JournalStep) (s : JournalStep) (n : ℕ) (end : End) (what : Move) (place : ℕ) (vs : List LinkView) (old new : LinkView) (first last : Told)
+pub one_acted : (links : List LinkConf) (cut : ℕ → Bool) (before steps : List JournalStep) (s : JournalStep) (n : ℕ) (end : End) (what : Move) (place : ℕ) (vs : List LinkView) (old new : LinkView) (first last : ChannelTold)
     → ((at : End) (k : ℕ) (l : LinkConf) → frames_of at (pair l k steps) ≡ frames_of at (pair l k before)) → LinksAre links cut (pairs_by steps) vs → Placed vs n place old → IsOne s n end what → new.cut ≡ old.cut
     → ((link : LinkConf) → slice_get links place ≡ Some link → LinkStands link old (pair link n steps) → Acted n (peer end) link (next_of end what link (pair link n steps)) (pair link n steps) old new first last)
     → Grown links cut before (steps ++ s ∷ []) (slice_set vs place new) first last
@@ -98,7 +98,7 @@ one_acted links cut before steps s n end what place vs old new first last quiet 
     }
 
 -- a plant that had done some acts has done this one too
-pub act_done : (b : Beginning) (act : Act) (call : Option Call) (done : List Act) (old new : PlantView) (changed : List JournalStep) (first before after : Told) → HasDone b old done → call_of b act ≡ call → changed ≡ offers_by b call done → new.journal ≡ old.journal ++ steps_of act changed
+pub act_done : (b : Beginning) (act : Act) (call : Option Call) (done : List Act) (old new : PlantView) (changed : List JournalStep) (first before after : ChannelTold) → HasDone b old done → call_of b act ≡ call → changed ≡ offers_by b call done → new.journal ≡ old.journal ++ steps_of act changed
     → StandsFor (settings b) b.app new.master (option_to_list call ++ calls b done) → Grown b.links (λ k. is_cut k (act ∷ done)) old.journal new.journal new.links before after
     → ((us : List Use) → Trace us before after → Trace (uses_of b.seed act us) first after) → Done b done (act ∷ []) new first after
 act_done b act call done old new changed first before after h call_is offers_are steps stands grown uses =
@@ -122,7 +122,7 @@ pub record IsAtSlave (b : Beginning) (act : Act) (s : JournalStep) (n : ℕ) (wh
   pub cuts : (k : ℕ) (done : List Act) → is_cut k (act ∷ done) ≡ is_cut k done
 
 -- what such an act changes
-pub record SlaveChange (old new : PlantView) (s : JournalStep) (n : ℕ) (what : Move) (before after : Told) : Type 0 where
+pub record SlaveChange (old new : PlantView) (s : JournalStep) (n : ℕ) (what : Move) (before after : ChannelTold) : Type 0 where
   pub place : ℕ
   pub was : LinkView
   pub is : LinkView
@@ -132,7 +132,7 @@ pub record SlaveChange (old new : PlantView) (s : JournalStep) (n : ℕ) (what :
   pub links : new.links ≡ slice_set old.links place is
   pub journal : new.journal ≡ old.journal ++ s ∷ []
 
-pub slave_goes : (old new : PlantView) (act : Act) (s : JournalStep) (n : ℕ) (what : Move) (first before after : Told) → ((b : Beginning) → IsAtSlave b act s n what) → SlaveChange old new s n what before after
+pub slave_goes : (old new : PlantView) (act : Act) (s : JournalStep) (n : ℕ) (what : Move) (first before after : ChannelTold) → ((b : Beginning) → IsAtSlave b act s n what) → SlaveChange old new s n what before after
     → ((b : Beginning) (us : List Use) → Trace us before after → Trace (uses_of b.seed act us) first after) → GoesOn old (act ∷ []) new first after
 slave_goes old new act s n what first before after at c uses = record {
   fixed = ap fixed_in c.links ∙ fixed_set old.links c.place c.was c.is c.placed.at c.acts.notes.fixed;
@@ -176,7 +176,7 @@ slave_at vs count n from v e what is fits len at read =
 delivery_to_slave : (o : Option LinkConf) (n : ℕ) (frame : List ℕ) → delivery_call o side.Slave n frame ≡ None
 delivery_to_slave o n frame = grind arith
 
-pub slave_delivered : (old new : PlantView) (to : Place) (frame : List ℕ) (before after : Told) → to.end ≡ side.Slave → SlaveChange old new (step.Pulled (record { to = to; frame = frame })) to.link (move.Deliver frame) before after
+pub slave_delivered : (old new : PlantView) (to : Place) (frame : List ℕ) (before after : ChannelTold) → to.end ≡ side.Slave → SlaveChange old new (step.Pulled (record { to = to; frame = frame })) to.link (move.Deliver frame) before after
     → Delivers old (record { to = to; frame = frame }) new before after
 slave_delivered old new to frame before after at c =
     let parcel : Parcel = record { to = to; frame = frame } in
@@ -187,7 +187,7 @@ slave_delivered old new to frame before after at c =
     }
 
 -- the session id of a master
-pub master_nonce : (old new : PlantView) (n id place : ℕ) (was is : LinkView) (t : Told) → Placed old.links n place was → IsNoted side.Master false [] nothing [] None was is → multi.Follows old.master (Nonce n id) new.master → new.links ≡ slice_set old.links place is
+pub master_nonce : (old new : PlantView) (n id place : ℕ) (was is : LinkView) (t : ChannelTold) → Placed old.links n place was → IsNoted side.Master false [] nothing [] None was is → multi.Follows old.master (Nonce n id) new.master → new.links ≡ slice_set old.links place is
     → new.journal ≡ old.journal ++ step.Script (event.Nonce n side.Master id) ∷ [] → GoesOn old (Happen (Event (event.Nonce n side.Master id)) ∷ []) new t t
 master_nonce old new n id place was is t p noted follows links journal = record {
   fixed = ap fixed_in links ∙ fixed_set old.links place was is p.at noted.notes.fixed;
@@ -204,7 +204,7 @@ same_stands : (link : LinkConf) (w : List Entry) (was is : LinkView) (cut : Bool
 same_stands link w was is cut h k = grind arith
 
 -- a connection is cut, or joined again
-pub cut_event : (old new : PlantView) (n place : ℕ) (cut : Bool) (v is : LinkView) (t : Told) → Placed old.links n place v → is ≡ record v { cut = cut } → new.master ≡ old.master → new.links ≡ slice_set old.links place is
+pub cut_event : (old new : PlantView) (n place : ℕ) (cut : Bool) (v is : LinkView) (t : ChannelTold) → Placed old.links n place v → is ≡ record v { cut = cut } → new.master ≡ old.master → new.links ≡ slice_set old.links place is
     → new.journal ≡ old.journal ++ step.Script (event.Cut n cut) ∷ [] → GoesOn old (Happen (Event (event.Cut n cut)) ∷ []) new t t
 cut_event old new n place cut v is t p cut_is master links journal = record {
   fixed = ap fixed_in links ∙ fixed_set old.links place v is p.at (ap fixed_of cut_is);

@@ -1,5 +1,5 @@
 -- The pulls of a tick, a plant's start, and how it goes on by a line of its script.
-use Rattle.plant_core.proofs.Common.{Act, All-append, All-cons, All-nil, App, AppView, Beginning, Begins, BoundSpec, Call, ChangeApp, Delivers, DoesLine, EachLink, Entry, Event, Fits, GoesOn, Happen, HasDone, JournalStep, Lengths, LinkConf, LinkIs, LinkView, LinksAre, MultiView, OffersNoted, Parcel, PlantEvent, PlantView, PullFrom, Pulls, PullsParcel, Said, SlaveView, StandsFor, Start, Starts, Told, Trace, Use, all_pushes, append-nil, call_of, calls, changed, delivery_call, fixed_in, is_cut, journal, lengths_in, lengths_kept, link_at, links_made, offers, pair_other, pairs_by, pulls_after, settings, slice_get_past, uses_after, uses_of}
+use Rattle.plant_core.proofs.Common.{Act, All-append, All-cons, All-nil, App, AppView, Beginning, Begins, BoundSpec, Call, ChangeApp, Delivers, DoesLine, EachLink, Entry, Event, Fits, GoesOn, Happen, HasDone, JournalStep, Lengths, LinkConf, LinkIs, LinkView, LinksAre, MultiView, OffersNoted, Parcel, PlantEvent, PlantView, PullFrom, Pulls, PullsParcel, Said, SlaveView, StandsFor, Start, Starts, ChannelTold, Trace, Use, all_pushes, append-nil, call_of, calls, changed, delivery_call, fixed_in, is_cut, journal, lengths_in, lengths_kept, link_at, links_made, offers, pair_other, pairs_by, pulls_after, settings, slice_get_past, uses_after, uses_of}
 use Rattle.std.proofs.Common.{◌≡◌, ◌≢◌, ◌≤◌, ◌<◌, ◌⊎◌, ℕ, suc, ◌+◌, ◌-◌, ◌*◌, Bool, false, List, [], ◌∷◌, ◌++◌, map, All, length, Option, Some, None, refl, sym, ap, ap₂, subst, ◌∙◌, append_assoc, arith, rules}
 use Rattle.param_load.specs.declared.entry.Move.TheVariants as move
 use Rattle.multi_master.specs.Standing as multi
@@ -22,7 +22,7 @@ more_uses b (act ∷ more) some done =
     ap₂ (λ (us : List Use) (z : List Act). us ++ own z) (more_uses b more some done) (append_assoc more some done)
     ∙ append_assoc (uses_after b some done) (uses_after b more (some ++ done)) (own (more ++ (some ++ done)))
 
-pub goes_on : (old mid new : PlantView) (some more : List Act) (first between last : Told) → GoesOn old some mid first between → GoesOn mid more new between last → GoesOn old (more ++ some) new first last
+pub goes_on : (old mid new : PlantView) (some more : List Act) (first between last : ChannelTold) → GoesOn old some mid first between → GoesOn mid more new between last → GoesOn old (more ++ some) new first last
 goes_on old mid new some more first between last g h = record {
   fixed = h.fixed ∙ g.fixed;
   goes = λ b done s.
@@ -36,7 +36,7 @@ goes_on old mid new some more first between last g h = record {
 }
 
 -- a pull that gives nothing
-pub none_pulled : (v : PlantView) (before after : Told) → PullsParcel None before after → GoesOn v (PullFrom None ∷ []) v before after
+pub none_pulled : (v : PlantView) (before after : ChannelTold) → PullsParcel None before after → GoesOn v (PullFrom None ∷ []) v before after
 none_pulled v before after p = record {
   fixed = refl;
   goes = λ b done h.
@@ -52,7 +52,7 @@ not_within : (links : List LinkConf) (n k : ℕ) → (n ≡ 0) ⊎ (length links
 not_within links n k h l m = grind arith
 
 -- a parcel for a connection that doesn't exist is noted
-pub nowhere_delivered : (old new : PlantView) (parcel : Parcel) (t : Told) → (parcel.to.link ≡ 0) ⊎ (length old.links < parcel.to.link) → new.master ≡ old.master → new.links ≡ old.links
+pub nowhere_delivered : (old new : PlantView) (parcel : Parcel) (t : ChannelTold) → (parcel.to.link ≡ 0) ⊎ (length old.links < parcel.to.link) → new.master ≡ old.master → new.links ≡ old.links
     → new.journal ≡ old.journal ++ step.Pulled parcel ∷ [] → Delivers old parcel new t t
 nowhere_delivered old new parcel t far same_master same_links written = record {
   delivers = λ first pulled. record {
@@ -72,10 +72,10 @@ nowhere_delivered old new parcel t far same_master same_links written = record {
   };
 }
 
-pub none_gone : (v : PlantView) (t : Told) → Pulls 64 v v t t
+pub none_gone : (v : PlantView) (t : ChannelTold) → Pulls 64 v v t t
 none_gone v t = record { gifts = []; past = λ done h. h; goes = record { fixed = refl; goes = λ b done h. record { has_done = h; channel = refl } } }
 
-pub one_pulled : (old mid new : PlantView) (left : ℕ) (parcel : Parcel) (first before between after : Told) → Pulls (suc left) old mid first before → PullsParcel (Some parcel) before between
+pub one_pulled : (old mid new : PlantView) (left : ℕ) (parcel : Parcel) (first before between after : ChannelTold) → Pulls (suc left) old mid first before → PullsParcel (Some parcel) before between
     → Delivers mid parcel new between after → Pulls left old new first after
 one_pulled old mid new left parcel first before between after g p d = record {
   gifts = Some parcel ∷ g.gifts;
@@ -83,7 +83,7 @@ one_pulled old mid new left parcel first before between after g p d = record {
   goes = goes_on old mid new (map PullFrom g.gifts) (PullFrom (Some parcel) ∷ []) first before after g.goes (d.delivers before p);
 }
 
-pub pulled_until : (old new : PlantView) (left : ℕ) (first before last : Told) → Pulls (suc left) old new first before → PullsParcel None before last → Pulls 0 old new first last
+pub pulled_until : (old new : PlantView) (left : ℕ) (first before last : ChannelTold) → Pulls (suc left) old new first before → PullsParcel None before last → Pulls 0 old new first last
 pulled_until old new left first before last g p = record {
   gifts = None ∷ g.gifts;
   past = λ done h. (refl, (left, g.past done h));
@@ -98,7 +98,7 @@ lengths_are cut done k (link ∷ links) (v ∷ vs) h =
 lengths_are cut done k _ _ h = absurd h
 
 -- a plant goes on by a line that fits, and by its pulls
-does_line : (old new : PlantView) (said : Said) (gifts : List (Option Parcel)) (before after : Told) → ((links : List LinkConf) → map lengths_in links ≡ lengths_kept old.links → SaidFits links said)
+does_line : (old new : PlantView) (said : Said) (gifts : List (Option Parcel)) (before after : ChannelTold) → ((links : List LinkConf) → map lengths_in links ≡ lengths_kept old.links → SaidFits links said)
     → ((done : List Act) → IsPast 0 done → IsPast 0 (with_line said gifts done)) → GoesOn old (with_line said gifts []) new before after → DoesLine old said new before after
 does_line old new said gifts before after fits past g = record {
   fixed = g.fixed;
@@ -122,21 +122,21 @@ does_line old new said gifts before after fits past g = record {
 }
 
 -- a tick, and then its pulls
-pub tick_line : (old mid new : PlantView) (first between last : Told) → GoesOn old (Happen (Event event.Tick) ∷ []) mid first between → Pulls 0 mid new between last → DoesLine old (Event event.Tick) new first last
+pub tick_line : (old mid new : PlantView) (first between last : ChannelTold) → GoesOn old (Happen (Event event.Tick) ∷ []) mid first between → Pulls 0 mid new between last → DoesLine old (Event event.Tick) new first last
 tick_line old mid new first between last g p =
     does_line old new (Event event.Tick) p.gifts first last (λ links same. tt) (λ done h. p.past (Happen (Event event.Tick) ∷ done) (refl, h))
     (goes_on old mid new (Happen (Event event.Tick) ∷ []) (map PullFrom p.gifts) first between last g p.goes)
 
 -- another event, and another application
-pub event_line : (old new : PlantView) (e : PlantEvent) (first last : Told) → Fits (lengths_kept old.links) e → is_tick_event e ≡ false → GoesOn old (Happen (Event e) ∷ []) new first last → DoesLine old (Event e) new first last
+pub event_line : (old new : PlantView) (e : PlantEvent) (first last : ChannelTold) → Fits (lengths_kept old.links) e → is_tick_event e ≡ false → GoesOn old (Happen (Event e) ∷ []) new first last → DoesLine old (Event e) new first last
 event_line old new e first last fits other g =
     does_line old new (Event e) [] first last (λ links same. subst (λ (ls : List Lengths). Fits ls e) (sym same) fits) (λ done h. (sym (ap pulls_after other), h)) g
 
-pub app_line : (old new : PlantView) (app : AppView) (t : Told) → GoesOn old (Happen (App app) ∷ []) new t t → DoesLine old (App app) new t t
+pub app_line : (old new : PlantView) (app : AppView) (t : ChannelTold) → GoesOn old (Happen (App app) ∷ []) new t t → DoesLine old (App app) new t t
 app_line old new app t g = does_line old new (App app) [] t t (λ links same. tt) (λ done h. (refl, h)) g
 
 -- a plant starts, from what it is made of
-pub starts : (b : Beginning) (old : MultiView) (new : PlantView) (bounds : List BoundSpec) (before after : Told) → StandsFor (settings b) b.app old [] → multi.Follows old (ChangeApp b.app) new.master
+pub starts : (b : Beginning) (old : MultiView) (new : PlantView) (bounds : List BoundSpec) (before after : ChannelTold) → StandsFor (settings b) b.app old [] → multi.Follows old (ChangeApp b.app) new.master
     → OffersNoted new.master (links_made 1 bounds b.links) new.links [] new.journal → Begins b.seed before after → Starts b new before after
 starts b old new bounds before after made follows told begins =
     let calls : List Call = ChangeApp b.app ∷ [] in

@@ -1,5 +1,5 @@
 -- A plant tells whether a bound is still.
-use Rattle.plant_core.proofs.Common.{Act, Beginning, BoundSpec, LinkView, OfSlave, PlantStands, PlantView, ShowsApp, TellsStill, bit_of, calls, deeds, held, is_guarded, is_off, kept_at, next_offered, of_end, offer, offers_bit, pair, settings, slave_offers}
+use Rattle.plant_core.proofs.Common.{Act, Beginning, BoundSpec, LinkView, OfSlave, PlantStands, PlantView, ShowsApp, TellsStill, bit_of, calls, deeds, held, is_drive_guarded, is_off, kept_at, next_offered, of_end, offer, offers_bit, pair, settings, slave_offers}
 use Rattle.std.proofs.Common.{◌≡◌, ℕ, Bool, false, ◌&&◌, not, List, Some, sym, ap, ap₂, ◌∙◌, rules}
 use Rattle.fsoe_base.specs.declared.command.End.TheVariants as side
 use Rattle.slave_core.specs.Standing as slave_core
@@ -29,5 +29,5 @@ still_told v bound l on guarded told at s g t = record {
 pub moving_told : (v : PlantView) (bound : BoundSpec) (l : LinkView) (on told : Bool) → Some l ≡ kept_at v.links bound.estop.link → slave_core.Shows l.slave on (λ s e. not (held e) && bit_of (offer s e) bound.estop.bit)
     → not on ≡ false → told ≡ false → TellsStill v bound told
 moving_told v bound l on told at s moving t = record {
-  tells = λ b acts h. t ∙ ap (λ (x : Bool). x && is_guarded b bound acts) (sym moving ∙ offer_told v bound l on at s b acts h);
+  tells = λ b acts h. t ∙ ap (λ (x : Bool). x && is_drive_guarded b bound acts) (sym moving ∙ offer_told v bound l on at s b acts h);
 }

@@ -1,6 +1,6 @@
 -- What a plant shows of an end is what the pair of its connection tells.
 use Rattle.plant_core.proofs.Common.{Connection, Deed, Did, HasLink, IsPlant, IsSomeAnd, JournalStep, LinkConf, LinkIs, LinkView, OfMaster, OfSlave, Placed, PlantValue, PlantView, Setup, ShowsAt, ShowsPair, calls, deeds, is_cut, journal, kept_at, master_with, mastered, masters, out, pair, pairs_by, settings, setup, some_at, state_of}
-use Rattle.multi_master.specs.Connection.{outputs_at}
+use Rattle.multi_master.specs.Connection.{connection_outputs}
 use Rattle.fsoe_base.specs.declared.command.State.{State}
 use Rattle.std.proofs.Common.{◌≡◌, ◌≤◌, ℕ, zero, suc, List, length, slice_get, Option, Some, option_map, sym, ap, subst, ◌∙◌, arith}
 use Rattle.fsoe_base.specs.declared.command.End.TheVariants as side
@@ -38,7 +38,7 @@ master_shown v (suc place) shown word s first last = record {
 pub master_state_shown : (v : PlantView) (k : ℕ) (shown : State) → ShowsAt v.master k shown (λ c. state_of (setup c) c.deeds) → 1 ≤ k → k ≤ length v.links → ShowsPair v k shown (λ l w. pairs.state_at l side.Master w)
 master_state_shown v k shown s first last = master_shown v k shown state_of s first last
 
-pub master_outputs_shown : (v : PlantView) (k : ℕ) (shown : List ℕ) → ShowsAt v.master k shown outputs_at → 1 ≤ k → k ≤ length v.links → ShowsPair v k shown (λ l w. pairs.outputs_at l side.Master w)
+pub master_outputs_shown : (v : PlantView) (k : ℕ) (shown : List ℕ) → ShowsAt v.master k shown connection_outputs → 1 ≤ k → k ≤ length v.links → ShowsPair v k shown (λ l w. pairs.end_outputs l side.Master w)
 master_outputs_shown v k shown s first last = master_shown v k shown out s first last
 
 pub master_has : {A : Type 0} (v : PlantValue A) (link : ℕ) (dids : List Did) (outs : List (List ℕ)) (len : ℕ) → HasLink v link → IsPlant v.master v.links dids outs len → multi.HasLink v.master link

@@ -2,7 +2,7 @@
 use Rattle.std.specs.Prelude.{◌≡◌, ◌≤◌, ◌*◌, ℕ, zero, suc, Bool, List, [], ◌∷◌, All, IsSomeAnd, Option, None, length, map, slice_get, false, IfSome, IsSome}
 use Rattle.fsoe_base.specs.declared.did.Did.{Did}
 use Rattle.fsoe_base.specs.declared.lengths.Lengths.{Lengths}
-use Rattle.black_channel.specs.Told.{Told}
+use Rattle.black_channel.specs.Told.{ChannelTold}
 use Rattle.black_channel.specs.declared.channel.Parcel.{Parcel}
 use Rattle.param_load.specs.declared.entry.Entry.{Entry}
 use Rattle.plant_conf.specs.declared.conf.LinkConf.{LinkConf}
@@ -15,7 +15,7 @@ use Rattle.plant_model.specs.declared.journal.JournalStep.{JournalStep}
 use Rattle.plant_model.specs.Acts.{Beginning, Said, Act, Start, settings, calls, journal, is_cut, uses, uses_after}
 use Rattle.plant_model.specs.Past.{MayHaveDone, with_line}
 use Rattle.plant_core.specs.Link.{Fixed, LinkView, LinkStands, fixed_of}
-use Rattle.plant_model.specs.Pair.{pair, link_at, lowest_other, outputs_at, pairs_by}
+use Rattle.plant_model.specs.Pair.{pair, link_at, lowest_other, end_outputs, pairs_by}
 use Rattle.plant_model.specs.Uses.{Trace}
 use Rattle.std.specs.Option.{option_map_or}
 use Rattle.fsoe_base.specs.Image.{bit_of}
@@ -101,18 +101,18 @@ pub record PlantStands (b : Beginning) (v : PlantView) (acts : List Act) : Type 
   pub has_done : HasDone b v acts
 
 -- a plant that began so has done its start alone, and so its channel was used
-pub record Starts (b : Beginning) (new : PlantView) (before after : Told) : Type 0 where
+pub record Starts (b : Beginning) (new : PlantView) (before after : ChannelTold) : Type 0 where
   pub stands : PlantStands b new (Start ∷ [])
   pub channel : Trace (uses b (Start ∷ [])) before after
 
 -- a plant goes on by the acts of one line, which says this, and its channel is used by them; the pulls gave `gifts`
-pub record Plays (b : Beginning) (acts : List Act) (said : Said) (new : PlantView) (before after : Told) : Type 0 where
+pub record Plays (b : Beginning) (acts : List Act) (said : Said) (new : PlantView) (before after : ChannelTold) : Type 0 where
   pub gifts : List (Option Parcel)
   pub stands : PlantStands b new (with_line said gifts acts)
   pub channel : Trace (uses_after b (with_line said gifts []) acts) before after
 
 -- a plant that stood for some acts goes on by a line that says this
-pub record Follows (old : PlantView) (said : Said) (new : PlantView) (before after : Told) : Type 0 where
+pub record Follows (old : PlantView) (said : Said) (new : PlantView) (before after : ChannelTold) : Type 0 where
   pub plays : (b : Beginning) (acts : List Act) → PlantStands b old acts → Plays b acts said new before after
 
 -- what is shown of a connection is this word of it and of the entries of its pair
@@ -143,4 +143,4 @@ pub record ShowsWorst (v : PlantView) (k : ℕ) (end : End) (shown : Option ℕ)
 -- what is shown of a bit of an image is its value at the slave
 pub record ShowsOn (v : PlantView) (bit : Bit) (shown : Bool) : Type 0 where
   pub shows : (b : Beginning) (acts : List Act) → PlantStands b v acts
-      → shown ≡ option_map_or (λ link. bit_of (outputs_at link side.Slave (pair link bit.link v.journal)) bit.bit) (link_at b.links bit.link) false
+      → shown ≡ option_map_or (λ link. bit_of (end_outputs link side.Slave (pair link bit.link v.journal)) bit.bit) (link_at b.links bit.link) false

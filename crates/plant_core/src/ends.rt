@@ -100,7 +100,7 @@ impl<A: Application> Ends<A> {
     ghost use Rattle.plant_model.specs.Acts.{Event, App};
     ghost use Rattle.plant_core.specs.Doing.{Delivers, IsReady, Pulls, DoesLine, sees};
     ghost use Rattle.plant_core.specs.Standing.{fixed_in, lengths_kept};
-    ghost use Rattle.black_channel.specs.Told.{Told};
+    ghost use Rattle.black_channel.specs.Told.{ChannelTold};
     ghost use Rattle.plant_model.specs.Fits.{Fits};
 
     /// Notes a pulled parcel, and delivers it to its end, if there is one, whose answer is pushed. The offers that a
@@ -223,7 +223,7 @@ impl<A: Application> Ends<A> {
     pub(crate) fn change_app(&mut self, app: A, steps: &mut Vec<JournalStep>)
         requires ready { IsReady self.old steps.old }
         requires room { vec_len steps.old + 1 + vec_len self.old.links ≤ vec_capacity steps.old }
-        ensures line { let seen = sees A.rule A.holds A.guards in (told : Told) → DoesLine (seen self.old steps.old) (App (app_view A.rule A.holds A.guards app)) (seen self.new steps.new) told told }
+        ensures line { let seen = sees A.rule A.holds A.guards in (told : ChannelTold) → DoesLine (seen self.old steps.old) (App (app_view A.rule A.holds A.guards app)) (seen self.new steps.new) told told }
         ensures fixed { fixed_in self.new.links.items ≡ fixed_in self.old.links.items }
         ensures ready { IsReady self.new steps.new }
     {

@@ -6,8 +6,8 @@ ghost use Rattle.fsoe_base.specs.declared.command.End.TheVariants as side;
 ghost use Rattle.fsoe_base.specs.declared.lengths.TheConstants.{MOST_DATA};
 ghost use Rattle.plant_conf.specs.Kept.{HasSameLengths};
 ghost use Rattle.plant_conf.specs.declared.conf.LinkConf.{LinkConf};
-ghost use Rattle.plant_model.specs.Pair.{state_at, outputs_at, lowest_other};
-ghost use Rattle.black_channel.specs.Told.{Told};
+ghost use Rattle.plant_model.specs.Pair.{state_at, end_outputs, lowest_other};
+ghost use Rattle.black_channel.specs.Told.{ChannelTold};
 ghost use Rattle.plant_core.specs.Standing.{AllNoted};
 ghost use Rattle.plant_model.specs.declared.journal.JournalStep.{JournalStep};
 
@@ -136,7 +136,7 @@ impl<A: Application> Plant<A> {
     /// Replaces the running application with `app`, which runs its first (unticked) cycle, and drops the old one. After
     /// `Memory` `app` is dropped, and the plant is unchanged.
     pub fn change_app(&mut self, app: A) -> Result<(), Memory>
-        ensures follows { let seen = seen A.rule A.holds A.guards in OnOk result ((told : Told) → Follows (seen self.old) (App (app_view A.rule A.holds A.guards app)) (seen self.new) told told) }
+        ensures follows { let seen = seen A.rule A.holds A.guards in OnOk result ((told : ChannelTold) → Follows (seen self.old) (App (app_view A.rule A.holds A.guards app)) (seen self.new) told told) }
         ensures fixed { fixed_in self.new.links ≡ fixed_in self.old.links }
         ensures kept { OnErr result (self.new ≡ self.old) }
     {
@@ -231,7 +231,7 @@ impl<A: Application> Plant<A> {
     /// The outputs of the slave of this connection.
     pub fn slave_outputs(&self, link: u16) -> &[u8]
         requires { HasLink self.now link }
-        ensures shown { ShowsPair (seen A.rule A.holds A.guards self.now) link result.now (λ l w. outputs_at l side.Slave w) }
+        ensures shown { ShowsPair (seen A.rule A.holds A.guards self.now) link result.now (λ l w. end_outputs l side.Slave w) }
         ensures most { length result.now ≤ MOST_DATA }
     {
         self.ends.links[usize::from(link) - 1].outputs()
@@ -250,7 +250,7 @@ impl<A: Application> Plant<A> {
     #[tactic(auto, using(crate::proofs::Readers::master_has, crate::proofs::Readers::master_outputs_shown))]
     pub fn master_outputs(&self, link: u16) -> &[u8]
         requires { HasLink self.now link }
-        ensures shown { ShowsPair (seen A.rule A.holds A.guards self.now) link result.now (λ l w. outputs_at l side.Master w) }
+        ensures shown { ShowsPair (seen A.rule A.holds A.guards self.now) link result.now (λ l w. end_outputs l side.Master w) }
         ensures most { length result.now ≤ MOST_DATA }
     {
         self.ends.master.outputs(link)
@@ -276,7 +276,7 @@ impl<H: Application> Plant<KindOf<H>> {
     ghost use Rattle.fb_net.specs.declared.kind_of.EntryOf.{EntryOf};
     ghost use Rattle.fb_net.specs.declared.kind_of.KindOf.TheVariants as kind;
     ghost use Rattle.file_run.specs.declared.stopped.Stopped.TheVariants as stopped;
-    ghost use Rattle.plant_setup.specs.Names.{place_of, IsTaken};
+    ghost use Rattle.plant_setup.specs.Names.{name_place, IsTaken};
     ghost use Rattle.plant_model.specs.Acts.{App};
     ghost use Rattle.plant_core.specs.Standing.{seen, fixed_in, Follows};
 
@@ -285,9 +285,9 @@ impl<H: Application> Plant<KindOf<H>> {
     pub fn take_spare(&mut self, name: &[u8], spare: &mut Vec<EntryOf<H>>) -> Result<(), Stopped>
         ensures follows { let K = ⟦<KindOf<H> as Application>⟧ in let seen = seen K.rule K.holds K.guards in
             OnOk result ((entry : EntryOf H) × IsTaken (λ e. string_bytes e.name) name.now spare.old.items entry spare.new.items
-            × ((told : Told) → Follows (seen self.old) (App (app_view K.rule K.holds K.guards (kind.Handed entry.app))) (seen self.new) told told)) }
+            × ((told : ChannelTold) → Follows (seen self.old) (App (app_view K.rule K.holds K.guards (kind.Handed entry.app))) (seen self.new) told told)) }
         ensures fixed { fixed_in self.new.links ≡ fixed_in self.old.links }
-        ensures none { IfErr result (λ why. (why ≡ stopped.Memory) ⊎ ((why ≡ stopped.NoApp) × (place_of name.now (map (λ e. string_bytes e.name) spare.old.items) ≡ None))) }
+        ensures none { IfErr result (λ why. (why ≡ stopped.Memory) ⊎ ((why ≡ stopped.NoApp) × (name_place name.now (map (λ e. string_bytes e.name) spare.old.items) ≡ None))) }
         ensures kept { OnErr result (self.new ≡ self.old) }
         ensures unused { OnErr result (spare.new.items ≡ spare.old.items) }
     {

@@ -5,7 +5,7 @@ use Rattle.std.specs.List.{position_from, remove}
 use Rattle.std.specs.Str.{bytes_eq}
 use Rattle.std.proofs.lemmas.List.{length-map}
 use Rattle.std.proofs.lemmas.Option.{slice_get-map}
-use Rattle.plant_setup.specs.Names.{place_of, IsTaken}
+use Rattle.plant_setup.specs.Names.{name_place, IsTaken}
 use Rattle.plant_setup.specs.Setup.{ChosenBy, IsChosen}
 
 within_by : (b : Bool) (k n len : ℕ) (rest : Option ℕ) → cond b (Some k) rest ≡ Some n → (rest ≡ Some n → n < (k + 1) + len) → n < k + suc len
@@ -16,7 +16,7 @@ within_from t k n [] e = cc
 within_from t k n (x ∷ xs) e = within_by (t x) k n (length xs) (position_from t (k + 1) xs) e (λ r. within_from t (k + 1) n xs r)
 
 -- a place that was found is one of the list's
-pub within : {X : Type 0} (name_of : X → List ℕ) (name : List ℕ) (xs : List X) (n : ℕ) → place_of name (map name_of xs) ≡ Some n → n < length xs
+pub within : {X : Type 0} (name_of : X → List ℕ) (name : List ℕ) (xs : List X) (n : ℕ) → name_place name (map name_of xs) ≡ Some n → n < length xs
 within name_of name xs n e = let below = within_from (λ own. bytes_eq own name) 0 n (map name_of xs) e in omega (arith, below, length-map xs name_of)
 
 map_removed : {X Y : Type 0} (f : X → Y) (xs : List X) (place : ℕ) → map f (remove xs place) ≡ remove (map f xs) place
@@ -32,7 +32,7 @@ taken_seen : {X Y : Type 0} (f : X → Y) (name_of : Y → List ℕ) (name : Lis
     → IsTaken (λ x. name_of (f x)) name all one left → IsTaken name_of name (map f all) (f one) (map f left)
 taken_seen f name_of name all left one t = record {
   place = t.place;
-  first = ap (place_of name) (map_twice f name_of all) ∙ t.first;
+  first = ap (name_place name) (map_twice f name_of all) ∙ t.first;
   one_is = slice_get-map f all t.place ∙ ap (option_map f) t.one_is;
   left_is = ap (map f) t.left_is ∙ map_removed f all t.place;
 }

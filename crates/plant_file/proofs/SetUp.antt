@@ -4,7 +4,7 @@ use Rattle.std.specs.Prelude.{◌≢◌, Option, Some, None, Ok, Err, string_byt
 use Rattle.std.proofs.lemmas.Option.{slice_get_read}
 use Rattle.fsoe_io.specs.declared.status.Ended.{Ended}
 use Rattle.fsoe_io.specs.declared.status.Status.TheVariants as status
-use Rattle.black_channel.specs.Told.{Told}
+use Rattle.black_channel.specs.Told.{ChannelTold}
 use Rattle.fb_net.specs.Standing.{IsNewNet}
 use Rattle.fb_net.specs.declared.kind_of.EntryOf.{EntryOf}
 use Rattle.fb_net.specs.declared.kind_of.KindOf.{KindOf}
@@ -14,7 +14,7 @@ use Rattle.plant_conf.specs.ConfView.{ConfView}
 use Rattle.plant_conf.specs.declared.fault.ConfFault.{ConfFault}
 use Rattle.plant_conf.specs.declared.fault.ConfFault.TheVariants as fault
 use Rattle.plant_setup.specs.ConfigLine.{config_line}
-use Rattle.plant_setup.specs.Names.{place_of}
+use Rattle.plant_setup.specs.Names.{name_place}
 use Rattle.plant_setup.specs.Setup.{IsChosen, net_of, setup_fault}
 use Rattle.plant_setup.specs.declared.fault.SetupFault.{SetupFault}
 use Rattle.plant_setup.specs.declared.fault.SetupFault.TheVariants as setup
@@ -29,7 +29,7 @@ use Rattle.plant_file.specs.Plant.{PlantRun, RanSaid, RanUnless, WroteLine}
 use Rattle.plant_file.proofs.Picked.{chosen_seen, map_twice, within}
 
 -- the net was taken out of the configuration, at which a plant doesn't look
-ran_whole : (Ran : PlantRun) (conf taken : ConfView) (app : AppView) (spare : List Named) (ended : Ended) (o : Outside) (before after : Told) (steps : List JournalStep)
+ran_whole : (Ran : PlantRun) (conf taken : ConfView) (app : AppView) (spare : List Named) (ended : Ended) (o : Outside) (before after : ChannelTold) (steps : List JournalStep)
     → taken ≡ record conf { blocks = []; drives = [] }
     → Ran (record { begins = begins_with taken app; spare = spare; bounds = taken.bounds }) ended o before after steps
     → Ran (record { begins = begins_with conf app; spare = spare; bounds = conf.bounds }) ended o before after steps
@@ -42,7 +42,7 @@ ran_unless : {X C : Type 0} (Ran : PlantRun) (f : X → Named) (apps : List X) (
 ran_unless Ran f apps conf names found ended o h k l = search (rules, map_twice)
 
 -- the line of a fault is what its configuration comes to
-pub set_up_refused : {H C : Type 0} (Ran : PlantRun) (app_of : H → AppView) (name_of : C → List ℕ) (tells : C → Told) (conf : ConfView) (apps : List (EntryOf H)) (channels : List C) (why : SetupFault) (ended : Ended) (o : Outside)
+pub set_up_refused : {H C : Type 0} (Ran : PlantRun) (app_of : H → AppView) (name_of : C → List ℕ) (tells : C → ChannelTold) (conf : ConfView) (apps : List (EntryOf H)) (channels : List C) (why : SetupFault) (ended : Ended) (o : Outside)
     (steps : List JournalStep)
     → Some why ≡ setup_fault conf (map (λ entry. string_bytes entry.name) apps) (map name_of channels)
     → WroteLine (config_line why) status.Config ended o (handed app_of name_of tells apps channels channels steps)
@@ -50,14 +50,14 @@ pub set_up_refused : {H C : Type 0} (Ran : PlantRun) (app_of : H → AppView) (n
 set_up_refused Ran app_of name_of tells conf apps channels why ended o steps h k = search (rules, ran_unless)
 
 -- a plant that was set up and ran is what its configuration comes to
-pub set_up_ran : {H C : Type 0} (Ran : PlantRun) (app_of : H → AppView) (name_of : C → List ℕ) (tells : C → Told) (conf taken : ConfView) (apps spare : List (EntryOf H)) (app : KindOf H) (seen : AppView) (channels : List C)
+pub set_up_ran : {H C : Type 0} (Ran : PlantRun) (app_of : H → AppView) (name_of : C → List ℕ) (tells : C → ChannelTold) (conf taken : ConfView) (apps spare : List (EntryOf H)) (app : KindOf H) (seen : AppView) (channels : List C)
     (place : ℕ) (before after : C) (ended : Ended) (o : Outside) (steps : List JournalStep)
     → Ran (record { begins = begins_with taken seen; spare = map (entry_seen app_of) spare; bounds = taken.bounds }) ended o (tells before) (tells after) steps
     → taken ≡ record conf { blocks = []; drives = [] } → IsNewNet (net_of conf)
     → (app ≡ kind.Net (net_of conf) → seen ≡ net_app (net_of conf)) → ((x : H) → app ≡ kind.Handed x → seen ≡ app_of x)
     → None ≡ setup_fault conf (map (λ entry. string_bytes entry.name) apps) (map name_of channels)
     → IsChosen (λ entry. string_bytes entry.name) conf.app apps spare (app ≡ kind.Net (net_of conf)) (λ entry. app ≡ kind.Handed entry.app)
-    → place_of conf.channel (map name_of channels) ≡ Some place → before ≡ slice_index_or channels place before
+    → name_place conf.channel (map name_of channels) ≡ Some place → before ≡ slice_index_or channels place before
     → RanSaid Ran (Ok conf) ended o (handed app_of name_of tells apps channels (slice_set channels place after) steps)
 set_up_ran Ran app_of name_of tells conf taken apps spare app seen channels place before after ended o steps ran rest new net own fault chosen at is =
     ran_unless Ran (entry_seen app_of) apps conf (map name_of channels) None ended o (handed app_of name_of tells apps channels (slice_set channels place after) steps) fault (record {

@@ -1,7 +1,7 @@
 -- What a plant is run with and what is left of it, as contracts see it.
 use Rattle.std.specs.Prelude.{ℕ, List, map, string_bytes}
 use Rattle.std.specs.declared.option.Option.{Option}
-use Rattle.black_channel.specs.Told.{Told}
+use Rattle.black_channel.specs.Told.{ChannelTold}
 use Rattle.fb_net.specs.declared.kind_of.EntryOf.{EntryOf}
 use Rattle.multi_master.specs.Calls.{AppView}
 use Rattle.plant_model.specs.Past.{Named}
@@ -23,12 +23,12 @@ entry_seen app_of entry = record { name = string_bytes entry.name; app = app_of 
 pub record Handed (C : Type 0) : Type 0 where
   pub apps : List Named
   pub name_of : C → List ℕ
-  pub tells : C → Told
+  pub tells : C → ChannelTold
   pub channels_before : List C
   pub channels_after : List C
   pub journal : List JournalStep
 
 -- it, by what is known of each application and each channel
-abbrev pub handed : {H C : Type 0} → (H → AppView) → (C → List ℕ) → (C → Told) → List (EntryOf H) → List C → List C → List JournalStep → Handed C
+abbrev pub handed : {H C : Type 0} → (H → AppView) → (C → List ℕ) → (C → ChannelTold) → List (EntryOf H) → List C → List C → List JournalStep → Handed C
 handed app_of name_of tells apps before after steps =
     record { apps = map (entry_seen app_of) apps; name_of = name_of; tells = tells; channels_before = before; channels_after = after; journal = steps }

@@ -18,7 +18,7 @@ untold = record { before = None; after = None; faults_before = 0; faults_after =
 
 -- a plant ran, its report went nowhere, and its journal was written: its first 2^52 steps, which is more than any
 -- memory holds; or a first part of that where a write failed
-pub record RanNoted (t : Terms) (ended : Ended) (o : Outside) (before after : channel.Told) (steps : List JournalStep) : Type 0 where
+pub record RanNoted (t : Terms) (ended : Ended) (o : Outside) (before after : channel.ChannelTold) (steps : List JournalStep) : Type 0 where
   pub ends : Ended
   pub ran : RanPlant t ends (record { source = o.source; sink = untold }) before after steps
   pub wrote : Writes 0 (journal_text (take (2 ^ 52) steps)) ends ended o.sink

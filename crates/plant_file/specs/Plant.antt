@@ -14,12 +14,12 @@ use Rattle.plant_conf.specs.Meaning.{Means}
 use Rattle.plant_conf.specs.declared.fault.ConfFault.{ConfFault}
 use Rattle.plant_conf.specs.declared.fault.ConfFault.TheVariants as conf_fault
 use Rattle.plant_setup.specs.ConfigLine.{config_line}
-use Rattle.plant_setup.specs.Names.{place_of}
+use Rattle.plant_setup.specs.Names.{name_place}
 use Rattle.plant_setup.specs.Setup.{IsChosen, net_of, setup_fault}
 use Rattle.plant_setup.specs.declared.fault.SetupFault.{SetupFault}
 use Rattle.plant_setup.specs.declared.fault.SetupFault.TheVariants as setup
 use Rattle.multi_master.specs.Calls.{AppView}
-use Rattle.black_channel.specs.Told.{Told}
+use Rattle.black_channel.specs.Told.{ChannelTold}
 use Rattle.plant_model.specs.declared.journal.JournalStep.{JournalStep}
 use Rattle.plant_model.specs.Acts.{Act, begins_with}
 use Rattle.plant_model.specs.NetCycles.{AnswersByNet, net_app}
@@ -30,7 +30,7 @@ use Rattle.plant_file.specs.Handed.{DeskTold, Handed}
 -- what a run of a plant promises, by its terms, how it ended, what was read and written, what its channel told before
 -- and after it, and its journal
 abbrev pub PlantRun : Type 1
-PlantRun = Terms → Ended → Outside → Told → Told → List JournalStep → Type 0
+PlantRun = Terms → Ended → Outside → ChannelTold → ChannelTold → List JournalStep → Type 0
 
 -- the script wasn't read, no channel was used, and the journal is empty
 pub record BeganNothing {C : Type 0} (o : Outside) (h : Handed C) : Type 0 where
@@ -46,7 +46,7 @@ pub record WroteLine {C : Type 0} (line : List ℕ) (why : Status) (ended : Ende
   pub later : o.sink.faults_before ≤ o.sink.faults_after
 
 -- no plant ran, for want of memory: nothing was written
-pub record HadNoMemory {C : Type 0} (ended : Ended) (o : Outside) (h : Handed C) : Type 0 where
+pub record NoMemoryForPlant {C : Type 0} (ended : Ended) (o : Outside) (h : Handed C) : Type 0 where
   pub nothing : BeganNothing o h
   pub ended_is : ended ≡ record { status = status.Memory; place = 0 }
   pub written : o.sink.after ≡ o.sink.before
@@ -60,7 +60,7 @@ pub record RanSetUp {C : Type 0} (Ran : PlantRun) (conf : ConfView) (ended : End
   pub spare : List Named
   pub chosen : IsChosen (λ named. named.name) conf.app h.apps spare (app ≡ net_app (net_of conf)) (λ named. app ≡ named.app)
   pub place : ℕ
-  pub place_is : place_of conf.channel (map h.name_of h.channels_before) ≡ Some place
+  pub place_is : name_place conf.channel (map h.name_of h.channels_before) ≡ Some place
   pub before : C
   pub before_is : slice_get h.channels_before place ≡ Some before
   pub after : C
@@ -81,7 +81,7 @@ Says text (Err why) = why ≢ conf_fault.Memory → Means text (Err why)
 -- what comes of that
 abbrev pub RanSaid : {C : Type 0} → PlantRun → Result ConfView ConfFault → Ended → Outside → Handed C → Type 0
 RanSaid Ran (Ok conf) ended o h = RanUnless Ran (setup_fault conf (map (λ named. named.name) h.apps) (map h.name_of h.channels_before)) conf ended o h
-RanSaid Ran (Err conf_fault.Memory) ended o h = HadNoMemory ended o h
+RanSaid Ran (Err conf_fault.Memory) ended o h = NoMemoryForPlant ended o h
 RanSaid Ran (Err why) ended o h = WroteLine (config_line (setup.Conf why)) status.Config ended o h
 
 -- what comes of a text
@@ -109,7 +109,7 @@ abbrev pub RanAnswer : {C : Type 0} → PlantRun → Result (List ℕ) LoadFault
 RanAnswer Ran (Ok text) ended o h = RanText Ran text ended o h
 RanAnswer Ran (Err load.Failed) ended o h = WroteLine (codes "desk failed\n") status.Desk ended o h
 RanAnswer Ran (Err load.TooLong) ended o h = WroteLine (config_line setup.TooLong) status.Config ended o h
-RanAnswer Ran (Err load.Memory) ended o h = HadNoMemory ended o h
+RanAnswer Ran (Err load.Memory) ended o h = NoMemoryForPlant ended o h
 
 -- a plant was to be run by the configuration that a desk has, and this came of it
 pub record RanFile {C : Type 0} (Ran : PlantRun) (ended : Ended) (o : Outside) (desk : DeskTold) (h : Handed C) : Type 0 where

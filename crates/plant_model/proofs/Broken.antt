@@ -2,7 +2,7 @@
 -- the bound is quiet. No act of a tick but the line of the script changes what a slave offers, or which application
 -- runs, and each cycle keeps off what the application guards. Acts and what is heard are listed newest first, steps
 -- oldest first.
-use Rattle.plant_model.proofs.Common.{Act, AllSound, Beginning, Bit, BoundSpec, Event, Happen, HasLinks, JournalStep, LinkConf, Offered, Parcel, PullFrom, Said, StaysOff, Unset, append-nil, first_of_both, is_on, is_still, is_tick, journal, limit, line_step, link_at, masters, next_offered, of_end, offer_step, offers, offers_bit, option_map_or, pair, steps_of, ticks}
+use Rattle.plant_model.proofs.Common.{Act, AllSound, Beginning, Bit, BoundSpec, Event, Happen, HasLinks, JournalStep, LinkConf, Offered, Parcel, PullFrom, Said, StaysOff, Unset, append-nil, first_of_both, is_drive_on, is_still, is_tick_step, journal, reaction_limit, line_step, link_at, masters, next_offered, of_end, offer_step, offers, offers_bit, option_map_or, pair, steps_of, journal_ticks}
 use Rattle.std.proofs.Common.{◌≡◌, ◌≤◌, ℕ, suc, ◌+◌, ◌-◌, Bool, true, false, cond, ◌||◌, List, [], ◌∷◌, ◌++◌, Option, None, refl, sym, ap, ap₂, ◌∙◌, arith, rules, ◌&&◌, not, All, Some}
 use Rattle.std.proofs.lemmas.Bool.{and_parts}
 use Rattle.reaction_bound.specs.Reaction as reaction
@@ -54,13 +54,13 @@ stays_still b bound act done h =
     (ap (λ (guards : Bit → Bit → Bool). guards bound.drive bound.estop) same)
 
 -- a line that is a tick
-of_tick : (said : Said) → is_tick (line_step said) ≡ true → IsOfTick (Happen said)
+of_tick : (said : Said) → is_tick_step (line_step said) ≡ true → IsOfTick (Happen said)
 of_tick (Event event.Tick) h = Ticks
 of_tick _ h = absurd (cc h)
 
 -- a bound is still and quiet since some of these acts, after which at least so many ticks came
 data QuietFor (b : Beginning) (bound : BoundSpec) : List Act → ℕ → Type 0 where
-  Since : (later earlier : List Act) (n : ℕ) → ticks (journal b earlier) + n ≤ ticks (journal b (later ++ earlier)) → is_still b bound (later ++ earlier) ≡ true → StaysOff b bound later earlier
+  Since : (later earlier : List Act) (n : ℕ) → journal_ticks (journal b earlier) + n ≤ journal_ticks (journal b (later ++ earlier)) → is_still b bound (later ++ earlier) ≡ true → StaysOff b bound later earlier
       → QuietFor b bound (later ++ earlier) n
 
 fewer : (b : Beginning) (bound : BoundSpec) (done : List Act) (n m : ℕ) → m ≤ n → QuietFor b bound done n → QuietFor b bound done m
@@ -76,7 +76,7 @@ quiet_act b bound act _ _ s stays (Since later earlier n long still quiet) =
 
 -- so its drive is off in time
 quiet_drive : (b : Beginning) (bound : BoundSpec) (estop drive : LinkConf) (done : List Act) (n : ℕ) → HasLinks b bound estop drive → Clean estop bound.estop.link (journal b done) → Clean drive bound.drive.link (journal b done)
-    → limit estop drive ≤ n + 3 → QuietFor b bound done n → is_on bound drive (journal b done) ≡ false
+    → reaction_limit estop drive ≤ n + 3 → QuietFor b bound done n → is_drive_on bound drive (journal b done) ≡ false
 quiet_drive b bound estop drive _ _ links ce cd long (Since later earlier n count still quiet) =
     steps_off b bound estop drive later earlier (journal b (later ++ earlier)) [] links quiet (sym (append-nil _)) ce cd (omega arith)
 
@@ -88,7 +88,7 @@ quiet_now : (b : Beginning) (bound : BoundSpec) (done : List Act) (n : ℕ) (sti
     → (is_still b bound done ≡ true → reaction.quiet_for n heard ≡ true → QuietFor b bound done n) → reaction.quiet_for n (reaction.Quiet still ∷ heard) ≡ true → QuietFor b bound done n
 quiet_now b bound done n still heard h k l = search (rules, here)
 
-not_late : (limit : ℕ) (on : Bool) (heard : List reaction.Heard) → (reaction.quiet_for (limit - 1) heard ≡ true → on ≡ false) → reaction.is_late limit (reaction.Tick on ∷ heard) ≡ false
+not_late : (limit : ℕ) (on : Bool) (heard : List reaction.Heard) → (reaction.quiet_for (limit - 1) heard ≡ true → on ≡ false) → reaction.is_late_tick limit (reaction.Tick on ∷ heard) ≡ false
 not_late limit on heard h = grind arith
 
 -- before its newest line a bound was quiet for as long as was heard, and not broken: it is quiet after a tick, and
@@ -101,9 +101,9 @@ kept_line : (b : Beginning) (bound : BoundSpec) (estop drive : LinkConf) (done :
     → Clean estop bound.estop.link (journal b done) → Clean drive bound.drive.link (journal b done) → KeptBefore b bound done tick before
     → ((n : ℕ) → reaction.quiet_for n (heard b bound tick done before) ≡ true → QuietFor b bound done n) × (reaction.broken_of (limit_of b.links bound) (heard b bound tick done before) ≡ None)
 kept_line b bound estop drive done true before links ce cd k =
-    let driven : is_driven b bound done ≡ is_on bound drive (journal b done) = ap (λ (o : Option LinkConf). option_map_or (λ z. is_on bound z (journal b done)) o false) links.drive_is in
-    let limit_is : limit_of b.links bound ≡ limit estop drive = ap₂ (λ (one two : Option LinkConf). limit_by one two) links.estop_is links.drive_is in
-    let count : ℕ = suc (reaction.ticks before) in (
+    let driven : is_driven b bound done ≡ is_drive_on bound drive (journal b done) = ap (λ (o : Option LinkConf). option_map_or (λ z. is_drive_on bound z (journal b done)) o false) links.drive_is in
+    let limit_is : limit_of b.links bound ≡ reaction_limit estop drive = ap₂ (λ (one two : Option LinkConf). limit_by one two) links.estop_is links.drive_is in
+    let count : ℕ = suc (reaction.heard_ticks before) in (
       λ n. quiet_now b bound done n (is_still b bound done) (reaction.Tick (is_driven b bound done) ∷ before) refl (λ still quiet. fewer b bound done (n - 1 + 1) n (omega arith) (k.quiet (n - 1) quiet refl)),
       ap₂ (λ (before : Option ℕ) (late : Bool). first_of_both (first_of_both before late count) false count) k.none
           (not_late (limit_of b.links bound) (is_driven b bound done) before
@@ -111,11 +111,11 @@ kept_line b bound estop drive done true before links ce cd k =
     )
 kept_line b bound estop drive done false before links ce cd k = (
   λ n. quiet_now b bound done n (is_still b bound done) before refl (λ still quiet. fewer b bound done (n + 0) n (omega arith) (k.quiet n quiet still)),
-  ap (λ (o : Option ℕ). first_of_both o false (reaction.ticks before)) k.none,
+  ap (λ (o : Option ℕ). first_of_both o false (reaction.heard_ticks before)) k.none,
 )
 
 -- where a bound was still before a tick it is so after it
-still_on : (b : Beginning) (bound : BoundSpec) (said : Said) (done : List Act) (tick : Bool) → is_tick (line_step said) ≡ tick → (tick || is_still b bound (Happen said ∷ done)) ≡ true → is_still b bound done ≡ true
+still_on : (b : Beginning) (bound : BoundSpec) (said : Said) (done : List Act) (tick : Bool) → is_tick_step (line_step said) ≡ tick → (tick || is_still b bound (Happen said ∷ done)) ≡ true → is_still b bound done ≡ true
     → is_still b bound (Happen said ∷ done) ≡ true
 still_on b bound said done tick h k l = search (rules, stays_still, of_tick)
 

@@ -1,5 +1,5 @@
 -- A net that runs answers by looking back over its cycles.
-use Rattle.plant_model.proofs.Common.{Act, Answer, AppView, Beginning, Call, ChangeApp, Connection, Deliver, MasterSettings, Meant, Nonce, Tick, after, all_tick, answer, call_of, calls, connection, cycle_in, event_at, event_keeps, is_heard, masters, meant, offer_len, option_and_then, option_to_list, outputs_at, settings, settings_alone, with_cycle, with_event}
+use Rattle.plant_model.proofs.Common.{Act, Answer, AppView, Beginning, Call, ChangeApp, Connection, Deliver, MasterSettings, Meant, Nonce, Tick, after, all_tick, app_answer, call_of, calls, numbered_connection, cycle_in, moved_at, event_keeps, is_heard, masters, meant, offer_len, option_and_then, option_to_list, connection_outputs, settings, settings_alone, with_cycle, with_event}
 use Rattle.std.proofs.Common.{◌≡◌, ℕ, true, false, List, [], ◌∷◌, ◌++◌, map, Option, Some, None, IfSome, refl, sym, ap, ap₂, ◌∙◌, arith}
 use Rattle.std.proofs.lemmas.List.{map-id}
 use Rattle.std.proofs.lemmas.Option.{cond_some}
@@ -22,21 +22,21 @@ answering _ m = m.app
 
 -- it answers by the outputs after the call
 abbrev answer_to : Call → Meant → Answer
-answer_to call m = (answering call m).rule (answering call m).holds (is_ticked call) (map outputs_at (after call m).connections) (map offer_len m.connections)
+answer_to call m = (answering call m).rule (answering call m).holds (is_ticked call) (map connection_outputs (after call m).connections) (map offer_len m.connections)
 
 answered : (call : Call) (m : Meant) (a : Answer) → cycle_in call m ≡ Some a → a ≡ answer_to call m
 answered (Deliver link bytes) m a e =
     let lens = event_keeps offer_len link (move.Deliver bytes) m.connections (λ c. refl) in
-    sym (cond_some (is_heard bytes (connection link m)) (answer false (event_at link (move.Deliver bytes) m)) a e).1
+    sym (cond_some (is_heard bytes (numbered_connection link m)) (app_answer false (moved_at link (move.Deliver bytes) m)) a e).1
     ∙ ap₂ (λ (inputs : List (List ℕ)) (ls : List ℕ). m.app.rule m.app.holds false inputs ls)
-    (sym (outputs_delivered link bytes m.connections a.outputs) ∙ sym (ap (λ (o : Option Answer). map outputs_at (event_at link (move.Deliver bytes) (with_cycle o m)).connections) e)) lens
+    (sym (outputs_delivered link bytes m.connections a.outputs) ∙ sym (ap (λ (o : Option Answer). map connection_outputs (moved_at link (move.Deliver bytes) (with_cycle o m)).connections) e)) lens
 answered Tick m a e =
-    let told : Answer = answer true (all_tick m) in
+    let told : Answer = app_answer true (all_tick m) in
     let is : a ≡ told = cc in
     is ∙ ap₂ (λ (inputs : List (List ℕ)) (ls : List ℕ). m.app.rule m.app.holds true inputs ls) (sym (all_outputs_put (all_tick m).connections told.outputs)) (map-map offer_len (with_event move.Tick) m.connections)
 answered (Nonce link id) m a e = absurd (cc e)
 answered (ChangeApp app) m a e =
-    let told : Answer = answer false (record m { app = app }) in
+    let told : Answer = app_answer false (record m { app = app }) in
     let is : a ≡ told = cc in
     is ∙ ap (λ (inputs : List (List ℕ)). app.rule app.holds false inputs (map offer_len m.connections)) (sym (all_outputs_put m.connections told.outputs))
 
@@ -62,15 +62,15 @@ answering_had settings app calls call m e h = grind arith
 
 -- a call's cycle, if it runs one
 abbrev cycle_by : Call → Meant → NetCycle
-cycle_by call m = record { ticked = is_ticked call; inputs = map outputs_at (after call m).connections }
+cycle_by call m = record { ticked = is_ticked call; inputs = map connection_outputs (after call m).connections }
 
 -- an answer is that of what the application began as; the lengths of what is answered never change
 told : (settings : List MasterSettings) (app : AppView) (calls : List Call) (call : Call) (a : Answer) (x : AppView) → cycle_in call (meant settings app calls) ≡ Some a → answering call (meant settings app calls) ≡ x
-    → a ≡ x.rule x.holds (is_ticked call) (map outputs_at (after call (meant settings app calls)).connections) (sent_lens settings)
+    → a ≡ x.rule x.holds (is_ticked call) (map connection_outputs (after call (meant settings app calls)).connections) (sent_lens settings)
 told settings app calls call a x is h =
     let m : Meant = meant settings app calls in
     answered call m a is
-    ∙ ap₂ (λ (y : AppView) (lens : List ℕ). y.rule y.holds (is_ticked call) (map outputs_at (after call m).connections) lens) h
+    ∙ ap₂ (λ (y : AppView) (lens : List ℕ). y.rule y.holds (is_ticked call) (map connection_outputs (after call m).connections) lens) h
     (sym (map-map (λ (s : MasterSettings). s.lengths.master) (λ (c : Connection). c.settings) m.connections) ∙ ap sent_lens (settings_alone settings app calls))
 
 went_on : (settings : List MasterSettings) (app : AppView) (calls : List Call) (call : Call) (o : Option Answer) (begun : AppView) (e : List NetCycle) → cycle_in call (meant settings app calls) ≡ o

@@ -21,8 +21,8 @@ pub use Rattle.fsoe_base.specs.Image.{bit_of}
 pub use Rattle.fsoe_base.specs.declared.command.End.{End}
 pub use Rattle.fsoe_base.specs.declared.lengths.Lengths.{Lengths}
 pub use Rattle.multi_master.proofs.Neighbours.{event_keeps, settings_alone}
-pub use Rattle.multi_master.specs.Calls.{AppView, Call, ChangeApp, Deliver, IsSound, Meant, Nonce, Tick, after, all_tick, answer, changed_by, changed_from, connection, cycle_in, event_at, event_on, is_heard, meant, with_cycle}
-pub use Rattle.multi_master.specs.Connection.{Connection, fresh, is_offer, offer_at, offer_len, outputs_at, with_event, with_offers}
+pub use Rattle.multi_master.specs.Calls.{AppView, Call, ChangeApp, Deliver, IsSound, Meant, Nonce, Tick, after, all_tick, app_answer, changed_by, changed_from, numbered_connection, cycle_in, moved_at, event_on, is_heard, meant, with_cycle}
+pub use Rattle.multi_master.specs.Connection.{Connection, new_connection, is_offer, offer_at, offer_len, connection_outputs, with_event, with_offers}
 pub use Rattle.param_load.specs.declared.entry.Entry.{Entry}
 pub use Rattle.param_load.specs.declared.entry.Move.{Move}
 pub use Rattle.param_load.specs.declared.master_settings.MasterSettings.{MasterSettings}
@@ -30,12 +30,12 @@ pub use Rattle.param_load.specs.declared.slave_settings.SlaveSettings.{SlaveSett
 pub use Rattle.plant_conf.specs.Kept.{HasSameLengths}
 pub use Rattle.plant_conf.specs.declared.conf.BoundSpec.{BoundSpec}
 pub use Rattle.plant_conf.specs.declared.conf.LinkConf.{LinkConf}
-pub use Rattle.plant_model.specs.Acts.{Act, App, Beginning, Event, Happen, PullFrom, Said, Event as SaysEvent, Start, all_pushes, call_of, calls, cycle_of, delivery_call, is_cut, journal, line_step, masters, newer, offer_step, offers, push_to, pushes_of, settings, steps_of, uses, uses_of}
-pub use Rattle.plant_model.specs.Bound.{HasLinks, Reacts, StaysOff, inputs_after, is_on, is_still, limit, offers_after}
+pub use Rattle.plant_model.specs.Acts.{Act, App, Beginning, Event, Happen, PullFrom, Said, Event as SaysEvent, Start, all_pushes, call_of, calls, act_cycle, delivery_call, is_cut, journal, line_step, masters, newer, offer_step, offers, push_to, pushes_of, settings, steps_of, uses, uses_of}
+pub use Rattle.plant_model.specs.Bound.{HasLinks, Reacts, StaysOff, inputs_after, is_drive_on, is_still, reaction_limit, offers_after}
 pub use Rattle.plant_model.specs.FairPairs.{PairsAreFair, StepFits}
 pub use Rattle.plant_model.specs.Gifts.{EmptiesRose, GivesHeld, GrewBy, RoseBy, ToldHolds, ToldLists, each_uses, empty_pulls, gifts, place_of, pushes, sent_uses}
 pub use Rattle.plant_model.specs.JournalLaws.{Cycles, PullsFit, line_steps, master_hears, one_if_left, pulled_in, short_ticks, tells_hearing}
-pub use Rattle.plant_model.specs.Pair.{if_same, is_tick, link_at, next_of, own_events, own_part, pair, pairs_by, pulls_after, ticks}
+pub use Rattle.plant_model.specs.Pair.{if_same, is_tick_step, link_at, next_of, own_events, own_part, pair, pairs_by, pulls_after, journal_ticks}
 pub use Rattle.plant_model.specs.Past.{AppsAreSpare, IsPast, Named, Taken, passed, said, said_in, said_with, take_app, with_line}
 pub use Rattle.plant_model.specs.Promises.{AllSound}
 pub use Rattle.plant_model.specs.Uses.{Begin, Pull, Push, Trace, Use}

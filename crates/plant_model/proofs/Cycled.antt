@@ -1,5 +1,5 @@
 -- Which acts run a cycle, and that its answer is sound.
-use Rattle.plant_model.proofs.Common.{Act, AllSound, Answer, Beginning, Call, Cycles, Deliver, End, Entry, Event, Happen, IfSome, IsSound, JournalStep, LinkConf, Parcel, PullFrom, call_of, calls, connection, cycle_in, delivery_call, is_heard, is_some, journal, link_at, master_hears, masters, meant, next_of, option_and_then, option_to_list, pair, place_of, settings, tells_hearing, world_after}
+use Rattle.plant_model.proofs.Common.{Act, AllSound, Answer, Beginning, Call, Cycles, Deliver, End, Entry, Event, Happen, IfSome, IsSound, JournalStep, LinkConf, Parcel, PullFrom, call_of, calls, numbered_connection, cycle_in, delivery_call, is_heard, is_some, journal, link_at, master_hears, masters, meant, next_of, option_and_then, option_to_list, pair, place_of, settings, tells_hearing, world_after}
 use Rattle.std.proofs.Common.{◌≡◌, ℕ, zero, suc, ◌==◌, Bool, true, false, List, [], ◌∷◌, ◌++◌, slice_get, Option, Some, None, if◌then◌else◌, refl, sym, ap, ◌∙◌, append_assoc, arith}
 use Rattle.fsoe_base.specs.declared.command.End.TheVariants as side
 use Rattle.param_load.specs.declared.entry.Move.TheVariants as move
@@ -31,7 +31,7 @@ heard b done place frame link is =
     let steps : List JournalStep = journal b done in
     let offers : List JournalStep = offers_by b (Some call) done in
     let own = mastered b done place link is in
-    some_if (is_heard frame (connection n (masters b done))) _
+    some_if (is_heard frame (numbered_connection n (masters b done))) _
     ∙ ap (is_heard frame) own
     ∙ ap tells_due (sym (steps_keep (λ w. (next_of side.Master (move.Deliver frame) link w).did) link n steps offers (each_listed (Keeps (λ w. (next_of side.Master (move.Deliver frame) link w).did) link n) (λ x w. put_keeps link frame x.1 w (x.0 == n)) _)))
     ∙ sym (ap tells_hearing (ap (pair link n) (sym (append_assoc steps offers (step.Pulled parcel ∷ []))) ∙ pair_own link (steps ++ offers) (step.Pulled parcel) n side.Master (move.Deliver frame) (record { part = λ j. refl })))

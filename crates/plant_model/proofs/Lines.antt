@@ -1,5 +1,5 @@
 -- Where the lines of the script and the pulls stand in a journal, what the channel gave, and how often it gave nothing.
-use Rattle.plant_model.proofs.Common.{Act, App, Beginning, End, Event, Happen, IsPast, JournalStep, LinkConf, Parcel, PullFrom, PullsFit, Said, Start, all_pushes, append-nil, changed_by, common_steps, cond, cycle_of, empty_pulls, flat_map-append, gifts, is_cut, is_tick, journal, line_step, line_steps, map-append, masters, offer_step, offers, one_if_left, option_to_list, pulled_in, pulls_after, push_to, pushes_of, said_in, short_ticks, steps_of, sum_by-append, uses, uses_of, with_line}
+use Rattle.plant_model.proofs.Common.{Act, App, Beginning, End, Event, Happen, IsPast, JournalStep, LinkConf, Parcel, PullFrom, PullsFit, Said, Start, all_pushes, append-nil, changed_by, common_steps, cond, act_cycle, empty_pulls, flat_map-append, gifts, is_cut, is_tick_step, journal, line_step, line_steps, map-append, masters, offer_step, offers, one_if_left, option_to_list, pulled_in, pulls_after, push_to, pushes_of, said_in, short_ticks, steps_of, sum_by-append, uses, uses_of, with_line}
 use Rattle.std.proofs.Common.{◌≡◌, ◌<◌, ℕ, suc, ◌-◌, List, [], ◌∷◌, ◌++◌, map, All, Option, Some, None, refl, sym, ap, ap₂, subst, ◌∙◌, arith, ◌+◌, Bool}
 use Rattle.std.specs.List.{flat_map, count_by}
 use Rattle.std.proofs.lemmas.List.Elements.{All-cons, All-nil, filter-append}
@@ -17,7 +17,7 @@ over_listed F h (x ∷ listed) rest = h x (map offer_step listed ++ rest) ∙ ov
 
 over_offers {ℓ} : {X : Type ℓ} (F : List JournalStep → X) → ((x : ℕ × List ℕ) (steps : List JournalStep) → F (offer_step x ∷ steps) ≡ F steps) → (b : Beginning) (act : Act) (done : List Act) (rest : List JournalStep)
     → F (offers b act done ++ rest) ≡ F rest
-over_offers F h b act done rest = over_listed F h (changed_by (cycle_of b act done) (masters b done).connections) rest
+over_offers F h b act done rest = over_listed F h (changed_by (act_cycle b act done) (masters b done).connections) rest
 
 pub offers_alone {ℓ} : {X : Type ℓ} (F : List JournalStep → X) → ((x : ℕ × List ℕ) (steps : List JournalStep) → F (offer_step x ∷ steps) ≡ F steps) → (b : Beginning) (act : Act) (done : List Act) → F (offers b act done) ≡ F []
 offers_alone F h b act done = ap F (sym (append-nil (offers b act done))) ∙ over_offers F h b act done []
@@ -32,7 +32,7 @@ abbrev room_after : ℕ → List JournalStep → ℕ
 room_after room [] = room
 room_after room (step.Offer link load ∷ steps) = room_after room steps
 room_after room (step.Pulled parcel ∷ steps) = room_after (room - 1) steps
-room_after room (line ∷ steps) = room_after (pulls_after (is_tick line)) steps
+room_after room (line ∷ steps) = room_after (pulls_after (is_tick_step line)) steps
 
 -- pulls fit, and so many more may come
 abbrev pub Leaves : ℕ → List JournalStep → ℕ → Type 0
@@ -42,13 +42,13 @@ then_leaves : (room mid left : ℕ) (xs ys : List JournalStep) → Leaves room x
 then_leaves room mid left [] ys h i = subst (λ (r : ℕ). Leaves r ys left) (sym h.1) i
 then_leaves room mid left (step.Offer link load ∷ xs) ys h i = then_leaves room mid left xs ys h i
 then_leaves room mid left (step.Pulled parcel ∷ xs) ys h i = let rest = then_leaves (room - 1) mid left xs ys (h.0.1, h.1) i in ((h.0.0, rest.0), rest.1)
-then_leaves room mid left (line ∷ xs) ys h i = then_leaves (pulls_after (is_tick line)) mid left xs ys h i
+then_leaves room mid left (line ∷ xs) ys h i = then_leaves (pulls_after (is_tick_step line)) mid left xs ys h i
 
 offers_leave : (b : Beginning) (act : Act) (done : List Act) (room : ℕ) → Leaves room (offers b act done) room
 offers_leave b act done room = subst (λ (T : Type 0). T) (sym (offers_alone (λ steps. Leaves room steps room) (λ x steps. refl) b act done)) (tt, refl)
 
-line_leaves : (b : Beginning) (said : Said) (done : List Act) (room : ℕ) → Leaves room (line_step said ∷ offers b (Happen said) done) (pulls_after (is_tick (line_step said)))
-line_leaves b (Event e) done room = offers_leave b (Happen (Event e)) done (pulls_after (is_tick (step.Script e)))
+line_leaves : (b : Beginning) (said : Said) (done : List Act) (room : ℕ) → Leaves room (line_step said ∷ offers b (Happen said) done) (pulls_after (is_tick_step (line_step said)))
+line_leaves b (Event e) done room = offers_leave b (Happen (Event e)) done (pulls_after (is_tick_step (step.Script e)))
 line_leaves b (App a) done room = offers_leave b (Happen (App a)) done 0
 
 -- the journal of acts that there may be fits; where more may be pulled it leaves as many
@@ -56,7 +56,7 @@ past_fits : (b : Beginning) (room : ℕ) (done : List Act) → IsPast room done 
 past_fits b room (Start ∷ []) h = (0, offers_leave b Start [] 0, λ some. sym h)
 past_fits b room (Happen said ∷ done) h =
     let before = past_fits b 0 done h.1 in
-    (pulls_after (is_tick (line_step said)), then_leaves 0 before.0 _ (journal b done) _ before.1 (line_leaves b said done before.0), λ some. sym h.0)
+    (pulls_after (is_tick_step (line_step said)), then_leaves 0 before.0 _ (journal b done) _ before.1 (line_leaves b said done before.0), λ some. sym h.0)
 past_fits b room (PullFrom None ∷ done) h =
     let before = past_fits b (suc h.1.0) done h.1.1 in
     (before.0, then_leaves 0 before.0 before.0 (journal b done) [] before.1 (tt, refl), λ some. absurd (omega (arith, some, h.0)))
@@ -147,12 +147,12 @@ short_joined room [] ys = omega arith
 short_joined room (step.Offer link load ∷ xs) ys = short_joined room xs ys
 short_joined room (step.Pulled parcel ∷ xs) ys = short_joined (room - 1) xs ys
 short_joined room (line ∷ xs) ys =
-    let next : ℕ = pulls_after (is_tick line) in
+    let next : ℕ = pulls_after (is_tick_step line) in
     omega (arith, short_joined next xs ys, none_adds room (short_ticks next (xs ++ ys)), none_adds room (short_ticks next xs))
 
 line_short : (b : Beginning) (said : Said) (done : List Act) (room : ℕ)
-    → short_ticks room (line_step said ∷ offers b (Happen said) done) ≡ one_if_left room (one_if_left (pulls_after (is_tick (line_step said))) 0)
-line_short b (Event e) done room = ap (one_if_left room) (offers_alone (short_ticks (pulls_after (is_tick (step.Script e)))) (λ x steps. refl) b (Happen (Event e)) done)
+    → short_ticks room (line_step said ∷ offers b (Happen said) done) ≡ one_if_left room (one_if_left (pulls_after (is_tick_step (line_step said))) 0)
+line_short b (Event e) done room = ap (one_if_left room) (offers_alone (short_ticks (pulls_after (is_tick_step (step.Script e)))) (λ x steps. refl) b (Happen (Event e)) done)
 line_short b (App a) done room = ap (one_if_left room) (offers_alone (short_ticks 0) (λ x steps. refl) b (Happen (App a)) done)
 
 -- a tick is short while parcels may come, and stays so after a pull that gave nothing
@@ -161,7 +161,7 @@ past_short b room (Start ∷ []) h = omega (arith, offers_alone (short_ticks 0) 
 past_short b room (Happen said ∷ done) h =
     let js : List JournalStep = journal b done in
     let left : ℕ = room_after 0 js in
-    let next : ℕ = one_if_left (pulls_after (is_tick (line_step said))) 0 in
+    let next : ℕ = one_if_left (pulls_after (is_tick_step (line_step said))) 0 in
     let here : one_if_left room 0 ≡ next = ap (λ (n : ℕ). one_if_left n 0) h.0 in
     omega (arith, short_joined 0 js (line_step said ∷ offers b (Happen said) done), line_short b said done left, none_adds left next, past_short b 0 done h.1, here, empty_more b (Happen said) done)
 past_short b room (PullFrom None ∷ done) h =

@@ -1,5 +1,5 @@
 -- The masters of a plant did what their pairs in the journal say: connection by connection both have the same deeds.
-use Rattle.plant_model.proofs.Common.{Act, Answer, App, Beginning, Call, Connection, Deed, End, Entry, Happen, IfSome, IsSomeAnd, JournalStep, LinkConf, Meant, Move, PlantEvent, PullFrom, SaysEvent, Start, all_tick, append-nil, calls, changed_by, changed_from, connection, cycle_in, cycle_of, deeds, delivery_call, eq-eqb, event_on, fresh, if_same, is_offer, journal, link_at, masters, meant, next_of, offer_step, option_and_then, option_map, option_to_list, own_events, own_part, pair, settings, with_cycle, with_event, with_offers, world_after}
+use Rattle.plant_model.proofs.Common.{Act, Answer, App, Beginning, Call, Connection, Deed, End, Entry, Happen, IfSome, IsSomeAnd, JournalStep, LinkConf, Meant, Move, PlantEvent, PullFrom, SaysEvent, Start, all_tick, append-nil, calls, changed_by, changed_from, numbered_connection, cycle_in, act_cycle, deeds, delivery_call, eq-eqb, event_on, new_connection, if_same, is_offer, journal, link_at, masters, meant, next_of, offer_step, option_and_then, option_map, option_to_list, own_events, own_part, pair, settings, with_cycle, with_event, with_offers, world_after}
 use Rattle.std.proofs.Common.{◌≡◌, ◌≢◌, ℕ, zero, suc, ◌+◌, ◌<◌, ◌==◌, List, [], ◌∷◌, ◌++◌, map, slice_get, Option, Some, None, Bool, true, false, if◌then◌else◌, refl, sym, ap, ap₂, ◌∙◌, append_assoc, arith}
 use Rattle.std.proofs.lemmas.Option.{slice_get-map}
 use Rattle.fsoe_base.specs.declared.command.End.TheVariants as side
@@ -116,23 +116,23 @@ parcel_step b acts place link n side.Master frame (Some conf) at e h =
 
 -- the connection of the master of many that has the number of a link
 pub mastered : (b : Beginning) (acts : List Act) (place : ℕ) (link : LinkConf) → slice_get b.links place ≡ Some link → slice_get (masters b acts).connections place ≡ Some (master_with link (pair link (suc place) (journal b acts)))
-mastered b [] place link h = slice_get-map fresh (settings b) place ∙ ap (option_map fresh) (slice_get-map (λ l. l.master) b.links place ∙ ap (option_map (λ l. l.master)) h)
-mastered b (Start ∷ acts) place link h = let m : Meant = masters b acts in cycle_step (cycle_of b Start acts) (record m { app = b.app }) place link (journal b acts) (mastered b acts place link h)
+mastered b [] place link h = slice_get-map new_connection (settings b) place ∙ ap (option_map new_connection) (slice_get-map (λ l. l.master) b.links place ∙ ap (option_map (λ l. l.master)) h)
+mastered b (Start ∷ acts) place link h = let m : Meant = masters b acts in cycle_step (act_cycle b Start acts) (record m { app = b.app }) place link (journal b acts) (mastered b acts place link h)
 mastered b (Happen (SaysEvent event.Tick) ∷ acts) place link h =
     let m : Meant = masters b acts in
-    line_more (cycle_of b (Happen (SaysEvent event.Tick)) acts) (all_tick m) place link (journal b acts) (step.Script event.Tick)
+    line_more (act_cycle b (Happen (SaysEvent event.Tick)) acts) (all_tick m) place link (journal b acts) (step.Script event.Tick)
     (by_entries (map (with_event move.Tick) m.connections) place link (journal b acts ++ step.Script event.Tick ∷ []) _ (slice_get-map (with_event move.Tick) m.connections place ∙ ap (option_map (with_event move.Tick)) (mastered b acts place link h)) (pair_more link (suc place) (journal b acts) (step.Script event.Tick ∷ [])))
     ∙ ap (λ (listed : List (ℕ × List ℕ)). Some (master_with link (pair link (suc place) (journal b acts ++ (step.Script event.Tick ∷ map offer_step listed))))) (told_ticked 1 m.connections _)
 mastered b (Happen (SaysEvent (event.Nonce n side.Master id)) ∷ acts) place link h = master_step (masters b acts).connections place link (journal b acts) _ n (move.Nonce id) (record { part = λ k. refl }) (mastered b acts place link h)
 mastered b (Happen (SaysEvent e) ∷ acts) place link h = quiet_step (masters b acts).connections place link (journal b acts) (step.Script e) (line_keeps link (suc place) e (pair link (suc place) (journal b acts)) refl) (mastered b acts place link h)
 mastered b (Happen (App app) ∷ acts) place link h =
     let m : Meant = masters b acts in
-    line_more (cycle_of b (Happen (App app)) acts) (record m { app = app }) place link (journal b acts) step.App (quiet_step m.connections place link (journal b acts) step.App refl (mastered b acts place link h))
+    line_more (act_cycle b (Happen (App app)) acts) (record m { app = app }) place link (journal b acts) step.App (quiet_step m.connections place link (journal b acts) step.App refl (mastered b acts place link h))
 mastered b (PullFrom None ∷ acts) place link h = cycle_step None (masters b acts) place link (journal b acts) (mastered b acts place link h)
 mastered b (PullFrom (Some parcel) ∷ acts) place link h = parcel_step b acts place link parcel.to.link parcel.to.end parcel.frame (link_at b.links parcel.to.link) h refl (mastered b acts place link h)
 
-pub masters_agree : (b : Beginning) (acts : List Act) (k : ℕ) → IfSome (link_at b.links k) (λ link. IsSomeAnd (connection k (masters b acts)) (λ c. deeds side.Master (pair link k (journal b acts)) ≡ c.deeds))
+pub masters_agree : (b : Beginning) (acts : List Act) (k : ℕ) → IfSome (link_at b.links k) (λ link. IsSomeAnd (numbered_connection k (masters b acts)) (λ c. deeds side.Master (pair link k (journal b acts)) ≡ c.deeds))
 masters_agree b acts zero = tt
 masters_agree b acts (suc place) =
-    if_some (λ link. IsSomeAnd (connection (suc place) (masters b acts)) (λ c. deeds side.Master (pair link (suc place) (journal b acts)) ≡ c.deeds)) (slice_get b.links place)
+    if_some (λ link. IsSomeAnd (numbered_connection (suc place) (masters b acts)) (λ c. deeds side.Master (pair link (suc place) (journal b acts)) ≡ c.deeds)) (slice_get b.links place)
     (λ link is. rw (mastered b acts place link is) refl)

@@ -1,7 +1,7 @@
 -- How the entries of a pair grow with the acts of a plant: the ticks that came, and since when the peer of an end sent
 -- no data that offer a bit as 1. Data frames are sent as answers alone, and a frame that comes changes no offer. Acts
 -- and entries are listed newest first, steps oldest first.
-use Rattle.plant_model.proofs.Common.{Act, Beginning, Deed, End, Entry, Happen, IsTrue, JournalStep, LinkConf, Move, PullFrom, Setup, WasOffered, append-nil, common_steps, cond, flat_map-append, is_data_frame, is_tick, journal, line_step, next_of, next_offered, of_end, offers, offers_bit, own_part, pair, peer, pulled_in, same_end, step, steps_of, sum_by-append, ticked, ticks, ticks_of, world_after}
+use Rattle.plant_model.proofs.Common.{Act, Beginning, Deed, End, Entry, Happen, IsTrue, JournalStep, LinkConf, Move, PullFrom, Setup, WasOffered, append-nil, common_steps, cond, flat_map-append, is_data_frame, is_tick_step, journal, line_step, next_of, next_offered, of_end, offers, offers_bit, own_part, pair, peer, pulled_in, same_end, step, steps_of, sum_by-append, ticked, journal_ticks, ticks_of, world_after}
 use Rattle.std.proofs.Common.{◌≡◌, ◌≤◌, ℕ, suc, ◌+◌, ◌==◌, Bool, true, false, List, [], ◌∷◌, ◌++◌, Some, if◌then◌else◌, refl, sym, ap, ap₂, subst, length, ◌⊎◌, inl, inr, ◌∙◌, append_assoc, length-append, arith}
 use Rattle.std.proofs.lemmas.List.{nil_from_length}
 use Rattle.fsoe_base.specs.declared.command.End.TheVariants as side
@@ -87,7 +87,7 @@ both_tick : (which : End) (n : ℕ) → n + 1 ≤ (if same_end which side.Master
 both_tick which n = grind arith
 
 -- so it goes on in a step in which no parcel is pulled
-zero_step : (which : End) (bit from now later : ℕ) (link : LinkConf) (k : ℕ) (s : JournalStep) (w : List Entry) → later ≤ now + cond (is_tick s) 1 0 → parcel_of s ≡ [] → ZeroSince which bit from now w
+zero_step : (which : End) (bit from now later : ℕ) (link : LinkConf) (k : ℕ) (s : JournalStep) (w : List Entry) → later ≤ now + cond (is_tick_step s) 1 0 → parcel_of s ≡ [] → ZeroSince which bit from now w
     → ZeroSince which bit from later (world_after link.master link.slave (own_part k s) w)
 zero_step which bit from now later link k (step.Script event.Tick) w few none h =
     let x : Entry = next_of side.Slave move.Tick link w in
@@ -103,10 +103,10 @@ zero_step which bit from now later link k s w few none h = λ most was. omega (a
 
 -- since tick `from` of a journal the peer of an end sent no data that offer a bit as 1
 abbrev pub Quiet : End → ℕ → LinkConf → ℕ → ℕ → List JournalStep → Type 0
-Quiet which bit link k from js = ZeroSince which bit from (ticks js) (pair link k js)
+Quiet which bit link k from js = ZeroSince which bit from (journal_ticks js) (pair link k js)
 
-ticks_more : (js : List JournalStep) (s : JournalStep) → ticks (js ++ s ∷ []) ≡ ticks js + cond (is_tick s) 1 0
-ticks_more js s = omega (arith, sum_by-append (λ z. cond (is_tick z) 1 0) js (s ∷ []))
+ticks_more : (js : List JournalStep) (s : JournalStep) → journal_ticks (js ++ s ∷ []) ≡ journal_ticks js + cond (is_tick_step s) 1 0
+ticks_more js s = omega (arith, sum_by-append (λ z. cond (is_tick_step z) 1 0) js (s ∷ []))
 
 -- what is no part of nothing
 no_parts : {A : Type 0} (xs ys : List A) → xs ++ ys ≡ [] → (xs ≡ []) × (ys ≡ [])
@@ -117,8 +117,8 @@ pub quiet_silent : (which : End) (bit : ℕ) (link : LinkConf) (k from : ℕ) (s
 quiet_silent which bit link k from [] js none h = subst (Quiet which bit link k from) (sym (append-nil js)) h
 quiet_silent which bit link k from (s ∷ steps) js none h =
     let first = no_parts (parcel_of s) (pulled_in steps) none in
-    let now : ℕ = ticks (js ++ s ∷ []) in
-    let one = zero_step which bit from (ticks js) now link k s (pair link k js) (omega (arith, ticks_more js s)) first.0 h in
+    let now : ℕ = journal_ticks (js ++ s ∷ []) in
+    let one = zero_step which bit from (journal_ticks js) now link k s (pair link k js) (omega (arith, ticks_more js s)) first.0 h in
     subst (Quiet which bit link k from) (append_assoc js (s ∷ []) steps)
     (quiet_silent which bit link k from steps (js ++ s ∷ []) first.1 (subst (ZeroSince which bit from now) (sym (pair_step link k js s)) one))
 
@@ -132,8 +132,8 @@ quiet_act which bit link k from b (PullFrom (Some parcel)) done zero h =
     let same : js ++ s ∷ [] ≡ journal b done ++ (os ++ s ∷ []) = append_assoc (journal b done) os (s ∷ []) in
     let before = quiet_silent which bit link k from os (journal b done) (no_parcels b (PullFrom (Some parcel)) done) h in
     let after = subst (OffersZero (peer which) bit) (ap (pair link k) (sym same) ∙ pair_step link k js s) zero in
-    let came = zero_came which bit from (ticks js) (ticks (js ++ s ∷ [])) link parcel.to.end parcel.frame (pair link k js) (parcel.to.link == k) (omega (arith, ticks_more js s)) after before in
-    subst (Quiet which bit link k from) same (subst (ZeroSince which bit from (ticks (js ++ s ∷ []))) (sym (pair_step link k js s)) came)
+    let came = zero_came which bit from (journal_ticks js) (journal_ticks (js ++ s ∷ [])) link parcel.to.end parcel.frame (pair link k js) (parcel.to.link == k) (omega (arith, ticks_more js s)) after before in
+    subst (Quiet which bit link k from) same (subst (ZeroSince which bit from (journal_ticks (js ++ s ∷ []))) (sym (pair_step link k js s)) came)
 quiet_act which bit link k from b act done zero h = quiet_silent which bit link k from (steps_of act (offers b act done)) (journal b done) (act_gives act (offers b act done) (no_parcels b act done)) h
 
 -- the first of joined steps end before the second part, or within it
@@ -165,9 +165,9 @@ part_silent b act done part rest r e = first_silent (steps_of act (offers b act 
 
 -- whether an act is a tick
 abbrev pub is_tick_act : Act → Bool
-is_tick_act (Happen said) = is_tick (line_step said)
+is_tick_act (Happen said) = is_tick_step (line_step said)
 is_tick_act _ = false
 
 -- a tick alone counts
-pub act_ticks : (b : Beginning) (act : Act) (done : List Act) → ticks (journal b (act ∷ done)) ≡ ticks (journal b done) + cond (is_tick_act act) 1 0
-act_ticks b act done = grind (arith, common_steps, offers_alone ticks (λ x steps. refl) b act done)
+pub act_ticks : (b : Beginning) (act : Act) (done : List Act) → journal_ticks (journal b (act ∷ done)) ≡ journal_ticks (journal b done) + cond (is_tick_act act) 1 0
+act_ticks b act done = grind (arith, common_steps, offers_alone journal_ticks (λ x steps. refl) b act done)

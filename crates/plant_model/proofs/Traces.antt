@@ -4,7 +4,7 @@ use Rattle.std.proofs.Common.{◌≡◌, ℕ, ◌+◌, ◌≤◌, List, [], ◌�
 use Rattle.std.specs.Prelude.{is_none}
 use Rattle.fsoe_io.specs.Faults.{Rose}
 use Rattle.black_channel.specs.Holds.{Holds}
-use Rattle.black_channel.specs.Told.{Told, GrowsByGift}
+use Rattle.black_channel.specs.Told.{ChannelTold, GrowsByGift}
 use Rattle.plant_model.specs.Gifts.{pulls}
 
 no_more : (told : Option (List Parcel)) → GrewBy [] told told
@@ -16,7 +16,7 @@ grown a b old mid new h k = grind (arith, common_steps)
 by_gift : (gift : Option Parcel) (old new : Option (List Parcel)) → GrowsByGift gift old new → GrewBy (option_to_list gift) old new
 by_gift gift old new h = search rules
 
-pub told_lists : (uses : List Use) (old new : Told) → Trace uses old new → ToldLists uses old new
+pub told_lists : (uses : List Use) (old new : ChannelTold) → Trace uses old new → ToldLists uses old new
 told_lists [] old new e = subst (ToldLists [] old) e (record { pushed = no_more old.pushed; given = no_more old.given })
 told_lists (Begin seed ∷ uses) old new t = let rest = told_lists uses t.0 new t.2 in search (rules, grown)
 told_lists (Push parcel ∷ uses) old new t =
@@ -49,8 +49,8 @@ same_held held = grind arith
 no_pull : (held : Option Holds) → IfSome held (GivesHeld [])
 no_pull held = grind arith
 
-pub told_holds : (uses : List Use) (old new : Told) → Trace uses old new → ToldHolds uses old new
-told_holds [] old new e = record { gives = no_pull old.holds; holds = ap (λ (z : Told). z.holds) (sym e) ∙ same_held old.holds }
+pub told_holds : (uses : List Use) (old new : ChannelTold) → Trace uses old new → ToldHolds uses old new
+told_holds [] old new e = record { gives = no_pull old.holds; holds = ap (λ (z : ChannelTold). z.holds) (sym e) ∙ same_held old.holds }
 told_holds (Pull gift ∷ uses) old new t = let rest = told_holds uses t.0 new t.2 in search (rules, both, made_twice)
 told_holds (_ ∷ uses) old new t = let rest = told_holds uses t.0 new t.2 in search (rules, of_made, made_twice)
 
@@ -58,8 +58,8 @@ told_holds (_ ∷ uses) old new t = let rest = told_holds uses t.0 new t.2 in se
 one_rose : (gift : Option Parcel) (n all old mid new : ℕ) → all ≡ cond (is_none gift) 1 0 + n → old ≤ mid → (gift ≡ None → Rose old mid) → RoseBy n mid new → RoseBy all old new
 one_rose gift n all old mid new is h k l = grind arith
 
-pub empties_rose : (uses : List Use) (old new : Told) → Trace uses old new → EmptiesRose uses old new
-empties_rose [] old new e = λ below. let same : old.empties ≡ new.empties = ap (λ (z : Told). z.empties) e in omega arith
+pub empties_rose : (uses : List Use) (old new : ChannelTold) → Trace uses old new → EmptiesRose uses old new
+empties_rose [] old new e = λ below. let same : old.empties ≡ new.empties = ap (λ (z : ChannelTold). z.empties) e in omega arith
 empties_rose (Pull gift ∷ uses) old new t =
     let one = sum_by-append (λ g. cond (is_none g) 1 0) (gift ∷ []) (pulls uses) in
     one_rose gift (empty_pulls uses) (empty_pulls (Pull gift ∷ uses)) old.empties t.0.empties new.empties (omega (arith, one)) t.1.empties t.1.nothing (empties_rose uses t.0 new t.2)

@@ -13,9 +13,9 @@ use Rattle.exchange_model.specs.Ends.{peer}
 use Rattle.exchange_model.specs.World.{frames_of}
 use Rattle.multi_master.specs.Calls.{AppView, Call, Deliver, Tick, Nonce, ChangeApp, Meant, cycle_in, meant, changed_by}
 use Rattle.plant_model.specs.declared.event.PlantEvent.{PlantEvent}
-use Rattle.plant_model.specs.declared.event.PlantEvent.TheVariants as event
+use Rattle.plant_model.specs.declared.event.PlantEvent.TheVariants as plant_event
 use Rattle.plant_model.specs.declared.journal.JournalStep.{JournalStep}
-use Rattle.plant_model.specs.declared.journal.JournalStep.TheVariants as step
+use Rattle.plant_model.specs.declared.journal.JournalStep.TheVariants as journal_step
 use Rattle.plant_model.specs.Pair.{pair, link_at}
 use Rattle.plant_model.specs.Uses.{Use, Begin, Push, Pull}
 
@@ -42,8 +42,8 @@ pub data Act : Type 0 where
 
 -- the call of the master that an event of the script makes, if it makes one
 abbrev pub event_call : PlantEvent → Option Call
-event_call event.Tick = Some Tick
-event_call (event.Nonce link side.Master id) = Some (Nonce link id)
+event_call plant_event.Tick = Some Tick
+event_call (plant_event.Nonce link side.Master id) = Some (Nonce link id)
 event_call _ = None
 
 -- the call that a parcel makes: a delivery, where it goes to the master of a connection that exists
@@ -74,21 +74,21 @@ abbrev pub masters : Beginning → List Act → Meant
 masters b acts = meant (settings b) b.app (calls b acts)
 
 -- the cycle that an act ran after those before, if it ran one: what the application answered
-abbrev pub cycle_of : Beginning → Act → List Act → Option Answer
-cycle_of b act acts = option_and_then (λ call. cycle_in call (masters b acts)) (call_of b act)
+abbrev pub act_cycle : Beginning → Act → List Act → Option Answer
+act_cycle b act acts = option_and_then (λ call. cycle_in call (masters b acts)) (call_of b act)
 
 -- an offer as a step, with the number of its connection
 abbrev pub offer_step : ℕ × List ℕ → JournalStep
-offer_step x = step.Offer x.0 x.1
+offer_step x = journal_step.Offer x.0 x.1
 
 -- the offers that an act changed: one for each connection of which its cycle answered another offer, in their order
 abbrev pub offers : Beginning → Act → List Act → List JournalStep
-offers b act acts = map offer_step (changed_by (cycle_of b act acts) (masters b acts).connections)
+offers b act acts = map offer_step (changed_by (act_cycle b act acts) (masters b acts).connections)
 
 -- the step of what a line of the script says
 abbrev pub line_step : Said → JournalStep
-line_step (Event event) = step.Script event
-line_step (App app) = step.App
+line_step (Event event) = journal_step.Script event
+line_step (App app) = journal_step.App
 
 -- the steps of an act: its offers stand after a line of the script, and before a parcel that was pulled. What gave no
 -- parcel is no step
@@ -96,7 +96,7 @@ abbrev pub steps_of : Act → List JournalStep → List JournalStep
 steps_of Start changed = changed
 steps_of (Happen said) changed = line_step said ∷ changed
 steps_of (PullFrom None) changed = changed
-steps_of (PullFrom (Some parcel)) changed = changed ++ step.Pulled parcel ∷ []
+steps_of (PullFrom (Some parcel)) changed = changed ++ journal_step.Pulled parcel ∷ []
 
 -- the journal of these acts
 abbrev pub journal : Beginning → List Act → List JournalStep
@@ -105,7 +105,7 @@ journal b (act ∷ acts) = journal b acts ++ steps_of act (offers b act acts)
 
 -- whether a connection is cut after an event, where it was so before
 abbrev pub cut_after : ℕ → PlantEvent → Bool → Bool
-cut_after k (event.Cut link cut) before = if link == k then cut else before
+cut_after k (plant_event.Cut link cut) before = if link == k then cut else before
 cut_after k _ before = before
 
 -- whether connection k is cut after these acts: the newest event that cuts it or doesn't tells

@@ -16,8 +16,8 @@ use Rattle.exchange_model.specs.Fair.{offers_bit}
 use Rattle.exchange_model.specs.Other.{NoOther}
 use Rattle.multi_master.specs.Connection as connection
 use Rattle.plant_model.specs.declared.journal.JournalStep.{JournalStep}
-use Rattle.plant_model.specs.Acts.{Beginning, Act, masters, cycle_of, journal}
-use Rattle.plant_model.specs.Pair.{pair, link_at, outputs_at, ticks}
+use Rattle.plant_model.specs.Acts.{Beginning, Act, masters, act_cycle, journal}
+use Rattle.plant_model.specs.Pair.{pair, link_at, end_outputs, journal_ticks}
 
 -- what the slave of connection k offers after these acts; a connection that there isn't offers nothing
 abbrev pub slave_offers : Beginning → ℕ → List Act → Offered
@@ -28,17 +28,17 @@ abbrev pub is_off : Beginning → Bit → List Act → Bool
 is_off b estop acts = not (offers_bit estop.bit (slave_offers b estop.link acts))
 
 -- whether the application that runs guards the drive by the e-stop
-abbrev pub is_guarded : Beginning → BoundSpec → List Act → Bool
-is_guarded b bound acts = (masters b acts).app.guards bound.drive bound.estop
+abbrev pub is_drive_guarded : Beginning → BoundSpec → List Act → Bool
+is_drive_guarded b bound acts = (masters b acts).app.guards bound.drive bound.estop
 
 -- whether a bound is still (active) after these acts, not by the journal alone: its e-stop is off, and the application
 -- that runs guards its drive by that
 abbrev pub is_still : Beginning → BoundSpec → List Act → Bool
-is_still b bound acts = is_off b bound.estop acts && is_guarded b bound acts
+is_still b bound acts = is_off b bound.estop acts && is_drive_guarded b bound acts
 
 -- the outputs of all masters, which are the application's inputs, and their offers
 abbrev pub inputs_after : Beginning → List Act → List (List ℕ)
-inputs_after b acts = map connection.outputs_at (masters b acts).connections
+inputs_after b acts = map connection.connection_outputs (masters b acts).connections
 
 abbrev pub offers_after : Beginning → List Act → List (List ℕ)
 offers_after b acts = map connection.offer_at (masters b acts).connections
@@ -50,7 +50,7 @@ StaysOff b bound [] earlier = IsTrue (is_off b bound.estop earlier)
 StaysOff b bound (act ∷ later) earlier =
     let done : List Act = act ∷ later ++ earlier in
     IsTrue (is_off b bound.estop done)
-    × IfSome (cycle_of b act (later ++ earlier)) (λ a. bit_at (inputs_after b done) bound.estop ≡ false → bit_at (offers_after b done) bound.drive ≡ false)
+    × IfSome (act_cycle b act (later ++ earlier)) (λ a. bit_at (inputs_after b done) bound.estop ≡ false → bit_at (offers_after b done) bound.drive ≡ false)
     × StaysOff b bound later earlier
 
 -- the connections of a bound, which there are
@@ -60,8 +60,8 @@ pub record HasLinks (b : Beginning) (bound : BoundSpec) (estop drive : LinkConf)
 
 -- the limit of a bound in ticks: twice the watchdog of the one connection and twice that of the other. A report calls a
 -- tick late from the limit on; the law below is sharper by three
-abbrev pub limit : LinkConf → LinkConf → ℕ
-limit estop drive = 2 * estop.master.watchdog + 2 * drive.master.watchdog
+abbrev pub reaction_limit : LinkConf → LinkConf → ℕ
+reaction_limit estop drive = 2 * estop.master.watchdog + 2 * drive.master.watchdog
 
 -- no entry of the pair of either connection is other
 pub record AreClean (bound : BoundSpec) (estop drive : LinkConf) (journal : List JournalStep) : Type 0 where
@@ -69,8 +69,8 @@ pub record AreClean (bound : BoundSpec) (estop drive : LinkConf) (journal : List
   pub drive_pair : NoOther (pair drive bound.drive.link journal)
 
 -- whether the drive is on: its slave has the bit as 1
-abbrev pub is_on : BoundSpec → LinkConf → List JournalStep → Bool
-is_on bound drive journal = bit_of (outputs_at drive side.Slave (pair drive bound.drive.link journal)) bound.drive.bit
+abbrev pub is_drive_on : BoundSpec → LinkConf → List JournalStep → Bool
+is_drive_on bound drive journal = bit_of (end_outputs drive side.Slave (pair drive bound.drive.link journal)) bound.drive.bit
 
 -- the reaction bound: let the e-stop stay off after `earlier`. The drive is off by each first part of the journal that
 -- has at least as many ticks more than that of `earlier` as the limit, less three, as long as no entry of either pair
@@ -80,4 +80,4 @@ Reacts b done =
     (bound : BoundSpec) (estop drive : LinkConf) (more later earlier : List Act) (steps newer : List JournalStep)
     → HasLinks b bound estop drive → done ≡ more ++ (later ++ earlier) → StaysOff b bound later earlier
     → journal b (later ++ earlier) ≡ steps ++ newer → AreClean bound estop drive steps
-    → ticks (journal b earlier) + limit estop drive ≤ ticks steps + 3 → is_on bound drive steps ≡ false
+    → journal_ticks (journal b earlier) + reaction_limit estop drive ≤ journal_ticks steps + 3 → is_drive_on bound drive steps ≡ false

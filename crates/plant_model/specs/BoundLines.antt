@@ -13,12 +13,12 @@ use Rattle.reaction_bound.specs.Age.{told_age, worst_of}
 use Rattle.reaction_bound.specs.Reaction as reaction
 use Rattle.plant_model.specs.declared.journal.JournalStep.{JournalStep}
 use Rattle.plant_model.specs.Acts.{Act, Happen, PullFrom, Beginning, journal, line_step}
-use Rattle.plant_model.specs.Bound.{is_on, is_still, limit}
-use Rattle.plant_model.specs.Pair.{is_tick, link_at, pair}
+use Rattle.plant_model.specs.Bound.{is_drive_on, is_still, reaction_limit}
+use Rattle.plant_model.specs.Pair.{is_tick_step, link_at, pair}
 
 -- the limit of a bound, in ticks, 0 where there isn't one of its connections
 abbrev pub limit_by : Option LinkConf → Option LinkConf → ℕ
-limit_by (Some estop) (Some drive) = limit estop drive
+limit_by (Some estop) (Some drive) = reaction_limit estop drive
 limit_by _ _ = 0
 
 abbrev pub limit_of : List LinkConf → BoundSpec → ℕ
@@ -26,7 +26,7 @@ limit_of links bound = limit_by (link_at links bound.estop.link) (link_at links 
 
 -- whether the drive of a bound is on after these acts
 abbrev pub is_driven : Beginning → BoundSpec → List Act → Bool
-is_driven b bound done = option_map_or (λ drive. is_on bound drive (journal b done)) (link_at b.links bound.drive.link) false
+is_driven b bound done = option_map_or (λ drive. is_drive_on bound drive (journal b done)) (link_at b.links bound.drive.link) false
 
 -- what a reaction heard of a bound with a line of the script, after what it heard before, where these are all acts with
 -- the line: if that is a tick, whether the drive is on; and then whether the moment after it is still
@@ -36,7 +36,7 @@ heard b bound tick done before =
 
 -- whether the newest line of the script in these acts is a tick
 abbrev pub is_ticking : List Act → Bool
-is_ticking (Happen said ∷ acts) = is_tick (line_step said)
+is_ticking (Happen said ∷ acts) = is_tick_step (line_step said)
 is_ticking (PullFrom gift ∷ acts) = is_ticking acts
 is_ticking _ = false
 

@@ -1,6 +1,6 @@
 -- What laws say of the uses of a channel: what was pushed to it, and what it gave. Uses are listed oldest first.
-use Rattle.black_channel.specs.Holds.{Holds, pulled, pushed, begun}
-use Rattle.black_channel.specs.Told.{Told}
+use Rattle.black_channel.specs.Holds.{Holds, pulled, pushed, after_begin}
+use Rattle.black_channel.specs.Told.{ChannelTold}
 use Rattle.black_channel.specs.declared.channel.Parcel.{Parcel}
 use Rattle.black_channel.specs.declared.channel.Place.{Place}
 use Rattle.std.specs.List.{count_by, flat_map}
@@ -49,14 +49,14 @@ empty_pulls uses = count_by is_none (pulls uses)
 -- what is held after these uses, by the rules of its form
 abbrev pub held_after : List Use → Holds → Holds
 held_after [] held = held
-held_after (Begin seed ∷ uses) held = held_after uses (begun seed held)
+held_after (Begin seed ∷ uses) held = held_after uses (after_begin seed held)
 held_after (Push parcel ∷ uses) held = held_after uses (pushed parcel held)
 held_after (Pull gift ∷ uses) held = held_after uses (pulled held).holds
 
 -- each pull gives what these rules give
 abbrev pub GivesHeld : List Use → Holds → Type 0
 GivesHeld [] held = Unit {0}
-GivesHeld (Begin seed ∷ uses) held = GivesHeld uses (begun seed held)
+GivesHeld (Begin seed ∷ uses) held = GivesHeld uses (after_begin seed held)
 GivesHeld (Push parcel ∷ uses) held = GivesHeld uses (pushed parcel held)
 GivesHeld (Pull gift ∷ uses) held = (gift ≡ (pulled held).gift) × GivesHeld uses (pulled held).holds
 
@@ -65,13 +65,13 @@ abbrev pub GrewBy : List Parcel → Option (List Parcel) → Option (List Parcel
 GrewBy more old new = IfSome new (λ parcels. option_map (λ before. before ++ more) old ≡ Some parcels)
 
 -- what a channel tells of parcels grew by those that were pushed and given
-pub record ToldLists (uses : List Use) (old new : Told) : Type 0 where
+pub record ToldLists (uses : List Use) (old new : ChannelTold) : Type 0 where
   pub pushed : GrewBy (pushes uses) old.pushed new.pushed
   pub given : GrewBy (gifts uses) old.given new.given
 
 -- where a channel tells what it holds, each pull gives what the rules of its form give, and so is what it holds after
 -- them
-pub record ToldHolds (uses : List Use) (old new : Told) : Type 0 where
+pub record ToldHolds (uses : List Use) (old new : ChannelTold) : Type 0 where
   pub gives : IfSome old.holds (GivesHeld uses)
   pub holds : new.holds ≡ option_map (held_after uses) old.holds
 
@@ -80,5 +80,5 @@ abbrev pub RoseBy : ℕ → ℕ → ℕ → Type 0
 RoseBy more before now = now < 2 ^ 64 - 1 → before + more ≤ now
 
 -- the count of pulls that gave nothing rose with each of these
-abbrev pub EmptiesRose : List Use → Told → Told → Type 0
+abbrev pub EmptiesRose : List Use → ChannelTold → ChannelTold → Type 0
 EmptiesRose uses old new = RoseBy (empty_pulls uses) old.empties new.empties

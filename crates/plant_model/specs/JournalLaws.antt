@@ -2,10 +2,10 @@
 -- the script.
 use Rattle.param_load.specs.declared.entry.Entry.{Entry}
 use Rattle.exchange_model.specs.World.{deeds}
-use Rattle.multi_master.specs.Calls.{connection}
-use Rattle.plant_model.specs.Acts.{Beginning, cycle_of, App, Happen, masters, Start, journal, Act, PullFrom, Event}
-use Rattle.plant_model.specs.Pair.{pair, link_at, is_tick, is_tick_event, pulls_after}
-use Rattle.plant_model.specs.declared.journal.JournalStep.TheVariants as step
+use Rattle.multi_master.specs.Calls.{numbered_connection}
+use Rattle.plant_model.specs.Acts.{Beginning, act_cycle, App, Happen, masters, Start, journal, Act, PullFrom, Event}
+use Rattle.plant_model.specs.Pair.{pair, link_at, is_tick_step, is_tick_event, pulls_after}
+use Rattle.plant_model.specs.declared.journal.JournalStep.TheVariants as journal_step
 use Rattle.plant_model.specs.declared.journal.JournalStep.{JournalStep}
 use Rattle.plant_model.specs.PlantReport.{is_line}
 use Rattle.std.specs.List.{flat_map}
@@ -20,7 +20,7 @@ use Rattle.master_core.specs.Calls.{tells_due}
 abbrev pub MastersAgree : Beginning → List Act → Type 0
 MastersAgree b acts =
     (k : ℕ) → IfSome (link_at b.links k) (λ link.
-    IsSomeAnd (connection k (masters b acts)) (λ c. deeds side.Master (pair link k (journal b acts)) ≡ c.deeds))
+    IsSomeAnd (numbered_connection k (masters b acts)) (λ c. deeds side.Master (pair link k (journal b acts)) ≡ c.deeds))
 
 -- whether the newest entry tells that a frame was taken, or that its end reset
 abbrev pub tells_hearing : List Entry → Bool
@@ -43,19 +43,19 @@ runs_cycle links (PullFrom (Some parcel)) journal = master_hears (link_at links 
 
 -- exactly these acts run one
 abbrev pub Cycles : Beginning → Act → List Act → Type 0
-Cycles b act acts = is_some (cycle_of b act acts) ≡ runs_cycle b.links act (journal b (act ∷ acts))
+Cycles b act acts = is_some (act_cycle b act acts) ≡ runs_cycle b.links act (journal b (act ∷ acts))
 
 -- between a tick and the next line of the script at most 64 parcels were pulled, and none elsewhere; `room` says how
 -- many may come before the first line of these steps
 abbrev pub PullsFit : ℕ → List JournalStep → Type 0
 PullsFit room [] = Unit {0}
-PullsFit room (step.Offer link load ∷ steps) = PullsFit room steps
-PullsFit room (step.Pulled parcel ∷ steps) = (0 < room) × PullsFit (room - 1) steps
-PullsFit room (line ∷ steps) = PullsFit (pulls_after (is_tick line)) steps
+PullsFit room (journal_step.Offer link load ∷ steps) = PullsFit room steps
+PullsFit room (journal_step.Pulled parcel ∷ steps) = (0 < room) × PullsFit (room - 1) steps
+PullsFit room (line ∷ steps) = PullsFit (pulls_after (is_tick_step line)) steps
 
 -- the parcel of a step, where one was pulled
 abbrev pub parcel_of : JournalStep → List Parcel
-parcel_of (step.Pulled parcel) = parcel ∷ []
+parcel_of (journal_step.Pulled parcel) = parcel ∷ []
 parcel_of _ = []
 
 -- the parcels that were pulled
@@ -71,9 +71,9 @@ one_if_left (suc room) n = suc n
 -- many may come before the first line of these steps
 abbrev pub short_ticks : ℕ → List JournalStep → ℕ
 short_ticks room [] = one_if_left room 0
-short_ticks room (step.Offer link load ∷ steps) = short_ticks room steps
-short_ticks room (step.Pulled parcel ∷ steps) = short_ticks (room - 1) steps
-short_ticks room (line ∷ steps) = one_if_left room (short_ticks (pulls_after (is_tick line)) steps)
+short_ticks room (journal_step.Offer link load ∷ steps) = short_ticks room steps
+short_ticks room (journal_step.Pulled parcel ∷ steps) = short_ticks (room - 1) steps
+short_ticks room (line ∷ steps) = one_if_left room (short_ticks (pulls_after (is_tick_step line)) steps)
 
 -- the steps of a journal that are lines of the script
 abbrev pub line_steps : List JournalStep → List JournalStep

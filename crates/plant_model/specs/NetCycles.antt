@@ -8,8 +8,8 @@ use Rattle.fb_net.specs.Outputs.{net_outputs}
 use Rattle.fb_net.specs.Values.{NetCycle}
 use Rattle.param_load.specs.declared.master_settings.MasterSettings.{MasterSettings}
 use Rattle.multi_master.specs.Calls.{AppView, Call, Tick, ChangeApp, Meant, cycle_in, after, meant}
-use Rattle.multi_master.specs.Connection.{outputs_at}
-use Rattle.plant_model.specs.Acts.{Beginning, Act, settings, calls, cycle_of}
+use Rattle.multi_master.specs.Connection.{connection_outputs}
+use Rattle.plant_model.specs.Acts.{Beginning, Act, settings, calls, act_cycle}
 
 -- a net, as contracts see an application
 abbrev pub net_app : NetView → AppView
@@ -41,7 +41,7 @@ abbrev pub app_cycles : List MasterSettings → AppView → List Call → List N
 app_cycles settings app [] = []
 app_cycles settings app (call ∷ calls) =
     let m : Meant = meant settings app calls in
-    with_answered (cycle_in call m) (record { ticked = is_ticked call; inputs = map outputs_at (after call m).connections })
+    with_answered (cycle_in call m) (record { ticked = is_ticked call; inputs = map connection_outputs (after call m).connections })
     (cycles_before call (app_cycles settings app calls))
 
 -- how many bytes the masters send
@@ -53,4 +53,4 @@ sent_lens settings = map (λ s. s.lengths.master) settings
 abbrev pub AnswersByNet : NetView → Beginning → Act → List Act → Type 0
 AnswersByNet v b act acts =
     app_begun b.app (calls b (act ∷ acts)) ≡ net_app v
-    → IfSome (cycle_of b act acts) (λ a. a.outputs ≡ net_outputs v (app_cycles (settings b) b.app (calls b (act ∷ acts))) (sent_lens (settings b)))
+    → IfSome (act_cycle b act acts) (λ a. a.outputs ≡ net_outputs v (app_cycles (settings b) b.app (calls b (act ∷ acts))) (sent_lens (settings b)))

@@ -7,16 +7,16 @@ use Rattle.fsoe_base.specs.declared.command.End.TheVariants as side
 use Rattle.fsoe_base.specs.declared.command.State.{State}
 use Rattle.param_load.specs.declared.entry.Entry.{Entry}
 use Rattle.schedule_file.specs.declared.event.Event.{Event}
-use Rattle.schedule_file.specs.declared.event.Event.TheVariants as at
+use Rattle.schedule_file.specs.declared.event.Event.TheVariants as event
 use Rattle.plant_conf.specs.declared.conf.LinkConf.{LinkConf}
 use Rattle.end_model.specs.Readiness.{state_of}
 use Rattle.end_model.specs.Outputs.{out}
 use Rattle.exchange_model.specs.World.{setup_of, deeds, world, next_entry}
 use Rattle.exchange_model.specs.Other.{first_other}
 use Rattle.plant_model.specs.declared.event.PlantEvent.{PlantEvent}
-use Rattle.plant_model.specs.declared.event.PlantEvent.TheVariants as event
+use Rattle.plant_model.specs.declared.event.PlantEvent.TheVariants as plant_event
 use Rattle.plant_model.specs.declared.journal.JournalStep.{JournalStep}
-use Rattle.plant_model.specs.declared.journal.JournalStep.TheVariants as step
+use Rattle.plant_model.specs.declared.journal.JournalStep.TheVariants as journal_step
 use Rattle.param_load.specs.declared.entry.Move.{Move}
 
 -- this event where the numbers are the same, and else none
@@ -27,20 +27,20 @@ if_same link k event = if link == k then event ∷ [] else []
 -- are at its slave, but that a session id is set at the end that is named. Whether a connection is cut means nothing
 -- for its ends
 abbrev pub script_part : ℕ → PlantEvent → List Event
-script_part k event.Tick = at.Tick side.Slave ∷ at.Tick side.Master ∷ []
-script_part k (event.Put link load) = if_same link k (at.Put side.Slave load)
-script_part k (event.Hold link failsafe) = if_same link k (at.Hold side.Slave failsafe)
-script_part k (event.Local link) = if_same link k (at.Local side.Slave)
-script_part k (event.Nonce link end id) = if_same link k (at.Nonce end id)
-script_part k (event.Cut link cut) = []
+script_part k plant_event.Tick = event.Tick side.Slave ∷ event.Tick side.Master ∷ []
+script_part k (plant_event.Put link load) = if_same link k (event.Put side.Slave load)
+script_part k (plant_event.Hold link failsafe) = if_same link k (event.Hold side.Slave failsafe)
+script_part k (plant_event.Local link) = if_same link k (event.Local side.Slave)
+script_part k (plant_event.Nonce link end id) = if_same link k (event.Nonce end id)
+script_part k (plant_event.Cut link cut) = []
 
 -- what a step of the journal means for connection k: an offer is put at its master, and a parcel that was pulled for
 -- one of its ends comes there with its bytes, whatever they are. Another application means nothing for its ends
 abbrev pub own_part : ℕ → JournalStep → List Event
-own_part k (step.Script event) = script_part k event
-own_part k step.App = []
-own_part k (step.Offer link load) = if_same link k (at.Put side.Master load)
-own_part k (step.Pulled parcel) = if_same parcel.to.link k (at.Raw parcel.to.end parcel.frame)
+own_part k (journal_step.Script event) = script_part k event
+own_part k journal_step.App = []
+own_part k (journal_step.Offer link load) = if_same link k (event.Put side.Master load)
+own_part k (journal_step.Pulled parcel) = if_same parcel.to.link k (event.Raw parcel.to.end parcel.frame)
 
 -- the events of connection k in a journal
 abbrev pub own_events : ℕ → List JournalStep → List Event
@@ -68,8 +68,8 @@ abbrev pub state_at : LinkConf → End → List Entry → State
 state_at link end w = state_of (setup_of link.master link.slave end) (deeds end w)
 
 -- its outputs after these entries
-abbrev pub outputs_at : LinkConf → End → List Entry → List ℕ
-outputs_at link end w = out (setup_of link.master link.slave end) (deeds end w)
+abbrev pub end_outputs : LinkConf → End → List Entry → List ℕ
+end_outputs link end w = out (setup_of link.master link.slave end) (deeds end w)
 
 -- whether the pair of connection k has an other entry by a journal
 abbrev pub has_other : LinkConf → ℕ → List JournalStep → Bool
@@ -82,12 +82,12 @@ lowest_other k (link ∷ links) journal = if has_other link k journal then Some 
 
 -- whether an event of the script is a tick; a step may be one too
 abbrev pub is_tick_event : PlantEvent → Bool
-is_tick_event event.Tick = true
+is_tick_event plant_event.Tick = true
 is_tick_event _ = false
 
-abbrev pub is_tick : JournalStep → Bool
-is_tick (step.Script event) = is_tick_event event
-is_tick _ = false
+abbrev pub is_tick_step : JournalStep → Bool
+is_tick_step (journal_step.Script event) = is_tick_event event
+is_tick_step _ = false
 
 -- how many parcels a plant pulls at most after a line of its script, where it is a tick, and where not
 abbrev pub pulls_after : Bool → ℕ
@@ -95,5 +95,5 @@ pulls_after true = 64
 pulls_after false = 0
 
 -- the number of ticks in a journal
-abbrev pub ticks : List JournalStep → ℕ
-ticks journal = count_by is_tick journal
+abbrev pub journal_ticks : List JournalStep → ℕ
+journal_ticks journal = count_by is_tick_step journal

@@ -5,11 +5,11 @@ use Rattle.std.specs.Str.{bytes_eq}
 use Rattle.black_channel.specs.declared.channel.Parcel.{Parcel}
 use Rattle.multi_master.specs.Calls.{AppView}
 use Rattle.plant_model.specs.declared.event.PlantLine.{PlantLine}
-use Rattle.plant_model.specs.declared.event.PlantLine.TheVariants as line
+use Rattle.plant_model.specs.declared.event.PlantLine.TheVariants as script_says
 use Rattle.plant_model.specs.Acts.{Said, Event, App, Act, Start, Happen, PullFrom, line_step}
 use Rattle.plant_conf.specs.declared.conf.LinkConf.{LinkConf}
 use Rattle.plant_model.specs.Fits.{EventFits}
-use Rattle.plant_model.specs.Pair.{is_tick, pulls_after}
+use Rattle.plant_model.specs.Pair.{is_tick_step, pulls_after}
 
 -- what a line says fits the connections: an event of the script; any application does
 abbrev pub SaidFits : List LinkConf → Said → Type 0
@@ -21,7 +21,7 @@ SaidFits links (App app) = Unit {0}
 -- gives nothing, and none elsewhere
 abbrev pub IsPast : ℕ → List Act → Type 0
 IsPast room (Start ∷ []) = room ≡ 0
-IsPast room (Happen said ∷ acts) = (room ≡ (pulls_after (is_tick (line_step said)))) × IsPast 0 acts
+IsPast room (Happen said ∷ acts) = (room ≡ (pulls_after (is_tick_step (line_step said)))) × IsPast 0 acts
 IsPast room (PullFrom None ∷ acts) = (room ≡ 0) × ((left : ℕ) × IsPast (suc left) acts)
 IsPast room (PullFrom (Some parcel) ∷ acts) = IsPast (suc room) acts
 IsPast room _ = ⊥
@@ -74,9 +74,9 @@ said_with (Some taken) later = App taken.app ∷ later taken.left
 -- first of its name that isn't yet used. After a line that finds none nothing more is said
 abbrev pub said : List Named → List PlantLine → List Said
 said spare [] = []
-said spare (line.Step event ∷ lines) = Event event ∷ said spare lines
-said spare (line.App name ∷ lines) = said_with (take_app name spare) (λ left. said left lines)
-said spare (line.End ∷ lines) = []
+said spare (script_says.Step event ∷ lines) = Event event ∷ said spare lines
+said spare (script_says.App name ∷ lines) = said_with (take_app name spare) (λ left. said left lines)
+said spare (script_says.End ∷ lines) = []
 
 -- the applications that were said are among these, each an entry that no earlier one took
 abbrev pub AppsAreSpare : List Named → List Said → Type 0

@@ -6,8 +6,8 @@ use Rattle.fsoe_base.specs.declared.command.End.TheVariants as side
 use Rattle.black_channel.specs.Holds.{Ring}
 use Rattle.black_channel.specs.declared.channel.Parcel.{Parcel}
 use Rattle.multi_master.specs.Calls.{AppView}
-use Rattle.plant_model.specs.declared.event.PlantEvent.TheVariants as event
-use Rattle.plant_model.specs.declared.journal.JournalStep.TheVariants as step
+use Rattle.plant_model.specs.declared.event.PlantEvent.TheVariants as plant_event
+use Rattle.plant_model.specs.declared.journal.JournalStep.TheVariants as journal_step
 use Rattle.plant_model.specs.Acts.{Beginning, Event, Act, Start, Happen, PullFrom, journal, uses}
 use Rattle.plant_model.specs.Past.{IsPast}
 use Rattle.plant_model.specs.Uses.{Use, Begin, Push, Pull}
@@ -36,7 +36,7 @@ first_parcels = for_both side.Slave (codes "2a0000c42d0000") ++ for_both side.Ma
 
 -- a start, a tick, and these pulls
 abbrev pub first_acts : List Act
-first_acts = reverse (Start ∷ Happen (Event event.Tick) ∷ map (λ parcel. PullFrom (Some parcel)) first_parcels)
+first_acts = reverse (Start ∷ Happen (Event plant_event.Tick) ∷ map (λ parcel. PullFrom (Some parcel)) first_parcels)
 
 -- each of these parcels is pulled, and its answer pushed
 abbrev pub answered : List Parcel → List Parcel → List Use
@@ -48,7 +48,7 @@ answered _ _ = []
 -- these parcels, and 58 more may be pulled in this tick
 unfoldable pub FirstActs : Type 0
 FirstActs =
-    (journal driving_plant first_acts ≡ offer 2 (codes "0100") ∷ tick ∷ map step.Pulled first_parcels)
+    (journal driving_plant first_acts ≡ offer 2 (codes "0100") ∷ tick ∷ map journal_step.Pulled first_parcels)
     × (uses driving_plant first_acts
     ≡ Begin 1
     ∷ map Push (for_both side.Slave (codes "2a0000c42d0000"))
@@ -62,10 +62,10 @@ abbrev pub cut_acts : List Act
 cut_acts =
     reverse
     (Start
-    ∷ Happen (Event event.Tick)
+    ∷ Happen (Event plant_event.Tick)
     ∷ PullFrom None
-    ∷ Happen (Event (event.Cut 1 true))
-    ∷ Happen (Event event.Tick)
+    ∷ Happen (Event (plant_event.Cut 1 true))
+    ∷ Happen (Event plant_event.Tick)
     ∷ map (λ parcel. PullFrom (Some parcel)) (take 2 first_parcels))
 
 -- the uses then, and how many more parcels may be pulled

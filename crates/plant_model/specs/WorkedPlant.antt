@@ -13,9 +13,9 @@ use Rattle.fsoe_io.specs.declared.status.Status.TheVariants as status
 use Rattle.plant_conf.specs.declared.conf.LinkConf.{LinkConf}
 use Rattle.end_model.specs.WorkedRuns.{if_bytes, master_values, slave_values}
 use Rattle.exchange_model.specs.Schedules.{pair_lines}
-use Rattle.plant_model.specs.declared.event.PlantEvent.TheVariants as event
+use Rattle.plant_model.specs.declared.event.PlantEvent.TheVariants as plant_event
 use Rattle.plant_model.specs.declared.journal.JournalStep.{JournalStep}
-use Rattle.plant_model.specs.declared.journal.JournalStep.TheVariants as step
+use Rattle.plant_model.specs.declared.journal.JournalStep.TheVariants as journal_step
 use Rattle.plant_model.specs.Pair.{pair}
 use Rattle.plant_model.specs.PlantReport.{report_text, report_end}
 use Rattle.schedule_file.specs.Input.{AtEnd}
@@ -40,15 +40,15 @@ both_links = stop_link ∷ drive_link ∷ []
 
 -- a tick of the script
 abbrev pub tick : JournalStep
-tick = step.Script event.Tick
+tick = journal_step.Script plant_event.Tick
 
 -- a load is put at the slave of a connection, in hexadecimal
 abbrev pub put : ℕ → List ℕ → JournalStep
-put link text = step.Script (event.Put link (if_bytes (decode_of text)))
+put link text = journal_step.Script (plant_event.Put link (if_bytes (decode_of text)))
 
 -- the master of a connection has another offer
 abbrev pub offer : ℕ → List ℕ → JournalStep
-offer link text = step.Offer link (if_bytes (decode_of text))
+offer link text = journal_step.Offer link (if_bytes (decode_of text))
 
 -- a parcel for an end of a connection, in hexadecimal
 abbrev pub parcel_for : End → ℕ → List ℕ → Parcel
@@ -56,10 +56,10 @@ parcel_for end link text = record { to = record { link = link; end = end }; fram
 
 -- one for its master is pulled, or one for its slave
 abbrev pub to_master : ℕ → List ℕ → JournalStep
-to_master link text = step.Pulled (parcel_for side.Master link text)
+to_master link text = journal_step.Pulled (parcel_for side.Master link text)
 
 abbrev pub to_slave : ℕ → List ℕ → JournalStep
-to_slave link text = step.Pulled (parcel_for side.Slave link text)
+to_slave link text = journal_step.Pulled (parcel_for side.Slave link text)
 
 -- frames for both slaves and then for both masters are pulled
 abbrev pub round : List ℕ → List ℕ → List ℕ → List ℕ → List JournalStep
@@ -91,7 +91,7 @@ seven_ticks =
     ∷ to_master 2 (codes "360000f89d0200")
     ∷ round (codes "360000c9bc0100") (codes "3601008bc20200") (codes "360300fcbf0100") (codes "36000028130200")
     ++ put 1 (codes "0000")
-    ∷ step.Script (event.Cut 1 true)
+    ∷ journal_step.Script (plant_event.Cut 1 true)
     ∷ tick
     ∷ to_slave 1 (codes "360000e0bb0100")
     ∷ to_slave 2 (codes "360100a09c0200")

@@ -1,7 +1,7 @@
 //! What holds of the definitions. The calls do nothing: each law is a contract.
 
 ghost use Rattle.std.specs.Prelude.{List, All};
-ghost use Rattle.black_channel.specs.Told.{Told};
+ghost use Rattle.black_channel.specs.Told.{ChannelTold};
 ghost use Rattle.plant_conf.specs.Kept.{HasSameLengths};
 ghost use Rattle.plant_conf.specs.declared.conf.LinkConf.{LinkConf};
 ghost use Rattle.plant_model.specs.declared.journal.JournalStep.{JournalStep};
@@ -14,9 +14,9 @@ ghost use Rattle.plant_model.specs.WorkedPlant.{SevenTicks, StopLines};
 /// if known. So does its count of pulls that gave nothing.
 #[tactic(auto, using(crate::proofs::Traces::told_lists, crate::proofs::Traces::told_holds, crate::proofs::Traces::empties_rose))]
 pub fn traces()
-    ensures lists { (uses : List Use) (old new : Told) → Trace uses old new → ToldLists uses old new }
-    ensures holds { (uses : List Use) (old new : Told) → Trace uses old new → ToldHolds uses old new }
-    ensures empties { (uses : List Use) (old new : Told) → Trace uses old new → EmptiesRose uses old new }
+    ensures lists { (uses : List Use) (old new : ChannelTold) → Trace uses old new → ToldLists uses old new }
+    ensures holds { (uses : List Use) (old new : ChannelTold) → Trace uses old new → ToldHolds uses old new }
+    ensures empties { (uses : List Use) (old new : ChannelTold) → Trace uses old new → EmptiesRose uses old new }
 {}
 
 /// The law of the pair holds of each connection of a plant, whatever parcels its channel gave. The entries of its pair

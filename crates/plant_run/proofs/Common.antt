@@ -1,5 +1,5 @@
 -- The names that more than one file of these proofs cites, passed on from one place. Declares nothing.
-pub use Rattle.black_channel.specs.Told.{Told}
+pub use Rattle.black_channel.specs.Told.{ChannelTold}
 pub use Rattle.black_channel.specs.declared.channel.Parcel.{Parcel}
 pub use Rattle.fb_net.specs.declared.kind_of.EntryOf.{EntryOf}
 pub use Rattle.fb_net.specs.declared.kind_of.KindOf.{KindOf}
@@ -21,18 +21,18 @@ pub use Rattle.plant_model.specs.Acts.{Act, App, Beginning, Happen, PullFrom, Sa
 pub use Rattle.plant_model.specs.BoundLines.{bound_line, bound_lines, heard, heard_before, heard_of, is_driven, is_ticking, limit_of, line_by}
 pub use Rattle.plant_model.specs.Fits.{Fits, lengths_at, lengths_in}
 pub use Rattle.plant_model.specs.JournalLaws.{line_steps}
-pub use Rattle.plant_model.specs.Pair.{has_other, is_tick, link_at, lowest_other, outputs_at, pair, pulls_after, state_at, ticks}
+pub use Rattle.plant_model.specs.Pair.{has_other, is_tick_step, link_at, lowest_other, end_outputs, pair, pulls_after, state_at, journal_ticks}
 pub use Rattle.plant_model.specs.Past.{IsPast, Named, Taken, passed, said, said_in, said_with, take_app, with_line}
-pub use Rattle.plant_model.specs.PlantReport.{in_tick, is_line, last_lines, lines_due, lines_from, link_line, link_lines, report_end, report_text, tick_lines, ticks_text}
+pub use Rattle.plant_model.specs.PlantReport.{in_tick, is_line, plant_last_lines, lines_due, lines_from, link_line, link_lines, report_end, report_text, plant_tick_lines, ticks_text}
 pub use Rattle.plant_model.specs.declared.event.PlantLine.{PlantLine}
 pub use Rattle.plant_model.specs.declared.journal.JournalStep.{JournalStep}
 pub use Rattle.plant_run.specs.Given.{named}
 pub use Rattle.plant_run.specs.Ran.{IsReportOf, RanPlant}
-pub use Rattle.plant_run.specs.Reporting.{PlantReports, Terms, plant_reporting, run_stop}
+pub use Rattle.plant_run.specs.Reporting.{PlantReports, Terms, plant_reporting, script_stop}
 pub use Rattle.plant_run.specs.Running.{AreAged, HasRoom, HearsOne, LineFits, RunCloses, RunStands, RunView, ShowsBound, lines_by, rest_in, watched_after, watched_by, watching}
 pub use Rattle.plant_run.specs.Script.{Script, ScriptHeading, happening, script_format}
 pub use Rattle.plant_run.specs.declared.watching.Watched.{Watched}
-pub use Rattle.plant_setup.specs.Names.{IsTaken, place_of}
+pub use Rattle.plant_setup.specs.Names.{IsTaken, name_place}
 pub use Rattle.reaction_bound.specs.Kept.{Hears, ReactionView, view_of}
 pub use Rattle.reaction_bound.specs.Reaction.{Quiet, Tick, broken_of}
 pub use Rattle.schedule_file.specs.Field.{bytes_said, fields_of}

@@ -1,5 +1,5 @@
 -- The bounds of a plant that runs are told of each line of its script, and the ages of their connections are told.
-use Rattle.plant_run.proofs.Common.{Act, All-map, AreAged, Beginning, BoundSpec, HasRoom, Happen, Hears, HearsOne, IfSome, IsAged, IsSome, JournalStep, LinkConf, PlantLine, PlantStands, PlantView, PullFrom, Quiet, ReactionView, RunStands, RunView, ScriptHeading, ShowsOn, TellsStill, Terms, Tick, Told, Watched, eq-eqb, fixed_in, heard, heard_before, heard_of, is_driven, is_named, is_tick, is_ticking, length-map, length_push, limit_of, line_step, link_at, links_made, said_in, slice_get_read, take_all, view_of, watched_by, watching}
+use Rattle.plant_run.proofs.Common.{Act, All-map, AreAged, Beginning, BoundSpec, HasRoom, Happen, Hears, HearsOne, IfSome, IsAged, IsSome, JournalStep, LinkConf, PlantLine, PlantStands, PlantView, PullFrom, Quiet, ReactionView, RunStands, RunView, ScriptHeading, ShowsOn, TellsStill, Terms, Tick, ChannelTold, Watched, eq-eqb, fixed_in, heard, heard_before, heard_of, is_driven, is_named, is_tick_step, is_ticking, length-map, length_push, limit_of, line_step, link_at, links_made, said_in, slice_get_read, take_all, view_of, watched_by, watching}
 use Rattle.std.proofs.Common.{◌≡◌, ◌≤◌, ◌<◌, ◌+◌, ◌^◌, ◌==◌, ◌||◌, ℕ, zero, suc, Bool, true, false, List, [], ◌∷◌, ◌++◌, All, get_or, length, take, slice_get, slice_index_or, slice_set, Some, if◌then◌else◌, refl, sym, ap, ap₂, ◌∙◌, arith}
 use Rattle.std.specs.List.{AllZip}
 use Rattle.std.specs.Option.{option_map_or}
@@ -9,7 +9,7 @@ use Rattle.std.proofs.lemmas.List.Elements.{AllZip-push}
 use Rattle.std.proofs.lemmas.Option.{slice_get_within}
 use Rattle.reaction_bound.specs.Reaction as reaction
 use Rattle.multi_master.proofs.Looping.{Untouched, next_taken, untouched_more}
-use Rattle.plant_model.specs.Bound.{is_on}
+use Rattle.plant_model.specs.Bound.{is_drive_on}
 use Rattle.plant_core.specs.Link.{LinkView, fixed_of, new_link}
 
 pub tick_heard : (v : PlantView) (tick : Bool) (old new : Watched) (mid : ReactionView) (on still : Bool) → ShowsOn v old.bound.drive on → Hears old.reaction (Tick on) mid → TellsStill v old.bound still → Hears mid (Quiet still) new.reaction
@@ -17,7 +17,7 @@ pub tick_heard : (v : PlantView) (tick : Bool) (old new : Watched) (mid : Reacti
 tick_heard v tick old new mid on still h k l m e is = record {
   same = e;
   hears = λ b acts before s was.
-      let driven : on ≡ is_driven b old.bound acts = h.shows b acts s ∙ ap (λ (j : List JournalStep). option_map_or (λ drive. is_on old.bound drive j) (link_at b.links old.bound.drive.link) false) s.has_done.journal_is in
+      let driven : on ≡ is_driven b old.bound acts = h.shows b acts s ∙ ap (λ (j : List JournalStep). option_map_or (λ drive. is_drive_on old.bound drive j) (link_at b.links old.bound.drive.link) false) s.has_done.journal_is in
       let told = m.hears (limit_of b.links old.bound) (Tick on ∷ before) (k.hears (limit_of b.links old.bound) before was) in
       rw is (told ∙ ap₂ (λ (q d : Bool). view_of (limit_of b.links old.bound) (Quiet q ∷ Tick d ∷ before)) (l.tells b acts s) driven);
 }
@@ -51,20 +51,20 @@ all_heard b acts v tick before (bound ∷ bounds) (w ∷ new) k h =
     ap₂ (λ (x : Watched) (xs : List Watched). x ∷ xs) (h.0.same ∙ ap (λ (r : ReactionView). record { bound = bound; limit = limit_of b.links bound; reaction = r }) told) (all_heard b acts v tick before bounds new k h.1)
 all_heard b acts v tick before _ _ k h = absurd h
 
-if_ticks : (tick on : Bool) (before : List reaction.Heard) → reaction.ticks (if tick then reaction.Tick on ∷ before else before) ≤ suc (reaction.ticks before)
+if_ticks : (tick on : Bool) (before : List reaction.Heard) → reaction.heard_ticks (if tick then reaction.Tick on ∷ before else before) ≤ suc (reaction.heard_ticks before)
 if_ticks tick on before = grind arith
 
 -- no more ticks are heard than there are lines
-said_ticks : (b : Beginning) (bound : BoundSpec) (acts : List Act) (on : Bool) → reaction.ticks (if is_ticking acts then reaction.Tick on ∷ heard_before b bound acts else heard_before b bound acts) ≤ length (said_in acts)
+said_ticks : (b : Beginning) (bound : BoundSpec) (acts : List Act) (on : Bool) → reaction.heard_ticks (if is_ticking acts then reaction.Tick on ∷ heard_before b bound acts else heard_before b bound acts) ≤ length (said_in acts)
 said_ticks b bound (Happen said ∷ acts) on =
     let rest = said_ticks b bound acts (is_driven b bound acts) in
-    let one = if_ticks (is_tick (line_step said)) on (heard_of b bound acts) in
+    let one = if_ticks (is_tick_step (line_step said)) on (heard_of b bound acts) in
     omega (arith, rest, one, length_push (said_in acts) said)
 said_ticks b bound (PullFrom gift ∷ acts) on = said_ticks b bound acts on
 said_ticks b bound _ on = omega arith
 
 -- a plant that runs can tell its bounds of a line more
-pub can_hear : {t : Terms} {before : Told} {now : RunView} {count : ℕ} {h : ScriptHeading} {log : List PlantLine} {text : List ℕ} → RunStands t before now count h log text → length log + 1 < 2 ^ 64 → All HasRoom now.watched
+pub can_hear : {t : Terms} {before : ChannelTold} {now : RunView} {count : ℕ} {h : ScriptHeading} {log : List PlantLine} {text : List ℕ} → RunStands t before now count h log text → length log + 1 < 2 ^ 64 → All HasRoom now.watched
 can_hear {t} k few =
     rw k.watched_are (All-map HasRoom (λ bound. watching t.begins.links bound (heard_of t.begins bound k.acts)) t.bounds
     (λ i d below. let ticks = said_ticks t.begins (get_or t.bounds i d) k.acts (is_driven t.begins (get_or t.bounds i d) k.acts) in omega (arith, ticks, k.whole, few)))
@@ -103,12 +103,12 @@ aged_at bounds links vs zero e named = tt
 aged_at bounds links vs (suc place) e named = aged_from 1 place (suc place) bounds links vs (omega arith) e named
 
 -- what is watched at a place that there is
-pub watched_at : {t : Terms} {before : Told} {now : RunView} {count : ℕ} {h : ScriptHeading} {log : List PlantLine} {text : List ℕ} {bounds : List BoundSpec} {place : ℕ} {w : Watched} → RunStands t before now count h log text → bounds ≡ t.bounds → place < length bounds → w ≡ slice_index_or now.watched place w → slice_get now.watched place ≡ Some w
+pub watched_at : {t : Terms} {before : ChannelTold} {now : RunView} {count : ℕ} {h : ScriptHeading} {log : List PlantLine} {text : List ℕ} {bounds : List BoundSpec} {place : ℕ} {w : Watched} → RunStands t before now count h log text → bounds ≡ t.bounds → place < length bounds → w ≡ slice_index_or now.watched place w → slice_get now.watched place ≡ Some w
 watched_at {t} {before} {now} {count} {h} {log} {text} {bounds} {place} {w} k same within read =
     let long = ap length k.watched_are ∙ length-map t.bounds (λ bound. watching t.begins.links bound (heard_of t.begins bound k.acts)) ∙ sym (ap length same) in
     slice_get_read now.watched (length now.watched) place w refl (omega (arith, long, within)) read
 
-pub are_aged : {t : Terms} {before : Told} {now : RunView} {count : ℕ} {h : ScriptHeading} {log : List PlantLine} {text : List ℕ} (place : ℕ) {w : Watched} → RunStands t before now count h log text → slice_get now.watched place ≡ Some w → AreAged now.plant.links w.bound
+pub are_aged : {t : Terms} {before : ChannelTold} {now : RunView} {count : ℕ} {h : ScriptHeading} {log : List PlantLine} {text : List ℕ} (place : ℕ) {w : Watched} → RunStands t before now count h log text → slice_get now.watched place ≡ Some w → AreAged now.plant.links w.bound
 are_aged {t} {before} {now} {count} {h} {log} {text} place {w} k at =
     let is = bound_at t.begins.links (λ bound. heard_of t.begins bound k.acts) t.bounds place w (rw k.watched_are at at) in
     record { estop = aged_at t.bounds t.begins.links now.plant.links w.bound.estop.link k.fixed is.0; drive = aged_at t.bounds t.begins.links now.plant.links w.bound.drive.link k.fixed is.1 }

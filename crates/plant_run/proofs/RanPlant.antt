@@ -1,5 +1,5 @@
 -- What a run over a script leaves is what a plant did.
-use Rattle.plant_run.proofs.Common.{Ended, IfSome, LinkConf, PlantLine, RanOver, RanPlant, Reporting, RunCloses, RunStands, RunView, ScriptHeading, Terms, Told, link_at, plant_reporting}
+use Rattle.plant_run.proofs.Common.{Ended, IfSome, LinkConf, PlantLine, RanOver, RanPlant, Reporting, RunCloses, RunStands, RunView, ScriptHeading, Terms, ChannelTold, link_at, plant_reporting}
 use Rattle.std.proofs.Common.{◌≡◌, ℕ, List, [], Option, Some, None, refl, sym, subst, inl, inr, arith}
 use Rattle.std.specs.List.{IsDistinct}
 use Rattle.fsoe_io.specs.declared.status.Status.{Status}
@@ -29,7 +29,7 @@ fair_if_none (Some link) = record { from_awaited = tt; master_once = tt; slave_o
 none_is_fair : (links : List LinkConf) → PairsAreFair links []
 none_is_fair links = λ k. fair_if_none (link_at links k)
 
-pub ran_plant : {t : Terms} {ended : Ended} {o : Outside} {before : Told} (now : RunView) {unbegun : Type 0} {stands : ScriptHeading → List PlantLine → List ℕ → Type 0} → RanOver (plant_reporting t) ended o → Leaves unbegun (plant_reporting t) stands (RunCloses t before now) ended o
+pub ran_plant : {t : Terms} {ended : Ended} {o : Outside} {before : ChannelTold} (now : RunView) {unbegun : Type 0} {stands : ScriptHeading → List PlantLine → List ℕ → Type 0} → RanOver (plant_reporting t) ended o → Leaves unbegun (plant_reporting t) stands (RunCloses t before now) ended o
     → (unbegun → (now.told ≡ before) × (now.plant.journal ≡ [])) → ((h : ScriptHeading) (log : List PlantLine) (text : List ℕ) → stands h log text → (count : ℕ) × RunStands t before now count h log text) → RanPlant t ended o before now.told now.plant.journal
 ran_plant {t} {ended} {o} {before} now ran leaves nothing stood =
     elim leaves [

@@ -11,7 +11,7 @@ use Rattle.schedule_file.specs.EventLine.{switch_of}
 use Rattle.schedule_file.specs.declared.line_buf.TheConstants.{MAX_LINE}
 use Rattle.schedule_file.specs.declared.line_cause.LineCause.TheVariants as cause
 use Rattle.schedule_file.proofs.Sound.{each, known, ok_if, worded, IfOk-every, IfOk-map}
-use Rattle.plant_run.specs.ScriptLine.{end_of_letter, existing, link_and_switch, local_line, nonce_line, plant_line, plant_said, plant_word_of, put_line}
+use Rattle.plant_run.specs.ScriptLine.{end_of_letter, existing, link_and_switch, local_line, plant_nonce_line, plant_line, plant_said, plant_word_of, plant_put_line}
 use Rattle.plant_run.specs.declared.script_line.PlantWord.{PlantWord}
 use Rattle.plant_run.specs.declared.script_line.PlantWord.TheVariants as word
 
@@ -22,7 +22,7 @@ exists lengths link = grind arith
 number_within : (text : List ℕ) → IfOk (number_16 text) (λ n. n ≤ 65535)
 number_within text = grind arith
 
-pub put_fits : (lengths : List Lengths) (fields : List (List ℕ)) → IfOk (put_line lengths fields) (LineFits lengths)
+pub put_fits : (lengths : List Lengths) (fields : List (List ℕ)) → IfOk (plant_put_line lengths fields) (LineFits lengths)
 put_fits lengths fields =
     each (next_field fields) _ _ (λ link. each (one_field link.1) _ _ (λ digits. each (number_16 link.0) _ _ (λ number.
     known (existing lengths number) _ _ _ (exists lengths number) (λ ends is. each (value_or cause.Hex (bytes_said MOST_DATA digits)) _ _ (λ bytes.
@@ -38,7 +38,7 @@ local_fits : (lengths : List Lengths) (fields : List (List ℕ)) → IfOk (local
 local_fits lengths fields =
     each (one_field fields) _ _ (λ link. each (number_16 link) _ _ (λ number. known (existing lengths number) _ _ _ (exists lengths number) (λ ends is. rw is refl)))
 
-pub nonce_fits : (lengths : List Lengths) (fields : List (List ℕ)) → IfOk (nonce_line lengths fields) (LineFits lengths)
+pub nonce_fits : (lengths : List Lengths) (fields : List (List ℕ)) → IfOk (plant_nonce_line lengths fields) (LineFits lengths)
 nonce_fits lengths fields =
     each (next_field fields) _ _ (λ link. each (next_field link.1) _ _ (λ letter. each (one_field letter.1) _ _ (λ digits. each (number_16 link.0) _ _ (λ number.
     each (value_or cause.Number (end_of_letter letter.0)) _ _ (λ end. known (number_16 digits) _ _ _ (number_within digits) (λ id few. known (existing lengths number) _ _ _ (exists lengths number) (λ ends is. (rw is refl, few))))))))

@@ -1,5 +1,5 @@
 -- What a plant reports of its script, as far as it ran.
-use Rattle.plant_run.proofs.Common.{Act, Beginning, Ended, EndsReport, Happen, IsPast, IsPrefix, JournalStep, LinkConf, None, Option, Parcel, PlantLine, PlantReports, PullFrom, ReportsSoFar, RunCloses, RunStands, RunView, Said, Script, ScriptHeading, Some, Start, Terms, Told, append-nil, bound_line, bound_lines, in_tick, input_stopped, is_line, is_tick, journal, last_lines, line_said, line_step, line_steps, lines_by, lines_due, lines_from, no_lines_by, no_lines_pulled, offers, plant_reporting, pulls_after, report_end, report_text, run_stop, said, said_in, tick_lines, ticks, ticks_text, watched_after, with_line}
+use Rattle.plant_run.proofs.Common.{Act, Beginning, Ended, EndsReport, Happen, IsPast, IsPrefix, JournalStep, LinkConf, None, Option, Parcel, PlantLine, PlantReports, PullFrom, ReportsSoFar, RunCloses, RunStands, RunView, Said, Script, ScriptHeading, Some, Start, Terms, ChannelTold, append-nil, bound_line, bound_lines, in_tick, input_stopped, is_line, is_tick_step, journal, plant_last_lines, line_said, line_step, line_steps, lines_by, lines_due, lines_from, no_lines_by, no_lines_pulled, offers, plant_reporting, pulls_after, report_end, report_text, script_stop, said, said_in, plant_tick_lines, journal_ticks, ticks_text, watched_after, with_line}
 use Rattle.std.proofs.Common.{◌≡◌, ℕ, ◌+◌, Bool, true, false, List, [], ◌∷◌, ◌++◌, length, if◌then◌else◌, refl, sym, ap, ap₂, ◌∙◌, append_assoc, eq-eqb, arith}
 use Rattle.std.proofs.lemmas.List.Elements.{filter-append}
 use Rattle.schedule_file.specs.Input.{AtEnd, NoApp, Refused, Stop}
@@ -19,7 +19,7 @@ lines_split links before (x ∷ a) b one is =
     ∙ ap (λ (z : List JournalStep). (due ++ lines_from links (before ++ x ∷ []) a) ++ lines_from links (z ++ one ∷ []) b) (append_assoc before (x ∷ []) a)
 
 -- steps that are no lines of the script are no ticks, and come before the lines of their tick
-pub quiet : (rest : List JournalStep) → line_steps rest ≡ [] → (ticks rest ≡ 0) × ((before : Bool) → in_tick before rest ≡ before) × ((links : List LinkConf) (before : List JournalStep) → lines_from links before rest ≡ lines_due links (before ++ rest))
+pub quiet : (rest : List JournalStep) → line_steps rest ≡ [] → (journal_ticks rest ≡ 0) × ((before : Bool) → in_tick before rest ≡ before) × ((links : List LinkConf) (before : List JournalStep) → lines_from links before rest ≡ lines_due links (before ++ rest))
 quiet [] none = (refl, λ before. refl, λ links before. ap (lines_due links) (sym (append-nil before)))
 quiet (step.Offer link load ∷ rest) none =
     let q = quiet rest none in
@@ -31,7 +31,7 @@ quiet _ none = absurd (cc none)
 
 in_tick_append : (before : Bool) (a b : List JournalStep) → in_tick before (a ++ b) ≡ in_tick (in_tick before a) b
 in_tick_append before [] b = refl
-in_tick_append before (x ∷ a) b = in_tick_append (if is_line x then is_tick x else before) a b
+in_tick_append before (x ∷ a) b = in_tick_append (if is_line x then is_tick_step x else before) a b
 
 -- a journal is another one, a line of the script, and steps that are none
 pub record After (said : Said) (old new : List JournalStep) : Type 0 where
@@ -43,17 +43,17 @@ line_is : (said : Said) → is_line (line_step said) ≡ true
 line_is said = grind arith
 
 -- then its text is that of the other, and the lines of the tick, where the line is one
-pub text_after : (links : List LinkConf) (said : Said) (old new : List JournalStep) → After said old new → ticks_text links new ≡ ticks_text links old ++ (if is_tick (line_step said) then tick_lines links new else [])
+pub text_after : (links : List LinkConf) (said : Said) (old new : List JournalStep) → After said old new → ticks_text links new ≡ ticks_text links old ++ (if is_tick_step (line_step said) then plant_tick_lines links new else [])
 text_after links said old new a =
     let one : JournalStep = line_step said in
     let q = quiet a.rest a.none in
-    let due : in_tick false new ≡ is_tick one =
-    ap (in_tick false) a.is ∙ in_tick_append false old (one ∷ a.rest) ∙ ap (λ (line : Bool). in_tick (if line then is_tick one else in_tick false old) a.rest) (line_is said) ∙ q.1 (is_tick one)
+    let due : in_tick false new ≡ is_tick_step one =
+    ap (in_tick false) a.is ∙ in_tick_append false old (one ∷ a.rest) ∙ ap (λ (line : Bool). in_tick (if line then is_tick_step one else in_tick false old) a.rest) (line_is said) ∙ q.1 (is_tick_step one)
     in
     ap (ticks_text links) a.is
     ∙ lines_split links [] old a.rest one (line_is said)
     ∙ ap (λ (z : List ℕ). ticks_text links old ++ z)
-    (q.2 links (old ++ one ∷ []) ∙ ap (lines_due links) (append_assoc old (one ∷ []) a.rest ∙ sym a.is) ∙ ap (λ (tick : Bool). if tick then tick_lines links new else []) due)
+    (q.2 links (old ++ one ∷ []) ∙ ap (lines_due links) (append_assoc old (one ∷ []) a.rest ∙ sym a.is) ∙ ap (λ (tick : Bool). if tick then plant_tick_lines links new else []) due)
 
 -- the acts at a line
 pub after_line : (b : Beginning) (said : Said) (gifts : List (Option Parcel)) (done : List Act) → After said (journal b done) (journal b (with_line said gifts done))
@@ -72,10 +72,10 @@ after_line b said (Some parcel ∷ gifts) done =
 
 -- lines at which nothing was pulled
 abbrev nothing : Said → List (Option Parcel)
-nothing one = if is_tick (line_step one) then None ∷ [] else []
+nothing one = if is_tick_step (line_step one) then None ∷ [] else []
 
 -- there may be such acts
-one_past : (one : Said) (acts : List Act) (tick : Bool) → is_tick (line_step one) ≡ tick → IsPast 0 acts → IsPast 0 (with_line one (if tick then None ∷ [] else []) acts)
+one_past : (one : Said) (acts : List Act) (tick : Bool) → is_tick_step (line_step one) ≡ tick → IsPast 0 acts → IsPast 0 (with_line one (if tick then None ∷ [] else []) acts)
 one_past one acts true e h = (refl, (63, (sym (ap pulls_after e), h)))
 one_past one acts false e h = (sym (ap pulls_after e), h)
 
@@ -90,9 +90,9 @@ quietly : (b : Beginning) (acts : List Act) (more : List Said) (text : List ℕ)
 quietly b acts [] text is h = record { further = acts; past = h; says = sym (append-nil (said_in acts)); begins = ([], sym (append-nil text ∙ is)) }
 quietly b acts (one ∷ more) text is h =
     let next : List Act = with_line one (nothing one) acts in
-    let tick : List ℕ = if is_tick (line_step one) then tick_lines b.links (journal b next) else [] in
+    let tick : List ℕ = if is_tick_step (line_step one) then plant_tick_lines b.links (journal b next) else [] in
     let grew = ap (λ (z : List ℕ). z ++ tick) is ∙ sym (text_after b.links one (journal b acts) (journal b next) (after_line b one (nothing one) acts)) in
-    let q = quietly b next more (text ++ tick) grew (one_past one acts (is_tick (line_step one)) refl h) in
+    let q = quietly b next more (text ++ tick) grew (one_past one acts (is_tick_step (line_step one)) refl h) in
     record {
       further = q.further;
       past = q.past;
@@ -101,7 +101,7 @@ quietly b acts (one ∷ more) text is h =
     }
 
 -- where all lines happened, a run stops as its script does
-stops_with : (happened : ℕ) (script : Script) → happened ≡ length script.events → run_stop happened script ≡ script.stop
+stops_with : (happened : ℕ) (script : Script) → happened ≡ length script.events → script_stop happened script ≡ script.stop
 stops_with happened script all = ap (λ (whole : Bool). if whole then script.stop else Refused (script.lines + happened + 1) NoApp) (eq-eqb happened (length script.events) all)
 
 -- each script has a report
@@ -109,10 +109,10 @@ pub some_report : (t : Terms) (script : Script) → (report : List ℕ) × (ende
 some_report t script = let q = quietly t.begins (Start ∷ []) (said t.spare script.events) _ refl refl in (_, _, (q.further, q.past, q.says, refl, refl))
 
 -- what stands for all these lines reports them with this end
-pub said_are : {t : Terms} {before : Told} {now : RunView} {count : ℕ} {h : ScriptHeading} {log : List PlantLine} {text : List ℕ} → (k : RunStands t before now count h log text) → said_in k.acts ≡ said t.spare log
+pub said_are : {t : Terms} {before : ChannelTold} {now : RunView} {count : ℕ} {h : ScriptHeading} {log : List PlantLine} {text : List ℕ} → (k : RunStands t before now count h log text) → said_in k.acts ≡ said t.spare log
 said_are {t} {before} {now} {count} {h} {log} k = sym (ap (said t.spare) (sym (append-nil log)) ∙ k.says [] ∙ append-nil (said_in k.acts))
 
-reports_stopped : {t : Terms} {before : Told} {now : RunView} {count : ℕ} {h : ScriptHeading} {log : List PlantLine} {text : List ℕ} → (lines : ℕ) (stop : Stop) (k : RunStands t before now count h log text)
+reports_stopped : {t : Terms} {before : ChannelTold} {now : RunView} {count : ℕ} {h : ScriptHeading} {log : List PlantLine} {text : List ℕ} → (lines : ℕ) (stop : Stop) (k : RunStands t before now count h log text)
     → PlantReports t (input_stopped h lines log stop) (report_end t.begins.links now.plant.journal stop) (report_text t.begins.links now.plant.journal (bound_lines t.begins k.acts t.bounds) stop)
 reports_stopped {t} {before} {now} {count} {h} {log} lines stop k =
     let same = k.stands.has_done.journal_is in
@@ -125,11 +125,11 @@ reports_stopped {t} {before} {now} {count} {h} {log} lines stop k =
     )
 
 -- the lines so far begin the report, and with a last line they are that of a script that stops after them
-pub plant_so_far : {t : Terms} {before : Told} {now : RunView} {count : ℕ} {h : ScriptHeading} {log : List PlantLine} {text : List ℕ} → RunStands t before now count h log text → ReportsSoFar (plant_reporting t) h log text
+pub plant_so_far : {t : Terms} {before : ChannelTold} {now : RunView} {count : ℕ} {h : ScriptHeading} {log : List PlantLine} {text : List ℕ} → RunStands t before now count h log text → ReportsSoFar (plant_reporting t) h log text
 plant_so_far {t} {before} {now} {count} {h} {log} {text} k = record {
   begins = λ lines more stop.
       let q = quietly t.begins k.acts (said now.left more) text (k.text_is ∙ ap (ticks_text t.begins.links) k.stands.has_done.journal_is) k.stands.may.past in
-      let last : List ℕ = last_lines t.begins.links (journal t.begins q.further) (bound_lines t.begins q.further t.bounds) (run_stop (length (said_in q.further)) (input_stopped h lines (log ++ more) stop)) in
+      let last : List ℕ = plant_last_lines t.begins.links (journal t.begins q.further) (bound_lines t.begins q.further t.bounds) (script_stop (length (said_in q.further)) (input_stopped h lines (log ++ more) stop)) in
       (_, _, (q.further, q.past, q.says ∙ sym (k.says more), refl, refl), (q.begins.0 ++ last, ap (λ (z : List ℕ). z ++ last) q.begins.1 ∙ append_assoc text q.begins.0 last));
   refused = λ lines number why. rw k.text_is (reports_stopped lines (Refused number why) k);
 }
@@ -143,6 +143,6 @@ pub bounds_shown : (t : Terms) (now : RunView) (acts : List Act) → now.plant.j
 bounds_shown t now acts same are = rw (same, are) (lines_are t.begins acts t.bounds)
 
 -- the whole report
-pub plant_ends : {t : Terms} {before : Told} {now : RunView} {h : ScriptHeading} {log : List PlantLine} {text : List ℕ} {ended : Ended} → RunCloses t before now h log text ended → EndsReport (plant_reporting t) h log text ended
+pub plant_ends : {t : Terms} {before : ChannelTold} {now : RunView} {h : ScriptHeading} {log : List PlantLine} {text : List ℕ} {ended : Ended} → RunCloses t before now h log text ended → EndsReport (plant_reporting t) h log text ended
 plant_ends {t} {before} {now} c = λ lines.
     rw (c.ended_is, c.text_is, bounds_shown t now c.stands.acts c.stands.stands.has_done.journal_is c.stands.watched_are) (reports_stopped lines AtEnd c.stands)

@@ -1,5 +1,5 @@
 -- The application that is taken by its name is the first of it that is left.
-use Rattle.plant_run.proofs.Common.{AppView, EntryOf, IsTaken, KindOf, None, Option, Some, Taken, named, passed, place_of, position_from, remove, string_bytes, take_app}
+use Rattle.plant_run.proofs.Common.{AppView, EntryOf, IsTaken, KindOf, None, Option, Some, Taken, named, passed, name_place, position_from, remove, string_bytes, take_app}
 use Rattle.std.proofs.Common.{◌≡◌, ℕ, suc, ◌+◌, Bool, true, false, List, [], ◌∷◌, map, cond, slice_get, if◌then◌else◌, refl, ap, arith}
 use Rattle.std.specs.Str.{bytes_eq}
 use Rattle.fb_net.specs.declared.kind_of.KindOf.TheVariants as kind
@@ -33,5 +33,5 @@ app_taken view name all left one h =
     let same : h.place ≡ at.0 = omega (arith, at.1) in
     rw (h.left_is, same) (at.2 one (rw same at h.one_is))
 
-pub app_missing : {H : Type 0} (view : KindOf H → AppView) (name : List ℕ) (all : List (EntryOf H)) → place_of name (names all) ≡ None → take_app name (map (named view) all) ≡ None
+pub app_missing : {H : Type 0} (view : KindOf H → AppView) (name : List ℕ) (all : List (EntryOf H)) → name_place name (names all) ≡ None → take_app name (map (named view) all) ≡ None
 app_missing view name all none = rw none at (taken_from view name 0 all)

@@ -1,5 +1,5 @@
 -- The lines of the connections and of the bounds that wait.
-use Rattle.plant_run.proofs.Common.{Act, Beginning, BoundSpec, IsSomeAnd, JournalStep, LinkConf, None, Option, PlantLine, PlantStands, PlantView, RunStands, RunView, ScriptHeading, ShowsBound, ShowsPair, Some, Terms, Told, Watched, broken_of, codes, decimal, heard_of, limit_of, line_by, lines_by, link_at, link_line, link_lines, made_count, outputs_at, pair, same_count, slice_get_within, state_at, view_of, watched_after}
+use Rattle.plant_run.proofs.Common.{Act, Beginning, BoundSpec, IsSomeAnd, JournalStep, LinkConf, None, Option, PlantLine, PlantStands, PlantView, RunStands, RunView, ScriptHeading, ShowsBound, ShowsPair, Some, Terms, ChannelTold, Watched, broken_of, codes, decimal, heard_of, limit_of, line_by, lines_by, link_at, link_line, link_lines, made_count, end_outputs, pair, same_count, slice_get_within, state_at, view_of, watched_after}
 use Rattle.std.proofs.Common.{◌≡◌, ◌≤◌, ℕ, suc, List, [], ◌∷◌, ◌++◌, drop, length, slice_get, refl, sym, ap, subst, ◌∙◌, arith, rules}
 use Rattle.std.proofs.Math.Seq.{drop-cons}
 use Rattle.std.proofs.lemmas.List.{drop_all}
@@ -16,12 +16,12 @@ use Rattle.param_load.specs.declared.entry.Entry.{Entry}
 abbrev pub end_by : State → List ℕ → List ℕ
 end_by state outputs = codes " " ++ state_name state ++ codes " " ++ encode_lower outputs
 
-link_by : (o : Option LinkConf) (k : ℕ) (w : LinkConf → List Entry) (ms ss : State) (mo so text : List ℕ) → IsSomeAnd o (λ l. ms ≡ state_at l side.Master (w l)) → IsSomeAnd o (λ l. mo ≡ outputs_at l side.Master (w l))
-    → IsSomeAnd o (λ l. ss ≡ state_at l side.Slave (w l)) → IsSomeAnd o (λ l. so ≡ outputs_at l side.Slave (w l)) → text ≡ ((decimal k ++ end_by ms mo) ++ end_by ss so) ++ codes "\n" → IsSomeAnd o (λ l. text ≡ link_line l k (w l))
+link_by : (o : Option LinkConf) (k : ℕ) (w : LinkConf → List Entry) (ms ss : State) (mo so text : List ℕ) → IsSomeAnd o (λ l. ms ≡ state_at l side.Master (w l)) → IsSomeAnd o (λ l. mo ≡ end_outputs l side.Master (w l))
+    → IsSomeAnd o (λ l. ss ≡ state_at l side.Slave (w l)) → IsSomeAnd o (λ l. so ≡ end_outputs l side.Slave (w l)) → text ≡ ((decimal k ++ end_by ms mo) ++ end_by ss so) ++ codes "\n" → IsSomeAnd o (λ l. text ≡ link_line l k (w l))
 link_by o k w ms ss mo so text h l m n p = grind arith
 
-pub line_shown : (v : PlantView) (k : ℕ) (ms ss : State) (mo so text : List ℕ) → ShowsPair v k ms (λ l w. state_at l side.Master w) → ShowsPair v k mo (λ l w. outputs_at l side.Master w) → ShowsPair v k ss (λ l w. state_at l side.Slave w)
-    → ShowsPair v k so (λ l w. outputs_at l side.Slave w) → text ≡ ((decimal k ++ end_by ms mo) ++ end_by ss so) ++ codes "\n" → ShowsPair v k text (λ l w. link_line l k w)
+pub line_shown : (v : PlantView) (k : ℕ) (ms ss : State) (mo so text : List ℕ) → ShowsPair v k ms (λ l w. state_at l side.Master w) → ShowsPair v k mo (λ l w. end_outputs l side.Master w) → ShowsPair v k ss (λ l w. state_at l side.Slave w)
+    → ShowsPair v k so (λ l w. end_outputs l side.Slave w) → text ≡ ((decimal k ++ end_by ms mo) ++ end_by ss so) ++ codes "\n" → ShowsPair v k text (λ l w. link_line l k w)
 line_shown v k ms ss mo so text a b c d is = record {
   shows = λ begins acts h.
       link_by (link_at begins.links k) k (λ l. pair l k v.journal) ms ss mo so text (a.shows begins acts h) (b.shows begins acts h) (c.shows begins acts h) (d.shows begins acts h) is;
@@ -44,7 +44,7 @@ part_shown b acts v place next links text stands same shows number =
     rw (same, number) (link_part (slice_get b.links place) b.links place text v.journal refl (subst (λ (n : ℕ). IsSomeAnd (link_at b.links n) (λ l. text ≡ link_line l n (pair l n v.journal))) number (shows.shows b acts stands)))
 
 -- none waits after the last
-pub links_done : {t : Terms} {before : Told} {now : RunView} {count : ℕ} {h : ScriptHeading} {log : List PlantLine} {text : List ℕ} {place most : ℕ} {links : List LinkConf} → RunStands t before now count h log text → links ≡ t.begins.links → most ≡ length now.plant.links → most ≤ place → link_lines (suc place) (drop place links) now.plant.journal ≡ []
+pub links_done : {t : Terms} {before : ChannelTold} {now : RunView} {count : ℕ} {h : ScriptHeading} {log : List PlantLine} {text : List ℕ} {place most : ℕ} {links : List LinkConf} → RunStands t before now count h log text → links ≡ t.begins.links → most ≡ length now.plant.links → most ≤ place → link_lines (suc place) (drop place links) now.plant.journal ≡ []
 links_done k l m n = search (rules, same_count, made_count, drop_all)
 
 -- the line of the next bound is the first part of what waits, and the rest waits on

@@ -50,7 +50,7 @@ pub record DidNothing (t : Terms) (acts : List Act) (ended : Ended) (o : Outside
 -- a plant ran over a script, and reported it. `run` alone doesn't say what its ends did, since a channel may give
 -- anything. `acts` says it: they stand in its journal, in what its channel tells, and in what was written; and its
 -- pairs are fair
-pub record RanPlant (t : Terms) (ended : Ended) (o : Outside) (before after : channel.Told) (steps : List JournalStep) : Type 0 where
+pub record RanPlant (t : Terms) (ended : Ended) (o : Outside) (before after : channel.ChannelTold) (steps : List JournalStep) : Type 0 where
   pub run : RanOver (plant_reporting t) ended o
   pub acts : List Act
   pub did : DidNothing t acts ended o ⊎ DidLines t acts steps ended o

@@ -27,16 +27,16 @@ journal_after b (Some h) acts = journal b acts
 
 -- how a run stops in which so many lines happened: as the script does, where all did; else at the first for an
 -- application that isn't left
-abbrev pub run_stop : ℕ → Script → Stop
-run_stop happened script = if happened == length script.events then script.stop else Refused (script.lines + happened + 1) NoApp
+abbrev pub script_stop : ℕ → Script → Stop
+script_stop happened script = if happened == length script.events then script.stop else Refused (script.lines + happened + 1) NoApp
 
 -- a whole report of a plant over a script, whatever its channel may have given, and how a run that writes it ends; what
 -- a run promises of its report is `IsReportOf`
 abbrev pub PlantReports : Terms → Script → Ended → List ℕ → Type 0
 PlantReports t script ended text =
     (acts : List Act) × IsPast 0 acts × (said_in acts ≡ said t.spare script.events)
-    × (text ≡ report_text t.begins.links (journal_after t.begins script.heading acts) (bound_lines t.begins acts t.bounds) (run_stop (length (said_in acts)) script))
-    × (ended ≡ report_end t.begins.links (journal_after t.begins script.heading acts) (run_stop (length (said_in acts)) script))
+    × (text ≡ report_text t.begins.links (journal_after t.begins script.heading acts) (bound_lines t.begins acts t.bounds) (script_stop (length (said_in acts)) script))
+    × (ended ≡ report_end t.begins.links (journal_after t.begins script.heading acts) (script_stop (length (said_in acts)) script))
 
 -- what a plant reports; it takes memory for its events too
 abbrev pub plant_reporting : Terms → Reporting ScriptHeading PlantLine PlantLine

@@ -3,7 +3,7 @@
 use Rattle.std.specs.Prelude.{◌≡◌, ◌+◌, ◌<◌, ◌≤◌, ◌^◌, ◌-◌, ℕ, suc, Bool, List, [], ◌∷◌, ◌++◌, length, drop, map, All, Option}
 use Rattle.fsoe_base.specs.declared.lengths.Lengths.{Lengths}
 use Rattle.fsoe_io.specs.declared.status.Ended.{Ended}
-use Rattle.black_channel.specs.Told.{Told}
+use Rattle.black_channel.specs.Told.{ChannelTold}
 use Rattle.schedule_file.specs.Input.{AtEnd}
 use Rattle.plant_conf.specs.ConfView.{ConfView}
 use Rattle.plant_conf.specs.Kept.{HasSameLengths}
@@ -14,12 +14,12 @@ use Rattle.reaction_bound.specs.Reaction as reaction
 use Rattle.plant_model.specs.Acts.{Beginning, Act, uses}
 use Rattle.plant_model.specs.BoundLines.{heard, limit_of, line_by, heard_of}
 use Rattle.plant_model.specs.Fits.{lengths_in, Fits}
-use Rattle.plant_model.specs.Pair.{ticks}
+use Rattle.plant_model.specs.Pair.{journal_ticks}
 use Rattle.plant_model.specs.Past.{Named, said, said_in}
 use Rattle.plant_model.specs.PlantReport.{link_lines, report_end, report_text, ticks_text}
 use Rattle.plant_model.specs.Uses.{Trace}
 use Rattle.plant_model.specs.declared.event.PlantLine.{PlantLine}
-use Rattle.plant_model.specs.declared.event.PlantLine.TheVariants as line
+use Rattle.plant_model.specs.declared.event.PlantLine.TheVariants as script_says
 use Rattle.plant_model.specs.declared.journal.JournalStep.{JournalStep}
 use Rattle.plant_core.specs.Link.{LinkView}
 use Rattle.plant_core.specs.Making.{links_made}
@@ -85,11 +85,11 @@ pub record RunView : Type 0 where
   pub plant : PlantView
   pub watched : List Watched
   pub left : List Named
-  pub told : Told
+  pub told : ChannelTold
 
 -- a plant that is run with these terms stands for the acts of these lines: its bounds are watched so, its channel, which
 -- told this before, was used as the acts say, it had so many ticks, and this text is the report of its ticks
-pub record RunStands (t : Terms) (before : Told) (now : RunView) (count : ℕ) (h : ScriptHeading) (log : List PlantLine) (text : List ℕ) : Type 0 where
+pub record RunStands (t : Terms) (before : ChannelTold) (now : RunView) (count : ℕ) (h : ScriptHeading) (log : List PlantLine) (text : List ℕ) : Type 0 where
   pub acts : List Act
   pub stands : PlantStands t.begins now.plant acts
   pub whole : length (said_in acts) ≡ length log
@@ -98,13 +98,13 @@ pub record RunStands (t : Terms) (before : Told) (now : RunView) (count : ℕ) (
   pub watched_are : now.watched ≡ watched_after t.begins acts t.bounds
   pub fixed : fixed_in now.plant.links ≡ fixed_in (links_made 1 t.bounds t.begins.links)
   pub same_lengths : All HasSameLengths t.begins.links
-  pub counted : count ≡ ticks now.plant.journal
+  pub counted : count ≡ journal_ticks now.plant.journal
   pub few : count ≤ length log
   pub lengths_are : h.lengths ≡ map lengths_in t.begins.links
   pub text_is : text ≡ ticks_text t.begins.links now.plant.journal
 
 -- it did all lines of a script, of which this is the report, and the run ends so
-pub record RunCloses (t : Terms) (before : Told) (now : RunView) (h : ScriptHeading) (log : List PlantLine) (text : List ℕ) (ended : Ended) : Type 0 where
+pub record RunCloses (t : Terms) (before : ChannelTold) (now : RunView) (h : ScriptHeading) (log : List PlantLine) (text : List ℕ) (ended : Ended) : Type 0 where
   pub count : ℕ
   pub ticks : List ℕ
   pub stands : RunStands t before now count h log ticks
@@ -113,5 +113,5 @@ pub record RunCloses (t : Terms) (before : Told) (now : RunView) (h : ScriptHead
 
 -- the event of a line, where it has one, fits
 abbrev pub LineFits : List Lengths → PlantLine → Type 0
-LineFits lengths (line.Step event) = Fits lengths event
+LineFits lengths (script_says.Step event) = Fits lengths event
 LineFits lengths _ = Unit {0}

@@ -8,7 +8,7 @@ use Rattle.schedule_file.specs.declared.line_cause.LineCause.{LineCause}
 use Rattle.schedule_file.specs.declared.line_cause.LineCause.TheVariants as cause
 use Rattle.plant_run.specs.ScriptLine.{plant_line}
 use Rattle.plant_model.specs.declared.event.PlantLine.{PlantLine}
-use Rattle.plant_model.specs.declared.event.PlantLine.TheVariants as line
+use Rattle.plant_model.specs.declared.event.PlantLine.TheVariants as script_says
 
 -- the header of a script: the lengths of the connections, which are known before, and whether its one line was read
 pub record ScriptHeading : Type 0 where
@@ -25,13 +25,13 @@ title_line h text = if not h.titled && bytes_eq text (codes "fsoe 1 plant") then
 
 -- what happens at a line, where something does: nothing at the end
 abbrev pub happening : PlantLine → Option PlantLine
-happening line.End = None
-happening (line.Step event) = Some (line.Step event)
-happening (line.App name) = Some (line.App name)
+happening script_says.End = None
+happening (script_says.Step event) = Some (script_says.Step event)
+happening (script_says.App name) = Some (script_says.App name)
 
 -- no event may come after 2,000
-abbrev pub is_full : ScriptHeading → List PlantLine → Bool
-is_full h log = nat_le 2000 (length log)
+abbrev pub script_is_full : ScriptHeading → List PlantLine → Bool
+script_is_full h log = nat_le 2000 (length log)
 
 -- how scripts are read where the connections have these lengths
 abbrev pub script_format : List Lengths → InputFormat ScriptHeading PlantLine PlantLine
@@ -41,7 +41,7 @@ script_format lengths = record {
   is_whole = λ h. h.titled;
   line = λ h text. plant_line h.lengths text;
   event = happening;
-  is_full = is_full;
+  is_full = script_is_full;
 }
 
 -- what a script says

@@ -3,13 +3,13 @@ use Rattle.std.specs.Prelude.{◌≡◌, ℕ, true, List, [], ◌∷◌, ◌++�
 use Rattle.schedule_file.specs.Input.{AtEnd, Line, NoApp, NoLine, NoNewline, Refused, Stop, input_read}
 use Rattle.schedule_file.specs.declared.line_cause.LineCause.TheVariants as cause
 use Rattle.plant_model.specs.Fits.{lengths_in}
-use Rattle.plant_run.specs.Reporting.{run_stop}
+use Rattle.plant_run.specs.Reporting.{script_stop}
 use Rattle.plant_run.specs.Script.{Script, script_format}
 use Rattle.plant_model.specs.Past.{said}
 use Rattle.plant_model.specs.WorkedActs.{driving}
 use Rattle.plant_model.specs.WorkedPlant.{both_links}
-use Rattle.plant_model.specs.declared.event.PlantEvent.TheVariants as event
-use Rattle.plant_model.specs.declared.event.PlantLine.TheVariants as line
+use Rattle.plant_model.specs.declared.event.PlantEvent.TheVariants as plant_event
+use Rattle.plant_model.specs.declared.event.PlantLine.TheVariants as script_says
 
 -- what bytes say to the worked plant
 abbrev pub script_of : List ℕ → Script
@@ -21,7 +21,7 @@ script_with text = script_of (codes "fsoe 1 plant\n" ++ text)
 
 -- how a run of it stops, to which one application is handed in
 abbrev pub stop_with : List ℕ → Stop
-stop_with text = run_stop (length (said (record { name = codes "zeros"; app = driving } ∷ []) (script_with text).events)) (script_with text)
+stop_with text = script_stop (length (said (record { name = codes "zeros"; app = driving } ∷ []) (script_with text).events)) (script_with text)
 
 -- seven ticks, in which the emergency stop is released, and pressed again while its connection is cut
 unfoldable pub SevenTicksScript : Type 0
@@ -30,12 +30,12 @@ SevenTicksScript =
     ≡ record {
       heading = Some (record { lengths = map lengths_in both_links; titled = true });
       lines = 1;
-      events = line.Step event.Tick
-          ∷ line.Step (event.Put 1 (3 ∷ 0 ∷ []))
-          ∷ line.Step event.Tick
-          ∷ line.Step (event.Put 1 (0 ∷ 0 ∷ []))
-          ∷ line.Step (event.Cut 1 true)
-          ∷ replicate 5 (line.Step event.Tick);
+      events = script_says.Step plant_event.Tick
+          ∷ script_says.Step (plant_event.Put 1 (3 ∷ 0 ∷ []))
+          ∷ script_says.Step plant_event.Tick
+          ∷ script_says.Step (plant_event.Put 1 (0 ∷ 0 ∷ []))
+          ∷ script_says.Step (plant_event.Cut 1 true)
+          ∷ replicate 5 (script_says.Step plant_event.Tick);
       stop = AtEnd;
     }
 

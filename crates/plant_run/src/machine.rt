@@ -4,7 +4,7 @@ ghost use Rattle.hex.specs.Hex.{encode_lower};
 ghost use Rattle.fsoe_base.specs.Command.{state_name};
 ghost use Rattle.fsoe_base.specs.declared.lengths.TheConstants.{MOST_DATA};
 ghost use Rattle.multi_master.specs.Standing.{app_view};
-ghost use Rattle.plant_model.specs.Pair.{is_tick};
+ghost use Rattle.plant_model.specs.Pair.{is_tick_step};
 ghost use Rattle.plant_run.specs.Given.{named, terms_of};
 ghost use Rattle.plant_run.specs.Running.{RunCloses, RunStands, rest_in, rest_left};
 ghost use Rattle.plant_model.specs.PlantReport.{link_line};
@@ -88,7 +88,7 @@ fn write_link<A: Application>(plant: &Plant<A>, link: u16, text: &mut LineText)
 
 /// Whether an event of the script is a tick.
 fn is_tick(event: &PlantEvent) -> bool
-    ensures { result ≡ is_tick (step.Script event.now) }
+    ensures { result ≡ is_tick_step (step.Script event.now) }
 {
     matches!(event, PlantEvent::Tick)
 }

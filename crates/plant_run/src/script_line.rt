@@ -2,7 +2,7 @@
 ghost use Rattle.std.specs.Prelude.{◌≡◌, ◌≤◌, length, IfOk};
 ghost use Rattle.schedule_file.specs.declared.line_buf.TheConstants.{MAX_LINE};
 ghost use Rattle.schedule_file.specs.FieldsRead.{fields_after};
-ghost use Rattle.plant_run.specs.ScriptLine.{existing, put_line, link_and_switch, local_line, nonce_line, plant_line};
+ghost use Rattle.plant_run.specs.ScriptLine.{existing, plant_put_line, link_and_switch, local_line, plant_nonce_line, plant_line};
 ghost use Rattle.plant_run.specs.Running.{LineFits};
 
 use fsoe_base::{End, Image, Lengths, MOST_DATA};
@@ -55,7 +55,7 @@ fn existing(lengths: &[Lengths], link: u16) -> Result<Lengths, LineCause>
 
 /// `<connection> <hex>`: safe data bytes, as many as the slave sends.
 fn read_put(fields: Option<&[u8]>, lengths: &[Lengths]) -> Result<PlantLine, LineCause>
-    ensures { result ≡ put_line lengths.now (fields_after fields.entry) }
+    ensures { result ≡ plant_put_line lengths.now (fields_after fields.entry) }
 {
     let (link, rest) = next_field(fields)?;
     let digits = one_field(rest)?;
@@ -97,7 +97,7 @@ fn read_local(fields: Option<&[u8]>, lengths: &[Lengths]) -> Result<PlantLine, L
 
 /// `<connection> m <id>` or `<connection> s <id>`: a session id of the master or of the slave.
 fn read_nonce(fields: Option<&[u8]>, lengths: &[Lengths]) -> Result<PlantLine, LineCause>
-    ensures { result ≡ nonce_line lengths.now (fields_after fields.entry) }
+    ensures { result ≡ plant_nonce_line lengths.now (fields_after fields.entry) }
 {
     let (link, rest) = next_field(fields)?;
     let (letter, rest) = next_field(rest)?;

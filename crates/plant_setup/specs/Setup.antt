@@ -9,24 +9,24 @@ use Rattle.failsafe_io.specs.Bits.{has_bit}
 use Rattle.fb_net.specs.Fault.{first_fault}
 use Rattle.fb_net.specs.NetView.{NetView}
 use Rattle.fb_net.specs.declared.fault.NetFault.{NetFault}
-use Rattle.fb_net.specs.declared.fault.NetFault.TheVariants as net
+use Rattle.fb_net.specs.declared.fault.NetFault.TheVariants as net_fault
 use Rattle.plant_conf.specs.ConfView.{ConfView}
 use Rattle.plant_conf.specs.declared.conf.BoundSpec.{BoundSpec}
 use Rattle.plant_conf.specs.declared.conf.LinkConf.{LinkConf}
-use Rattle.plant_setup.specs.Names.{place_of, IsTaken}
+use Rattle.plant_setup.specs.Names.{name_place, IsTaken}
 use Rattle.plant_setup.specs.declared.fault.SetupFault.{SetupFault}
 use Rattle.plant_setup.specs.declared.fault.SetupFault.TheVariants as setup
 
 -- how many bytes this end of each connection sends. The inputs of a net are what the slaves send, its outputs what the
 -- masters send
-abbrev pub lengths_at : End → List LinkConf → List ℕ
-lengths_at end links = map (λ link. length_of link.master.lengths end) links
+abbrev pub end_lengths : End → List LinkConf → List ℕ
+end_lengths end links = map (λ link. length_of link.master.lengths end) links
 
 -- a bound names a bit that no image has: first its input bit, then its output bit
 abbrev pub bound_fault : List ℕ → List ℕ → BoundSpec → Option NetFault
 bound_fault ins outs b =
-    if not (has_bit ins b.estop) then Some (net.NoInput b.estop)
-    else if not (has_bit outs b.drive) then Some (net.NoOutput b.drive)
+    if not (has_bit ins b.estop) then Some (net_fault.NoInput b.estop)
+    else if not (has_bit outs b.drive) then Some (net_fault.NoOutput b.drive)
     else None
 
 -- the first of these that does
@@ -38,8 +38,8 @@ bounds_fault ins outs (b ∷ bounds) = option_or (bound_fault ins outs b) (bound
 -- application runs
 abbrev pub bits_fault : ConfView → Option NetFault
 bits_fault conf =
-    let ins = lengths_at side.Slave conf.links in
-    let outs = lengths_at side.Master conf.links in
+    let ins = end_lengths side.Slave conf.links in
+    let outs = end_lengths side.Master conf.links in
     option_or (first_fault ins outs conf.blocks conf.drives) (bounds_fault ins outs conf.bounds)
 
 -- an application of this name is the net of the configuration
@@ -48,17 +48,17 @@ is_net app = bytes_eq app (codes "net")
 
 -- something has the name, or else this fault
 abbrev pub unless_named : List ℕ → List (List ℕ) → SetupFault → Option SetupFault
-unless_named name names why = if is_some (place_of name names) then None else Some why
+unless_named name names why = if is_some (name_place name names) then None else Some why
 
 -- no application has the name that is to run
-abbrev pub app_fault : List ℕ → List (List ℕ) → Option SetupFault
-app_fault app apps = if is_net app then None else unless_named app apps setup.NoApp
+abbrev pub app_name_fault : List ℕ → List (List ℕ) → Option SetupFault
+app_name_fault app apps = if is_net app then None else unless_named app apps setup.NoApp
 
 -- the first fault by which a configuration can't be run with applications and channels of these names
 abbrev pub setup_fault : ConfView → List (List ℕ) → List (List ℕ) → Option SetupFault
 setup_fault conf apps channels =
     option_or (option_map setup.Net (bits_fault conf))
-    (option_or (app_fault conf.app apps) (unless_named conf.channel channels setup.NoChannel))
+    (option_or (app_name_fault conf.app apps) (unless_named conf.channel channels setup.NoChannel))
 
 -- the net of a configuration, of which no cycle has run
 abbrev pub net_of : ConfView → NetView

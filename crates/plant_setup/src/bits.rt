@@ -2,7 +2,7 @@
 ghost use Rattle.std.specs.Prelude.{◌≡◌, ◌≤◌, [], length, IfOk};
 ghost use Rattle.std.specs.Result.{result_err};
 ghost use Rattle.fb_net.specs.Standing.{IsNewNet};
-ghost use Rattle.plant_setup.specs.Setup.{lengths_at, bound_fault, bounds_fault, bits_fault, net_of};
+ghost use Rattle.plant_setup.specs.Setup.{end_lengths, bound_fault, bounds_fault, bits_fault, net_of};
 
 use arrayvec::ArrayVec;
 use fb_net::{Net, NetFault, has_bit};
@@ -15,7 +15,7 @@ const MOST_LINKS: usize = 64;
 /// How many bytes this end of each connection sends.
 fn lengths_at(end: End, links: &[LinkConf]) -> ArrayVec<u8, MOST_LINKS>
     requires { length links.now ≤ MOST_LINKS }
-    ensures { result.items ≡ lengths_at end links.now }
+    ensures { result.items ≡ end_lengths end links.now }
 {
     let mut lengths = ArrayVec::new();
     for link in links {

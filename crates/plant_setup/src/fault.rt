@@ -1,6 +1,6 @@
 //! Why a configuration can't be run, and the line that reports it.
 ghost use Rattle.std.specs.Prelude.{◌≡◌, ◌+◌, ◌≤◌, ◌++◌, length};
-ghost use Rattle.plant_setup.specs.ConfigLine.{numbered, at_bit, conf_text, net_text, config_line};
+ghost use Rattle.plant_setup.specs.ConfigLine.{numbered_fault, at_bit, conf_text, net_text, config_line};
 ghost use Rattle.plant_conf.specs.Names.{key_text};
 
 use failsafe_io::Bit;
@@ -26,7 +26,7 @@ pub enum SetupFault {
 /// Appends the name of a fault and a number.
 fn push_numbered(name: &str, n: u16, text: &mut LineText)
     requires { length text.old + length name.now ≤ 900 }
-    ensures text { text.new ≡ text.old ++ numbered name.now n }
+    ensures text { text.new ≡ text.old ++ numbered_fault name.now n }
     ensures most { length text.new ≤ length text.old + length name.now + 21 }
 {
     text.push_str(name);

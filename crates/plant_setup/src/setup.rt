@@ -3,8 +3,8 @@ ghost use Rattle.std.specs.Prelude.{◌≡◌, [], map, Some, None, IfOk, MatchO
 ghost use Rattle.std.specs.Result.{result_err};
 ghost use Rattle.fb_net.specs.Standing.{IsNewNet};
 ghost use Rattle.fb_net.specs.declared.kind_of.KindOf.TheVariants as kind;
-ghost use Rattle.plant_setup.specs.Names.{place_of};
-ghost use Rattle.plant_setup.specs.Setup.{setup_fault, app_fault, net_of, IsChosen};
+ghost use Rattle.plant_setup.specs.Names.{name_place};
+ghost use Rattle.plant_setup.specs.Setup.{setup_fault, app_name_fault, net_of, IsChosen};
 ghost use Rattle.plant_setup.specs.declared.fault.SetupFault.TheVariants as setup;
 
 use crate::bits::take_net;
@@ -29,8 +29,8 @@ pub struct Setup {
 /// taken out of those that are left.
 fn choose_app(wanted: &str, net: Net, left: &mut Vec<AppEntry>) -> Option<AppKind>
     ensures { MatchOption result
-        (app_fault wanted.now (map (λ entry. string_bytes entry.name) left.old.items) ≡ Some setup.NoApp)
-        (λ app. (app_fault wanted.now (map (λ entry. string_bytes entry.name) left.old.items) ≡ None)
+        (app_name_fault wanted.now (map (λ entry. string_bytes entry.name) left.old.items) ≡ Some setup.NoApp)
+        (λ app. (app_name_fault wanted.now (map (λ entry. string_bytes entry.name) left.old.items) ≡ None)
         × IsChosen (λ entry. string_bytes entry.name) wanted.now left.old.items left.new.items (app ≡ kind.Net net) (λ entry. app ≡ kind.Handed entry.app)) }
 {
     if wanted == "net" {
@@ -54,7 +54,7 @@ pub fn set_up(
     ensures fault { result_err result ≡ setup_fault conf.old (map (λ entry. string_bytes entry.name) apps.items) (map (λ channel. name channel) channels.now) }
     ensures app { IfOk result (λ s. IsChosen (λ entry. string_bytes entry.name) conf.old.app apps.items s.spare.items (s.app ≡ kind.Net (net_of conf.old)) (λ entry. s.app ≡ kind.Handed entry.app)) }
     ensures is_new { IfOk result (λ s. IsNewNet (net_of conf.old)) }
-    ensures channel { IfOk result (λ s. place_of conf.old.channel (map (λ channel. name channel) channels.now) ≡ Some s.channel) }
+    ensures channel { IfOk result (λ s. name_place conf.old.channel (map (λ channel. name channel) channels.now) ≡ Some s.channel) }
     ensures rest { conf.new ≡ record conf.old { blocks = []; drives = [] } }
 {
     let net = match take_net(conf) {

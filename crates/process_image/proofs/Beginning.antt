@@ -1,5 +1,5 @@
 -- Images that were just made.
-use Rattle.process_image.proofs.Common.{All-cons, All-head, All-nil, All-tail, AllZip, AllZip-long, AreNumbered, ImagesView, IsNew, IsNewSeat, IsSeatOf, IsSound, IsSoundSeat, Core, IsEndOf, Place, Seat, Setup, Slot, SlotHeader, StandsFor, bytes_at, first_fault, frame_len, frame_of, is_length, length-replicate, nat_tests, places_from, plan_of, receives, sends, setup_of, with_bytes, with_frames}
+use Rattle.process_image.proofs.Common.{All-cons, All-head, All-nil, All-tail, AllZip, AllZip-long, AreNumbered, ImagesView, IsNew, IsNewSeat, IsSeatOf, IsSound, IsSoundSeat, Core, IsEndOf, Place, Seat, Setup, Slot, SlotHeader, StandsFor, bytes_at, first_fault, frame_len, slot_frame, is_length, length-replicate, nat_tests, places_from, plan_of, receives, sends, setup_of, with_bytes, with_frames}
 use Rattle.std.proofs.Common.{◌≡◌, ◌≤◌, ℕ, suc, ◌+◌, List, [], ◌∷◌, map, length, replicate, All, None, IsTrue, refl, sym, ap, subst, ◌∙◌, arith, inl, inr, rules}
 use Rattle.std.proofs.lemmas.Bool.{cases_eq}
 use Rattle.std.proofs.lemmas.List.{drop-replicate, replicate-append-replicate, take-replicate}
@@ -48,7 +48,7 @@ pub new_setups : (slots : List Slot) (seats : List Seat) → AllZip IsNewSeat sl
 new_setups slots seats z = zip_same IsNewSeat (λ slot. setup_of slot.core) (λ s. setup_of s.core) slots seats (λ slot seat new. ap setup_of new.core_is) z
 
 -- nothing was sent
-zero-frames : (size_in size_out : ℕ) (places : List Place) → AreApart size_in size_out places → with_frames (frame_of size_in []) places (replicate size_out 0) ≡ replicate size_out 0
+zero-frames : (size_in size_out : ℕ) (places : List Place) → AreApart size_in size_out places → with_frames (slot_frame size_in []) places (replicate size_out 0) ≡ replicate size_out 0
 zero-frames size_in size_out [] i = refl
 zero-frames size_in size_out (p ∷ places) i = ap (with_bytes p.at_out (replicate (len_at p) 0)) (zero-frames size_in size_out places i.3) ∙ zeros_with p.at_out (len_at p) size_out i.0
 

@@ -7,7 +7,7 @@ pub use Rattle.end_model.specs.Deed.{Deed, is_empty}
 pub use Rattle.end_model.specs.Readiness.{held, offer}
 pub use Rattle.end_model.specs.Runs.{IsProper, IsRun, IsSetting, profile_of}
 pub use Rattle.end_model.specs.Setup.{OfMaster, OfSlave, Setup, piece_len, receives, sends}
-pub use Rattle.end_model.specs.Step.{after_phase, download_frame, goes_on, master_answer, run, sealed, sent_on, slave_answer, step, with_data, with_piece}
+pub use Rattle.end_model.specs.Step.{after_phase, download_frame, goes_on, master_answer, run, sealed_next, sent_on, slave_answer, step, with_data, with_piece}
 pub use Rattle.file_run.specs.Reporting.{IsPrefix, ReportsSoFar, ended_at}
 pub use Rattle.file_run.specs.Waiting.{WaitingText, waits}
 pub use Rattle.fsoe_base.specs.Did.{nothing}
@@ -19,15 +19,15 @@ pub use Rattle.param_load.specs.Profile.{allows_id}
 pub use Rattle.param_load.specs.declared.entry.Move.{Move}
 pub use Rattle.param_load.specs.declared.master_settings.MasterSettings.{MasterSettings}
 pub use Rattle.param_load.specs.declared.slave_settings.SlaveSettings.{SlaveSettings}
-pub use Rattle.process_image.specs.Calls.{and_move, contents, deeds, delivery, frame_of, if_named, last_frame, move_in, moves, next_deed, output, with_frames}
+pub use Rattle.process_image.specs.Calls.{and_move, slot_contents, slot_deeds, slot_delivery, slot_frame, if_named, last_frame, move_in, moves, slot_next_deed, output, with_frames}
 pub use Rattle.process_image.specs.EventLine.{end_at, id_at, image_line, image_said, word_of, write_behind, write_line, written_at}
 pub use Rattle.process_image.specs.Fault.{IsMadeOf, first_fault, first_outside, first_pair, first_with, outside_or, pair_or, places_from, plan_of, slot_spans}
-pub use Rattle.process_image.specs.Header.{ImageHeading, end_of, fits_images, heading_spans, image_heading_is_whole, is_open, line_taken, own_taken, size_line, size_taken, slot_begun, slot_line, slot_taken, slots_begun, slots_of, with_last}
+pub use Rattle.process_image.specs.Header.{ImageHeading, slot_end, fits_images, heading_spans, image_heading_is_whole, is_open, image_line_taken, own_taken, size_line, size_taken, slot_begun, slot_line, slot_taken, slots_begun, slots_of, with_last_slot}
 pub use Rattle.process_image.specs.Image.{bytes_at, input, sampled, with_bytes}
 pub use Rattle.process_image.specs.Own.{Unwritten, WritesFit, at_samples, distinct_after, frames_in}
-pub use Rattle.process_image.specs.Places.{AreNumbered, Place, Plan, lie_inside, numbered, overlap, share, spans_of}
+pub use Rattle.process_image.specs.Places.{AreNumbered, Place, Plan, lie_inside, slot_numbered, overlap, share, spans_of}
 pub use Rattle.process_image.specs.Ran.{image_format, image_reporting}
-pub use Rattle.process_image.specs.Report.{IsEndOf, IsImageReport, IsPlanOf, IsSlotOf, end_terms, entry_line, event_in, event_lines, last_lines, lines_of_events, move_line, report_of}
+pub use Rattle.process_image.specs.Report.{IsEndOf, IsImageReport, IsPlanOf, IsSlotOf, end_terms, slot_entry_line, event_in, image_event_lines, image_last_lines, image_lines, move_line, image_report}
 pub use Rattle.process_image.specs.SlotLines.{AreLinesOf, IsLineOf, entry_told, told_line}
 pub use Rattle.process_image.specs.Sound.{IsNewSeat, IsSound, IsSoundSeat, MaySend}
 pub use Rattle.process_image.specs.Standing.{AnswersReset, AnswersSample, AnswersTick, Follows, HasSlot, HoldsFrames, ImagesView, IsBeside, IsSeatOf, Keeps, ShowsAt, ShowsFrames, StandsFor, TellsEach, setups_of, told}

@@ -1,5 +1,5 @@
 -- The frames that are delivered to a slot, and samples that change nothing.
-use Rattle.process_image.proofs.Common.{ImageEvent, Move, Place, Plan, Unwritten, and_move, at_samples, contents, distinct_after, frames_in, input, move_in, moves, next_deed, option_map, output, pointwise, sampled, told, with_bytes}
+use Rattle.process_image.proofs.Common.{ImageEvent, Move, Place, Plan, Unwritten, and_move, at_samples, slot_contents, distinct_after, frames_in, input, move_in, moves, slot_next_deed, option_map, output, pointwise, sampled, told, with_bytes}
 use Rattle.std.proofs.Common.{◌≡◌, ℕ, ◌==◌, List, [], ◌∷◌, ◌++◌, replicate, Option, Some, None, Bool, true, nat_eq, if◌then◌else◌, refl, sym, ap, ap₂, ◌∙◌, arith, rules}
 use Rattle.param_load.specs.declared.entry.Move.TheVariants as move
 use Rattle.process_image.specs.declared.event.ImageEvent.TheVariants as event
@@ -15,7 +15,7 @@ quiet-move : (size : ℕ) (p : Place) (calls : List ImageEvent) → Unwritten ca
 quiet-move size p calls h = search (rules, unwritten-is)
 
 pub quiet_told : (size : ℕ) (p : Place) (calls : List ImageEvent) → Unwritten calls → told size calls event.Sample p ≡ None
-quiet_told size p calls h = ap (option_map (λ what. (next_deed size p calls what).did)) (quiet-move size p calls h)
+quiet_told size p calls h = ap (option_map (λ what. (slot_next_deed size p calls what).did)) (quiet-move size p calls h)
 
 -- calls after it find the images as without it
 input-alike : (size : ℕ) (later calls : List ImageEvent) → input size (later ++ event.Sample ∷ calls) ≡ input size (later ++ calls)
@@ -61,9 +61,9 @@ distinct-push before (y ∷ xs) x =
     ∙ push-by (pointwise nat_eq before y) y (distinct_after y xs) (one-if (last-of y xs) x)
 
 -- the last contents are those of the last sample
-last-is : (size : ℕ) (p : Place) (calls : List ImageEvent) → last-of (contents p (replicate size 0)) (at_samples size p calls) ≡ contents p (sampled size calls)
+last-is : (size : ℕ) (p : Place) (calls : List ImageEvent) → last-of (slot_contents p (replicate size 0)) (at_samples size p calls) ≡ slot_contents p (sampled size calls)
 last-is size p [] = refl
-last-is size p (event.Sample ∷ calls) = last-push (contents p (replicate size 0)) (at_samples size p calls) (contents p (input size calls))
+last-is size p (event.Sample ∷ calls) = last-push (slot_contents p (replicate size 0)) (at_samples size p calls) (slot_contents p (input size calls))
 last-is size p (_ ∷ calls) = last-is size p calls
 
 -- the frames of moves with one more
@@ -80,16 +80,16 @@ sample-frames : (b : Bool) (now : List ℕ) (ms : List Move) → frames_in (and_
 sample-frames b now ms = search (rules, frames-push)
 
 -- the frames that are delivered are the contents at the samples, without those that equal the ones before
-pub distinct : (size : ℕ) (p : Place) (calls : List ImageEvent) → frames_in (moves size p calls) ≡ distinct_after (contents p (replicate size 0)) (at_samples size p calls)
+pub distinct : (size : ℕ) (p : Place) (calls : List ImageEvent) → frames_in (moves size p calls) ≡ distinct_after (slot_contents p (replicate size 0)) (at_samples size p calls)
 distinct size p [] = refl
 distinct size p (event.Write at bytes ∷ calls) = distinct size p calls
 distinct size p (event.Sample ∷ calls) =
-    let before : List ℕ = contents p (sampled size calls) in
-    let now : List ℕ = contents p (input size calls) in
+    let before : List ℕ = slot_contents p (sampled size calls) in
+    let now : List ℕ = slot_contents p (input size calls) in
     sample-frames (pointwise nat_eq before now) now (moves size p calls)
     ∙ ap (λ (xs : List (List ℕ)). xs ++ one-if before now) (distinct size p calls)
-    ∙ ap (λ (last : List ℕ). distinct_after (contents p (replicate size 0)) (at_samples size p calls) ++ one-if last now) (sym (last-is size p calls))
-    ∙ sym (distinct-push (contents p (replicate size 0)) (at_samples size p calls) now)
+    ∙ ap (λ (last : List ℕ). distinct_after (slot_contents p (replicate size 0)) (at_samples size p calls) ++ one-if last now) (sym (last-is size p calls))
+    ∙ sym (distinct-push (slot_contents p (replicate size 0)) (at_samples size p calls) now)
 distinct size p (event.Tick ∷ calls) = quiet-frames true move.Tick (moves size p calls) refl ∙ distinct size p calls
 distinct size p (event.Put slot load ∷ calls) = quiet-frames (slot == p.number) (move.Put load) (moves size p calls) refl ∙ distinct size p calls
 distinct size p (event.Hold slot failsafe ∷ calls) = quiet-frames (slot == p.number) (move.Hold failsafe) (moves size p calls) refl ∙ distinct size p calls

@@ -1,5 +1,5 @@
 -- What an output image has at each slot, and beside all slots.
-use Rattle.process_image.proofs.Common.{All-cons, All-head, All-nil, All-tail, HoldsFrames, ImageEvent, ImagesView, IsBeside, Place, Plan, ShowsFrames, StandsFor, WritesFit, bytes_at, common_steps, contents, input, length-replicate, output, share, spans_of, with_bytes, with_frames}
+use Rattle.process_image.proofs.Common.{All-cons, All-head, All-nil, All-tail, HoldsFrames, ImageEvent, ImagesView, IsBeside, Place, Plan, ShowsFrames, StandsFor, WritesFit, bytes_at, common_steps, slot_contents, input, length-replicate, output, share, spans_of, with_bytes, with_frames}
 use Rattle.std.proofs.Common.{◌≡◌, ◌≤◌, ◌+◌, ◌-◌, ◌⊎◌, ℕ, List, [], ◌∷◌, length, take, drop, All, false, refl, sym, ap, ◌∙◌, arith, rules}
 use Rattle.std.proofs.lemmas.List.{drop-take}
 use Rattle.process_image.specs.declared.event.ImageEvent.TheVariants as event
@@ -86,5 +86,5 @@ input-size size (event.Write at bytes ∷ calls) fit =
 input-size size (_ ∷ calls) fit = input-size size calls fit
 
 pub write_beside : (size at : ℕ) (bytes : List ℕ) (p : Place) (calls : List ImageEvent) → WritesFit size (event.Write at bytes ∷ calls) → share p.at_in (spans_of p).len_in at (length bytes) ≡ false
-    → contents p (input size (event.Write at bytes ∷ calls)) ≡ contents p (input size calls)
+    → slot_contents p (input size (event.Write at bytes ∷ calls)) ≡ slot_contents p (input size calls)
 write_beside size at bytes p calls h k = search (rules, input-size, stays)

@@ -1,5 +1,5 @@
 -- A call that is a move of one slot, or of none.
-use Rattle.process_image.proofs.Common.{All-head, All-tail, AllZip, AreNumbered, Follows, ImageEvent, ImagesView, IsSeatOf, IsSoundSeat, IsStepOf, Move, Place, Seat, SeatStep, after_steps, contents, if_named, input, move_in, nat_tests, sampled, with_bytes, with_sent}
+use Rattle.process_image.proofs.Common.{All-head, All-tail, AllZip, AreNumbered, Follows, ImageEvent, ImagesView, IsSeatOf, IsSoundSeat, IsStepOf, Move, Place, Seat, SeatStep, after_steps, slot_contents, if_named, input, move_in, nat_tests, sampled, with_bytes, with_sent}
 use Rattle.std.proofs.Common.{◌≡◌, ◌≤◌, ℕ, zero, suc, ◌+◌, ◌==◌, List, [], ◌∷◌, map, slice_get, slice_set, All, Some, None, true, false, if◌then◌else◌, refl, sym, ap, subst, ◌∙◌, arith}
 use Rattle.process_image.specs.declared.event.ImageEvent.TheVariants as event
 use Rattle.process_image.proofs.Following.{IsPart, stands_more}
@@ -15,7 +15,7 @@ still-part size si so calls call p seat h s none same = record {
   before = h;
   is = still_step si so seat s;
   what_is = sym none;
-  seen_is = h.seen_is ∙ ap (contents p) (sym same);
+  seen_is = h.seen_is ∙ ap (slot_contents p) (sym same);
   len_is = s.len_out_is;
 }
 
@@ -70,7 +70,7 @@ named-part size si so slot what calls call p x h s n x-is names same = record {
   before = h;
   is = x-is.is;
   what_is = x-is.what_is ∙ sym (names size p calls ∙ it slot p what n);
-  seen_is = x-is.seen_is ∙ h.seen_is ∙ ap (contents p) (sym same);
+  seen_is = x-is.seen_is ∙ h.seen_is ∙ ap (slot_contents p) (sym same);
   len_is = s.len_out_is;
 }
 

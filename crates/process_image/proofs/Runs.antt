@@ -1,5 +1,5 @@
 -- A run of images over the events of an input.
-use Rattle.process_image.proofs.Common.{All, All-cons, All-nil, AllZip, DoesEvent, Err, FitsImages, HasSlot, IfOk, ImageEvent, ImageHeading, ImagesView, IsEndOf, IsMadeOf, IsNew, IsPlanOf, IsPrefix, IsSeatOf, IsSlotOf, IsTrue, LineCause, Ok, Place, Plan, Refused, ReportsSoFar, Result, RunStands, Seat, Setup, Slot, SlotHeader, StandsFor, allows_id, append-nil, bytes_said, common_steps, deeds, each, end_at, end_terms, ended_at, event_in, event_lines, fields_of, id_at, image_format, image_line, image_reporting, image_said, known, last_lines, lines_of_events, map_ok, nat_le, next_field, no_field, number_16, number_32, numbered, one_field, places_from, plan_of, profile_of, report_of, reverse-append, sends, setup_is, setup_of, setups_of, slots_of, value_or, word_of}
+use Rattle.process_image.proofs.Common.{All, All-cons, All-nil, AllZip, DoesEvent, Err, FitsImages, HasSlot, IfOk, ImageEvent, ImageHeading, ImagesView, IsEndOf, IsMadeOf, IsNew, IsPlanOf, IsPrefix, IsSeatOf, IsSlotOf, IsTrue, LineCause, Ok, Place, Plan, Refused, ReportsSoFar, Result, RunStands, Seat, Setup, Slot, SlotHeader, StandsFor, allows_id, append-nil, bytes_said, common_steps, slot_deeds, each, end_at, end_terms, ended_at, event_in, image_event_lines, fields_of, id_at, image_format, image_line, image_reporting, image_said, known, image_last_lines, image_lines, map_ok, nat_le, next_field, no_field, number_16, number_32, slot_numbered, one_field, places_from, plan_of, profile_of, image_report, reverse-append, sends, setup_is, setup_of, setups_of, slots_of, value_or, word_of}
 use Rattle.schedule_file.specs.EventLine.{switch_of}
 use Rattle.std.proofs.Common.{◌≡◌, ◌+◌, ◌==◌, ℕ, zero, suc, List, [], ◌∷◌, ◌++◌, Bool, true, false, length, map, reverse, slice_get, Option, Some, None, IfSome, append_assoc, leb-true, eqb-true, refl, sym, ap, subst, ◌∙◌, arith}
 use Rattle.std.specs.Prelude.{◌<◌, if◌then◌else◌}
@@ -16,30 +16,30 @@ use Rattle.process_image.specs.declared.event_line.Word.TheVariants as word
 use Rattle.process_image.proofs.Beginning.{numbered_so}
 
 -- the lines of the first events come first
-lines-begin : (plan : Plan) (more calls : List ImageEvent) → IsPrefix (lines_of_events plan calls) (lines_of_events plan (more ++ calls))
-lines-begin plan [] calls = ([], sym (append-nil (lines_of_events plan calls)))
+lines-begin : (plan : Plan) (more calls : List ImageEvent) → IsPrefix (image_lines plan calls) (image_lines plan (more ++ calls))
+lines-begin plan [] calls = ([], sym (append-nil (image_lines plan calls)))
 lines-begin plan (e ∷ more) calls =
     let rest = lines-begin plan more calls in
-    let own : List ℕ = event_lines plan.size_in (more ++ calls) e plan.places in
-    (rest.0 ++ own, ap (λ (xs : List ℕ). xs ++ own) rest.1 ∙ append_assoc (lines_of_events plan calls) rest.0 own)
+    let own : List ℕ = image_event_lines plan.size_in (more ++ calls) e plan.places in
+    (rest.0 ++ own, ap (λ (xs : List ℕ). xs ++ own) rest.1 ∙ append_assoc (image_lines plan calls) rest.0 own)
 
 pub so_far : (v : ImagesView) (h : ImageHeading) (log : List ImageEvent) (text : List ℕ) → RunStands v h log text → ReportsSoFar image_reporting h log text
 so_far v h log text r = record {
   begins = λ lines more stop.
       let all : List ImageEvent = log ++ more in
       let plan : Plan = r.plan in
-      let more' : lines_of_events plan (reverse all) ≡ lines_of_events plan (reverse more ++ reverse log) = ap (lines_of_events plan) (reverse-append log more) in
+      let more' : image_lines plan (reverse all) ≡ image_lines plan (reverse more ++ reverse log) = ap (image_lines plan) (reverse-append log more) in
       let part = lines-begin plan (reverse more) (reverse log) in (
-        report_of plan (reverse all) stop,
+        image_report plan (reverse all) stop,
         ended_at stop,
         ((plan, r.made, refl), refl),
         (
-          part.0 ++ last_lines plan (reverse all) stop,
-          ap (λ (xs : List ℕ). xs ++ last_lines plan (reverse all) stop) (more' ∙ part.1 ∙ ap (λ (xs : List ℕ). xs ++ part.0) (sym r.lines)) ∙ append_assoc text part.0 (last_lines plan (reverse all) stop),
+          part.0 ++ image_last_lines plan (reverse all) stop,
+          ap (λ (xs : List ℕ). xs ++ image_last_lines plan (reverse all) stop) (more' ∙ part.1 ∙ ap (λ (xs : List ℕ). xs ++ part.0) (sym r.lines)) ∙ append_assoc text part.0 (image_last_lines plan (reverse all) stop),
         ),
       );
   refused = λ lines number why.
-      ((r.plan, r.made, ap (λ (xs : List ℕ). xs ++ last_lines r.plan (reverse log) (Refused number why)) r.lines), refl);
+      ((r.plan, r.made, ap (λ (xs : List ℕ). xs ++ image_last_lines r.plan (reverse log) (Refused number why)) r.lines), refl);
 }
 
 -- one event more
@@ -50,7 +50,7 @@ takes_more v w h log text piece e n k l m = grind (arith, common_steps)
 -- an event of a line fits images whose slots have these ends
 pub record HaveEnds (size : ℕ) (ends : List SlotEnd) (v : ImagesView) : Type 0 where
   pub size_is : length v.input ≡ size
-  pub ends_are : (slot : ℕ) (end : SlotEnd) → numbered slot ends ≡ Some end → HasSlot v slot × IfSome (numbered slot (setups_of v)) (λ s. (sends s ≡ end.sends) × (profile_of s ≡ end.profile))
+  pub ends_are : (slot : ℕ) (end : SlotEnd) → slot_numbered slot ends ≡ Some end → HasSlot v slot × IfSome (slot_numbered slot (setups_of v)) (λ s. (sends s ≡ end.sends) × (profile_of s ≡ end.profile))
 
 abbrev OnStep : (ImageEvent → Type 0) → ImageLine → Type 0
 OnStep P (line.Step e) = P e
@@ -75,10 +75,10 @@ refused-id : (b : Bool) (P : ImageLine → Type 0) → IfOk (if b then Err cause
 refused-id true P = tt
 refused-id false P = tt
 
-id-fits : (size : ℕ) (ends : List SlotEnd) (v : ImagesView) (slot id : ℕ) (o : Option SlotEnd) → HaveEnds size ends v → numbered slot ends ≡ o → IfOk (id_at o slot id) (OnStep (FitsImages v))
+id-fits : (size : ℕ) (ends : List SlotEnd) (v : ImagesView) (slot id : ℕ) (o : Option SlotEnd) → HaveEnds size ends v → slot_numbered slot ends ≡ o → IfOk (id_at o slot id) (OnStep (FitsImages v))
 id-fits size ends v slot id None h e = refused-id (nat_le id 65535) (OnStep (FitsImages v))
 id-fits size ends v slot id (Some end) h e =
-    ok_if (allows_id end.profile id) (line.Step (event.Nonce slot id)) cause.Number (OnStep (FitsImages v)) (λ t. let a = h.ends_are slot end e in (a.0, id-allowed (numbered slot (setups_of v)) id end t a.1))
+    ok_if (allows_id end.profile id) (line.Step (event.Nonce slot id)) cause.Number (OnStep (FitsImages v)) (λ t. let a = h.ends_are slot end e in (a.0, id-allowed (slot_numbered slot (setups_of v)) id end t a.1))
 
 said-fits : (size : ℕ) (ends : List SlotEnd) (v : ImagesView) (w : Option Word) (fields : List (List ℕ)) → HaveEnds size ends v → IfOk (image_said size ends w fields) (OnStep (FitsImages v))
 said-fits size ends v None fields h = tt
@@ -88,16 +88,16 @@ said-fits size ends v (Some word.Write) fields h =
 said-fits size ends v (Some word.Sample) fields h = bare (line.Step event.Sample) (no_field fields) (OnStep (FitsImages v)) tt
 said-fits size ends v (Some word.Tick) fields h = bare (line.Step event.Tick) (no_field fields) (OnStep (FitsImages v)) tt
 said-fits size ends v (Some word.Put) fields h =
-    each (slot_and_field fields) _ _ (λ first. known (end_at first.0 ends) _ (λ end. numbered first.0 ends ≡ Some end) _ (found (numbered first.0 ends))
+    each (slot_and_field fields) _ _ (λ first. known (end_at first.0 ends) _ (λ end. slot_numbered first.0 ends ≡ Some end) _ (found (slot_numbered first.0 ends))
     (λ end e. each (value_or cause.Hex (bytes_said 126 first.1)) _ _ (λ bytes. ok_if (length bytes == end.sends) (line.Step (event.Put first.0 bytes)) cause.Length (OnStep (FitsImages v))
-    (λ t. let a = h.ends_are first.0 end e in (a.0, put-len (numbered first.0 (setups_of v)) (length bytes) end (eqb-true (length bytes) end.sends t) a.1)))))
+    (λ t. let a = h.ends_are first.0 end e in (a.0, put-len (slot_numbered first.0 (setups_of v)) (length bytes) end (eqb-true (length bytes) end.sends t) a.1)))))
 said-fits size ends v (Some word.Hold) fields h =
     each (slot_and_field fields) _ _ (λ first. each (value_or cause.Number (switch_of first.1)) _ _
-    (λ failsafe. known (end_at first.0 ends) _ (λ end. numbered first.0 ends ≡ Some end) _ (found (numbered first.0 ends)) (λ end e. (h.ends_are first.0 end e).0)))
+    (λ failsafe. known (end_at first.0 ends) _ (λ end. slot_numbered first.0 ends ≡ Some end) _ (found (slot_numbered first.0 ends)) (λ end e. (h.ends_are first.0 end e).0)))
 said-fits size ends v (Some word.Nonce) fields h =
-    each (slot_and_field fields) _ _ (λ first. each (number_32 first.1) _ _ (λ id. id-fits size ends v first.0 id (numbered first.0 ends) h refl))
+    each (slot_and_field fields) _ _ (λ first. each (number_32 first.1) _ _ (λ id. id-fits size ends v first.0 id (slot_numbered first.0 ends) h refl))
 said-fits size ends v (Some word.Reset) fields h =
-    each (one_field fields) _ _ (λ field. each (number_16 field) _ _ (λ slot. known (end_at slot ends) _ (λ end. numbered slot ends ≡ Some end) _ (found (numbered slot ends)) (λ end e. (h.ends_are slot end e).0)))
+    each (one_field fields) _ _ (λ field. each (number_16 field) _ _ (λ slot. known (end_at slot ends) _ (λ end. slot_numbered slot ends ≡ Some end) _ (found (slot_numbered slot ends)) (λ end e. (h.ends_are slot end e).0)))
 said-fits size ends v (Some word.End) fields h = bare line.End (no_field fields) (OnStep (FitsImages v)) tt
 
 step-fits : (P : ImageEvent → Type 0) (l : ImageLine) (e : ImageEvent) → event_in l ≡ Some e → OnStep P l → P e
@@ -114,15 +114,15 @@ ends-at size calls (s ∷ ss) [] seats k end a z at = absurd a
 ends-at size calls (s ∷ ss) (p ∷ places) [] k end a z at = absurd z
 ends-at size calls (s ∷ ss) (p ∷ places) (seat ∷ seats) zero end a z at =
     let i : end_terms s ≡ end = cc in
-    let e : setup_of seat.core ≡ p.setup = setup_is p.setup seat.core (deeds size p calls) z.0.end_is in
+    let e : setup_of seat.core ≡ p.setup = setup_is p.setup seat.core (slot_deeds size p calls) z.0.end_is in
     let t = terms-are s p.setup a.0.end_is in
     (omega arith, (ap sends e ∙ t.0 ∙ ap (λ (x : SlotEnd). x.sends) i, ap profile_of e ∙ t.1 ∙ ap (λ (x : SlotEnd). x.profile) i))
 ends-at size calls (s ∷ ss) (p ∷ places) (seat ∷ seats) (suc k) end a z at =
     let rest = ends-at size calls ss places seats k end a.1 z.1 at in
     (omega (arith, rest.0), rest.1)
 
-ends-numbered : (v : ImagesView) (h : ImageHeading) (plan : Plan) (calls : List ImageEvent) (slot : ℕ) (end : SlotEnd) → IsPlanOf h plan → StandsFor plan v calls → numbered slot (map end_terms (slots_of h)) ≡ Some end
-    → HasSlot v slot × IfSome (numbered slot (setups_of v)) (λ s. (sends s ≡ end.sends) × (profile_of s ≡ end.profile))
+ends-numbered : (v : ImagesView) (h : ImageHeading) (plan : Plan) (calls : List ImageEvent) (slot : ℕ) (end : SlotEnd) → IsPlanOf h plan → StandsFor plan v calls → slot_numbered slot (map end_terms (slots_of h)) ≡ Some end
+    → HasSlot v slot × IfSome (slot_numbered slot (setups_of v)) (λ s. (sends s ≡ end.sends) × (profile_of s ≡ end.profile))
 ends-numbered v h plan calls zero end made stands at = absurd (cc at)
 ends-numbered v h plan calls (suc k) end made stands at =
     let rest = ends-at plan.size_in calls (slots_of h) plan.places v.seats k end made.slots stands.slots at in

@@ -1,5 +1,5 @@
 -- One slot at a sample and at a move.
-use Rattle.process_image.proofs.Common.{Answers, Core, Did, Does, IsAtRest, IsSampleStep, IsSeatStep, IsSoundSeat, IsStepOf, Move, Seat, SeatStep, bytes_at, common_steps, delivery, did_in, frame_len, nothing, pointwise, same_text, seat_contents, sends, setup_of, told_by, with_bytes, with_sent}
+use Rattle.process_image.proofs.Common.{Answers, Core, Did, Does, IsAtRest, IsSampleStep, IsSeatStep, IsSoundSeat, IsStepOf, Move, Seat, SeatStep, bytes_at, common_steps, slot_delivery, did_in, frame_len, nothing, pointwise, same_text, seat_contents, sends, setup_of, told_by, with_bytes, with_sent}
 use Rattle.end_core.specs.Standing.{Follows}
 use Rattle.std.proofs.Common.{◌≡◌, ℕ, ◌+◌, ◌==◌, ◌≤◌, List, [], length, Some, None, true, false, if◌then◌else◌, nat_eq, refl, sym, ap, ◌∙◌, arith, rules}
 use Rattle.param_load.specs.declared.entry.Move.TheVariants as move
@@ -24,7 +24,7 @@ samples_none size_in size_out input seat now image s e h = record {
   step = still seat;
   is = record {
     is = still_step size_in size_out seat s;
-    what_is = sym (ap (delivery seat.seen) (sym e) ∙ ap (λ b. if b then None else Some (move.Deliver now)) h);
+    what_is = sym (ap (slot_delivery seat.seen) (sym e) ∙ ap (λ b. if b then None else Some (move.Deliver now)) h);
     seen_is = same_text seat.seen now (sym h) ∙ e;
   };
   old_is = refl;
@@ -62,7 +62,7 @@ delivers size_out input old before after end did sent seen now s e h same m out 
   step = step_to (move.Deliver now) old end seen did sent;
   is = record {
     is = moved (move.Deliver now) old end seen did sent m (ap length (same ∙ e) ∙ contents-long old.at_in (length old.seen) input s.inside_in);
-    what_is = sym (ap (delivery old.seen) (sym e) ∙ ap (λ b. if b then None else Some (move.Deliver now)) h);
+    what_is = sym (ap (slot_delivery old.seen) (sym e) ∙ ap (λ b. if b then None else Some (move.Deliver now)) h);
     seen_is = same ∙ e;
   };
   old_is = refl;

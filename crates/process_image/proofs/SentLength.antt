@@ -1,5 +1,5 @@
 -- A frame that an end sends has as many bytes as its frames have.
-use Rattle.process_image.proofs.Common.{Deed, Did, IsProper, IsRun, MasterSettings, Move, OfMaster, OfSlave, Setup, SlaveSettings, after_phase, common_steps, download_frame, frame_len, goes_on, held, is_empty, is_length, length-append, length-replicate, length-take, master_answer, nat_tests, offer, piece_len, sealed, sends, sent_on, slave_answer, step, with_data, with_piece}
+use Rattle.process_image.proofs.Common.{Deed, Did, IsProper, IsRun, MasterSettings, Move, OfMaster, OfSlave, Setup, SlaveSettings, after_phase, common_steps, download_frame, frame_len, goes_on, held, is_empty, is_length, length-append, length-replicate, length-take, master_answer, nat_tests, offer, piece_len, sealed_next, sends, sent_on, slave_answer, step, with_data, with_piece}
 use Rattle.end_model.proofs.ReadBack.{count_crcs, count_groups, valid_length}
 use Rattle.std.proofs.Common.{◌≡◌, ℕ, suc, ◌+◌, ◌-◌, ◌*◌, ◌≤◌, List, [], ◌∷◌, ◌++◌, length, take, replicate, Bool, true, false, Option, IsTrue, if◌then◌else◌, refl, arith, rules}
 use Rattle.fsoe_base.specs.declared.command.Command.{Command}
@@ -10,7 +10,7 @@ use Rattle.fsoe_base.specs.Bytes.{low_high}
 use Rattle.fsoe_frame.specs.Layout.{groups, with_crcs}
 use Rattle.seq_chain.specs.Reset.{reset_load, reset_frame}
 use Rattle.param_load.specs.Payload.{padded}
-use Rattle.end_model.specs.Phases.{is_guarded}
+use Rattle.end_model.specs.Phases.{is_guarded_command}
 use Rattle.end_model.specs.Chain.{since, seal}
 use Rattle.end_model.specs.Payloads.{conn_id}
 
@@ -44,7 +44,7 @@ taken-short : (s : Setup) (bytes : List ℕ) → length (take (piece_len s) byte
 taken-short s bytes = let e = length-take (piece_len s) bytes in let h = piece-short s in grind (arith, nat_tests)
 
 piece-long : (s : Setup) (e : List Deed) (c : Command) (bytes : List ℕ) → length (with_piece s e c (take (piece_len s) bytes)) ≡ frame_len (sends s)
-piece-long s e c bytes = seal-long s (since e) (if is_guarded c then conn_id s e else 0) c (padded (take (piece_len s) bytes) (sends s)) (padded-long (take (piece_len s) bytes) (sends s) (taken-short s bytes))
+piece-long s e c bytes = seal-long s (since e) (if is_guarded_command c then conn_id s e else 0) c (padded (take (piece_len s) bytes) (sends s)) (padded-long (take (piece_len s) bytes) (sends s) (taken-short s bytes))
 
 -- data
 -- each put has the end's own length
@@ -64,9 +64,9 @@ offer-long s [] p = length-replicate (sends s) 0
 offer-long s (x ∷ e) p = offer-more s x.what x.did x.sent e p.0 (offer-long s e p.1)
 
 data-by : (s : Setup) (e : List Deed) (b : Bool) → length (offer s e) ≡ sends s
-    → length (if b then sealed s e command.FailSafeData (replicate (sends s) 0) else sealed s e command.ProcessData (offer s e)) ≡ frame_len (sends s)
-data-by s e true h = seal-long s (since e) (if is_guarded command.FailSafeData then conn_id s e else 0) command.FailSafeData (replicate (sends s) 0) (length-replicate (sends s) 0)
-data-by s e false h = seal-long s (since e) (if is_guarded command.ProcessData then conn_id s e else 0) command.ProcessData (offer s e) h
+    → length (if b then sealed_next s e command.FailSafeData (replicate (sends s) 0) else sealed_next s e command.ProcessData (offer s e)) ≡ frame_len (sends s)
+data-by s e true h = seal-long s (since e) (if is_guarded_command command.FailSafeData then conn_id s e else 0) command.FailSafeData (replicate (sends s) 0) (length-replicate (sends s) 0)
+data-by s e false h = seal-long s (since e) (if is_guarded_command command.ProcessData then conn_id s e else 0) command.ProcessData (offer s e) h
 
 data-long : (s : Setup) (e : List Deed) → AreProper s e → length (with_data s e) ≡ frame_len (sends s)
 data-long s e p = data-by s e (held e) (offer-long s e p)

@@ -1,5 +1,5 @@
 -- Images at which the end of one slot was called.
-use Rattle.process_image.proofs.Common.{Core, Follows, HasSlot, ImageEvent, ImagesView, IsAtRest, IsSetting, IsSound, IsSoundSeat, Move, Seat, Setup, input, length-set, nothing, numbered, set_answers, setup_of, setups_of}
+use Rattle.process_image.proofs.Common.{Core, Follows, HasSlot, ImageEvent, ImagesView, IsAtRest, IsSetting, IsSound, IsSoundSeat, Move, Seat, Setup, input, length-set, nothing, slot_numbered, set_answers, setup_of, setups_of}
 use Rattle.std.proofs.Common.{◌≡◌, ◌≤◌, ◌-◌, ℕ, suc, List, [], ◌∷◌, map, length, get_or, slice_get, slice_set, Some, IfSome, refl, sym, subst, ◌∙◌, arith, rules}
 use Rattle.end_core.specs.Standing as end_core
 use Rattle.process_image.proofs.Counts.{at_setup, seat_there}
@@ -13,12 +13,12 @@ abbrev pub with_end : Core → Seat → Seat
 with_end end seat = record seat { core = end }
 
 -- what is known of what a slot's end is set to, where the slot is named
-named-setup : (v : ImagesView) (slot k : ℕ) (seat : Seat) (P : Setup → Type 0) → slot ≡ suc k → slice_get v.seats k ≡ Some seat → IfSome (numbered slot (setups_of v)) P → P (setup_of seat.core)
+named-setup : (v : ImagesView) (slot k : ℕ) (seat : Seat) (P : Setup → Type 0) → slot ≡ suc k → slice_get v.seats k ≡ Some seat → IfSome (slot_numbered slot (setups_of v)) P → P (setup_of seat.core)
 named-setup v slot k seat P h l m = search (rules, at_setup)
 
-pub own_setup : (v w : ImagesView) (slot place : ℕ) (seat : Seat) (P : Setup → Type 0) → v ≡ w → place ≡ slot - 1 → HasSlot w slot → seat ≡ get_or v.seats place seat → IfSome (numbered slot (setups_of w)) P → P (setup_of seat.core)
+pub own_setup : (v w : ImagesView) (slot place : ℕ) (seat : Seat) (P : Setup → Type 0) → v ≡ w → place ≡ slot - 1 → HasSlot w slot → seat ≡ get_or v.seats place seat → IfSome (slot_numbered slot (setups_of w)) P → P (setup_of seat.core)
 own_setup v w slot place seat P same at has is holds =
-    named-setup v slot place seat P (omega arith) (seat_there v w slot place seat same at has is) (subst (λ (v : ImagesView). IfSome (numbered slot (setups_of v)) P) (sym same) holds)
+    named-setup v slot place seat P (omega arith) (seat_there v w slot place seat same at has is) (subst (λ (v : ImagesView). IfSome (slot_numbered slot (setups_of v)) P) (sym same) holds)
 
 -- images stay sound, also where their output image changed, with as many bytes
 pub set_sound : (v : ImagesView) (k : ℕ) (seat : Seat) (end : Core) (after : List ℕ) → IsSound v → slice_get v.seats k ≡ Some seat → setup_of end ≡ setup_of seat.core → IsAtRest end → length after ≡ length v.output

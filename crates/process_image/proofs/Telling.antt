@@ -1,5 +1,5 @@
 -- A sample and a tick of all slots, and what they tell.
-use Rattle.process_image.proofs.Common.{All-head, All-tail, AllZip, DoesEach, Follows, ImageEvent, ImagesView, IsSampleStep, IsSeatOf, IsSeatStep, IsSound, IsSoundSeat, IsStepOf, Keeps, Makes, Move, Place, Plan, Seat, SeatStep, StandsFor, TellsEach, deeds, did_in, input, next_deed, setups_of, told, told_by}
+use Rattle.process_image.proofs.Common.{All-head, All-tail, AllZip, DoesEach, Follows, ImageEvent, ImagesView, IsSampleStep, IsSeatOf, IsSeatStep, IsSound, IsSoundSeat, IsStepOf, Keeps, Makes, Move, Place, Plan, Seat, SeatStep, StandsFor, TellsEach, slot_deeds, did_in, input, slot_next_deed, setups_of, told, told_by}
 use Rattle.std.proofs.Common.{◌≡◌, ℕ, List, [], ◌∷◌, ◌++◌, map, length, take, drop, All, Option, refl, sym, ap, subst, ◌∙◌, arith}
 use Rattle.std.proofs.lemmas.List.{length-map}
 use Rattle.param_load.specs.declared.entry.Move.TheVariants as move
@@ -31,10 +31,10 @@ sample_parts old = record {
   unwritten = λ size calls. refl;
 }
 
-tick-told : (size : ℕ) (calls : List ImageEvent) (p : Place) (x : SeatStep) → IsPart size calls event.Tick p x → x.did ≡ (next_deed size p calls move.Tick).did
-tick-told size calls p x h = (subst (λ (o : Option Move). Makes o x) h.what_is h.is.makes).1.did p.setup (deeds size p calls) h.before.end_is
+tick-told : (size : ℕ) (calls : List ImageEvent) (p : Place) (x : SeatStep) → IsPart size calls event.Tick p x → x.did ≡ (slot_next_deed size p calls move.Tick).did
+tick-told size calls p x h = (subst (λ (o : Option Move). Makes o x) h.what_is h.is.makes).1.did p.setup (slot_deeds size p calls) h.before.end_is
 
-pub tick_parts : (old : ImagesView) → AreParts (IsStepOf move.Tick) did_in event.Tick (λ size calls p. (next_deed size p calls move.Tick).did) old
+pub tick_parts : (old : ImagesView) → AreParts (IsStepOf move.Tick) did_in event.Tick (λ size calls p. (slot_next_deed size p calls move.Tick).did) old
 tick_parts old = record {
   is = λ x q. q.is;
   part = λ plan calls h p x k s q. record { before = k; is = q.is; what_is = q.what_is; seen_is = q.seen_is ∙ k.seen_is; len_is = s.len_out_is };

@@ -1,5 +1,5 @@
 -- Two lists side by side, at a place.
-use Rattle.process_image.proofs.Common.{All-get_or, AllZip, AllZip-right, IsSomeAnd, all_zipped_more, get_or_from_slice_get, map-set_same, numbered, slice_get_within, take_all, take_more}
+use Rattle.process_image.proofs.Common.{All-get_or, AllZip, AllZip-right, IsSomeAnd, all_zipped_more, get_or_from_slice_get, map-set_same, slot_numbered, slice_get_within, take_all, take_more}
 use Rattle.std.proofs.Common.{◌≡◌, ◌≤◌, ◌<◌, ◌+◌, ℕ, zero, suc, List, [], ◌∷◌, ◌++◌, length, take, get_or, map, slice_get, slice_set, All, Option, None, Some, refl, sym, ap, ap₂, subst, ◌∙◌, rules}
 
 -- there is something that has this property
@@ -13,7 +13,7 @@ is_there None P h = absurd h
 is_there (Some x) P h = record { there = x; is = refl; holds = h }
 
 -- what is of a number of the first list, from 1, goes with what is of that number of the second
-pub at_number : {A B : Type 0} (R : A → B → Type 0) (xs : List A) (ys : List B) (slot : ℕ) (y : B) → AllZip R xs ys → numbered slot ys ≡ Some y → There (numbered slot xs) (λ x. R x y)
+pub at_number : {A B : Type 0} (R : A → B → Type 0) (xs : List A) (ys : List B) (slot : ℕ) (y : B) → AllZip R xs ys → slot_numbered slot ys ≡ Some y → There (slot_numbered slot xs) (λ x. R x y)
 at_number R xs ys zero y h e = absurd (cc e)
 at_number R xs ys (suc k) y h e = is_there (slice_get xs k) (λ x. R x y) (rw e at (AllZip-right R xs ys h k))
 

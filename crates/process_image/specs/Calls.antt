@@ -11,15 +11,15 @@ use Rattle.end_model.specs.Step.{step, run}
 use Rattle.process_image.specs.Image.{bytes_at, with_bytes, input, sampled}
 use Rattle.process_image.specs.Places.{Place, Plan, spans_of}
 use Rattle.process_image.specs.declared.event.ImageEvent.{ImageEvent}
-use Rattle.process_image.specs.declared.event.ImageEvent.TheVariants as event
+use Rattle.process_image.specs.declared.event.ImageEvent.TheVariants as image_event
 
 -- the contents of a slot: the bytes of this input image where its frame lies
-abbrev pub contents : Place → List ℕ → List ℕ
-contents p image = bytes_at p.at_in (spans_of p).len_in image
+abbrev pub slot_contents : Place → List ℕ → List ℕ
+slot_contents p image = bytes_at p.at_in (spans_of p).len_in image
 
 -- contents are delivered where they aren't those of the sample before
-abbrev pub delivery : List ℕ → List ℕ → Option Move
-delivery before now = if pointwise nat_eq before now then None else Some (move.Deliver now)
+abbrev pub slot_delivery : List ℕ → List ℕ → Option Move
+slot_delivery before now = if pointwise nat_eq before now then None else Some (move.Deliver now)
 
 -- a call that names a slot is a move of that slot alone
 abbrev pub if_named : ℕ → Place → Move → Option Move
@@ -27,13 +27,13 @@ if_named slot p what = if slot == p.number then Some what else None
 
 -- the move of a slot that a call is, after these calls, if it is one; the input image has this size
 abbrev pub move_in : ℕ → Place → List ImageEvent → ImageEvent → Option Move
-move_in size p calls (event.Write at bytes) = None
-move_in size p calls event.Sample = delivery (contents p (sampled size calls)) (contents p (input size calls))
-move_in size p calls event.Tick = Some move.Tick
-move_in size p calls (event.Put slot load) = if_named slot p (move.Put load)
-move_in size p calls (event.Hold slot failsafe) = if_named slot p (move.Hold failsafe)
-move_in size p calls (event.Nonce slot id) = if_named slot p (move.Nonce id)
-move_in size p calls (event.Reset slot) = if_named slot p move.Local
+move_in size p calls (image_event.Write at bytes) = None
+move_in size p calls image_event.Sample = slot_delivery (slot_contents p (sampled size calls)) (slot_contents p (input size calls))
+move_in size p calls image_event.Tick = Some move.Tick
+move_in size p calls (image_event.Put slot load) = if_named slot p (move.Put load)
+move_in size p calls (image_event.Hold slot failsafe) = if_named slot p (move.Hold failsafe)
+move_in size p calls (image_event.Nonce slot id) = if_named slot p (move.Nonce id)
+move_in size p calls (image_event.Reset slot) = if_named slot p move.Local
 
 -- moves with one more, if there is one
 abbrev pub and_move : Option Move → List Move → List Move
@@ -46,12 +46,12 @@ moves size p [] = []
 moves size p (call ∷ calls) = and_move (move_in size p calls call) (moves size p calls)
 
 -- what its end did: the run of its moves
-abbrev pub deeds : ℕ → Place → List ImageEvent → List Deed
-deeds size p calls = run p.setup (moves size p calls)
+abbrev pub slot_deeds : ℕ → Place → List ImageEvent → List Deed
+slot_deeds size p calls = run p.setup (moves size p calls)
 
 -- what its end does at its next move
-abbrev pub next_deed : ℕ → Place → List ImageEvent → Move → Deed
-next_deed size p calls what = step p.setup (deeds size p calls) what
+abbrev pub slot_next_deed : ℕ → Place → List ImageEvent → Move → Deed
+slot_next_deed size p calls what = step p.setup (slot_deeds size p calls) what
 
 -- the last frame that an end sent, zeros where it sent none
 abbrev pub last_frame : Setup → List Deed → List ℕ
@@ -59,8 +59,8 @@ last_frame s [] = replicate (frame_len (sends s)) 0
 last_frame s (x ∷ e) = if is_empty x.sent then last_frame s e else x.sent
 
 -- the last frame of a slot
-abbrev pub frame_of : ℕ → List ImageEvent → Place → List ℕ
-frame_of size calls p = last_frame p.setup (deeds size p calls)
+abbrev pub slot_frame : ℕ → List ImageEvent → Place → List ℕ
+slot_frame size calls p = last_frame p.setup (slot_deeds size p calls)
 
 -- an image with the frame of each of these slots in its place
 abbrev pub with_frames : (Place → List ℕ) → List Place → List ℕ → List ℕ
@@ -69,4 +69,4 @@ with_frames frame (p ∷ places) image = with_bytes p.at_out (frame p) (with_fra
 
 -- the output image: at each slot the last frame that its end sent, and zeros elsewhere
 abbrev pub output : Plan → List ImageEvent → List ℕ
-output plan calls = with_frames (frame_of plan.size_in calls) plan.places (replicate plan.size_out 0)
+output plan calls = with_frames (slot_frame plan.size_in calls) plan.places (replicate plan.size_out 0)

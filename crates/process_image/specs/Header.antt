@@ -14,13 +14,13 @@ use Rattle.schedule_file.specs.Header.{heading_is_whole, wants_profile}
 use Rattle.schedule_file.specs.Input.{own_length}
 use Rattle.schedule_file.specs.NodeHeader.{heading_begun, node_heading_after, is_end_line, may_end}
 use Rattle.schedule_file.specs.declared.header_kind.HeaderKind.{HeaderKind}
-use Rattle.schedule_file.specs.declared.header_kind.HeaderKind.TheVariants as kind
+use Rattle.schedule_file.specs.declared.header_kind.HeaderKind.TheVariants as header_kind
 use Rattle.schedule_file.specs.declared.line_cause.LineCause.{LineCause}
 use Rattle.schedule_file.specs.declared.line_cause.LineCause.TheVariants as cause
 use Rattle.process_image.specs.Places.{lie_inside, most_slots, overlap}
 use Rattle.process_image.specs.declared.header.SlotHeader.{SlotHeader}
 use Rattle.process_image.specs.declared.header.Stage.{Stage}
-use Rattle.process_image.specs.declared.header.Stage.TheVariants as stage
+use Rattle.process_image.specs.declared.header.Stage.TheVariants as image_stage
 use Rattle.process_image.specs.declared.spans.Spans.{Spans}
 
 -- a header after the lines that were read: the sizes of the images, the slots before the last one, and the last one;
@@ -38,21 +38,21 @@ slot_begun at_in at_out = record { at_in = at_in; at_out = at_out; own = heading
 
 -- a header of which no line is read
 abbrev pub image_heading_new : ImageHeading
-image_heading_new = record { stage = stage.Start; size_in = 1; size_out = 1; before = []; last = slot_begun 0 0 }
+image_heading_new = record { stage = image_stage.Start; size_in = 1; size_out = 1; before = []; last = slot_begun 0 0 }
 
 -- after `go`
-abbrev pub is_done : Stage → Bool
-is_done stage.Done = true
-is_done other = false
+abbrev pub image_is_done : Stage → Bool
+image_is_done image_stage.Done = true
+image_is_done other = false
 
 -- a header is done once its line `go` is read
 abbrev pub image_heading_is_whole : ImageHeading → Bool
-image_heading_is_whole h = is_done h.stage
+image_heading_is_whole h = image_is_done h.stage
 
 -- the slots whose lines were read, those of the last one maybe not all
 abbrev pub slots_begun : Stage → List SlotHeader → SlotHeader → List SlotHeader
-slots_begun stage.Slots before last = before ++ last ∷ []
-slots_begun stage.Done before last = before ++ last ∷ []
+slots_begun image_stage.Slots before last = before ++ last ∷ []
+slots_begun image_stage.Done before last = before ++ last ∷ []
 slots_begun other before last = []
 
 abbrev pub slots_of : ImageHeading → List SlotHeader
@@ -60,16 +60,16 @@ slots_of h = slots_begun h.stage h.before h.last
 
 -- the end of a slot, once its `master` or `slave` line is read
 abbrev pub end_of_kind : HeaderKind → End
-end_of_kind (kind.Node end) = end
-end_of_kind kind.Pair = side.Slave
+end_of_kind (header_kind.Node end) = end
+end_of_kind header_kind.Pair = side.Slave
 
 -- the end of a slot
-abbrev pub end_of : SlotHeader → End
-end_of s = end_of_kind s.own.kind
+abbrev pub slot_end : SlotHeader → End
+slot_end s = end_of_kind s.own.kind
 
 -- the bytes that the frames of a slot take: the frames of its peer come in, and its own go out
 abbrev pub heading_spans : SlotHeader → Spans
-heading_spans s = record { at_in = s.at_in; len_in = delivered_len (own_length s.own) (end_of s); at_out = s.at_out; len_out = frame_len (own_length s.own (end_of s)) }
+heading_spans s = record { at_in = s.at_in; len_in = delivered_len (own_length s.own) (slot_end s); at_out = s.at_out; len_out = frame_len (own_length s.own (slot_end s)) }
 
 -- an image has from 1 to 4,096 bytes
 abbrev pub is_size : ℕ → Bool
@@ -102,7 +102,7 @@ slot_line number fields = do
 abbrev pub size_taken : ImageHeading → List (List ℕ) → Result ImageHeading LineCause
 size_taken h fields = do
   sizes ← size_line fields
-  Ok (record h { stage = stage.Size; size_in = sizes.0; size_out = sizes.1 })
+  Ok (record h { stage = image_stage.Size; size_in = sizes.0; size_out = sizes.1 })
 
 -- the end of a slot has its `profile` line still to come
 abbrev pub is_open : SlotHeader → Bool
@@ -112,7 +112,7 @@ is_open s = wants_profile s.own.place s.own.master s.own.slave
 abbrev pub slot_taken : ImageHeading → List (List ℕ) → Result ImageHeading LineCause
 slot_taken h fields = do
   places ← slot_line (length (slots_of h) + 1) fields
-  if is_open h.last then Err cause.Range else Ok (record h { stage = stage.Slots; before = slots_of h; last = slot_begun places.0 places.1 })
+  if is_open h.last then Err cause.Range else Ok (record h { stage = image_stage.Slots; before = slots_of h; last = slot_begun places.0 places.1 })
 
 -- the frames of a slot lie inside both images, and share no byte with a slot before
 abbrev pub fits_images : ImageHeading → SlotHeader → Bool
@@ -120,26 +120,26 @@ fits_images h s = lie_inside h.size_in h.size_out (heading_spans s) && not (list
 
 -- a header with these lines of its last slot: its frames are tested at the `master` or the `slave` line, which says
 -- which length stands in which image; with `go` the header is done
-abbrev pub with_last : ImageHeading → SlotHeader → Result ImageHeading LineCause
-with_last h s =
+abbrev pub with_last_slot : ImageHeading → SlotHeader → Result ImageHeading LineCause
+with_last_slot h s =
     if is_end_line s.own.place && not (fits_images h s) then Err cause.Range
-    else Ok (record h { stage = if heading_is_whole s.own then stage.Done else stage.Slots; last = s })
+    else Ok (record h { stage = if heading_is_whole s.own then image_stage.Done else image_stage.Slots; last = s })
 
 -- a header after a line of its last slot
 abbrev pub own_taken : ImageHeading → List ℕ → Result ImageHeading LineCause
 own_taken h text = do
   own ← node_heading_after h.last.own text
-  with_last h (record h.last { own = own })
+  with_last_slot h (record h.last { own = own })
 
 -- a header after a line, by its first field and those after it: after the title comes `size`, then the first `slot`,
 -- and where the lines of a slot may end the next one
-abbrev pub line_taken : Stage → ImageHeading → List ℕ → List ℕ → List (List ℕ) → Result ImageHeading LineCause
-line_taken stage.Start h text first fields = if bytes_eq text (codes "fsoe 1 image") then Ok (record h { stage = stage.Title }) else Err cause.Header
-line_taken stage.Title h text first fields = if bytes_eq first (codes "size") then size_taken h fields else Err cause.Header
-line_taken stage.Size h text first fields = if bytes_eq first (codes "slot") then slot_taken h fields else Err cause.Header
-line_taken stage.Slots h text first fields = if bytes_eq first (codes "slot") && may_end h.last.own then slot_taken h fields else own_taken h text
-line_taken other h text first fields = Err cause.Header
+abbrev pub image_line_taken : Stage → ImageHeading → List ℕ → List ℕ → List (List ℕ) → Result ImageHeading LineCause
+image_line_taken image_stage.Start h text first fields = if bytes_eq text (codes "fsoe 1 image") then Ok (record h { stage = image_stage.Title }) else Err cause.Header
+image_line_taken image_stage.Title h text first fields = if bytes_eq first (codes "size") then size_taken h fields else Err cause.Header
+image_line_taken image_stage.Size h text first fields = if bytes_eq first (codes "slot") then slot_taken h fields else Err cause.Header
+image_line_taken image_stage.Slots h text first fields = if bytes_eq first (codes "slot") && may_end h.last.own then slot_taken h fields else own_taken h text
+image_line_taken other h text first fields = Err cause.Header
 
 -- a header after its next line, or why that line is refused
 abbrev pub image_heading_after : ImageHeading → List ℕ → Result ImageHeading LineCause
-image_heading_after h text = by_word cause.Header (line_taken h.stage h text) (fields_of text)
+image_heading_after h text = by_word cause.Header (image_line_taken h.stage h text) (fields_of text)

@@ -5,16 +5,16 @@ use Rattle.process_image.specs.Header.{ImageHeading, slots_of}
 use Rattle.process_image.specs.Places.{most_slots}
 use Rattle.process_image.specs.declared.header.SlotHeader.{SlotHeader}
 use Rattle.process_image.specs.declared.header.Stage.{Stage}
-use Rattle.process_image.specs.declared.header.Stage.TheVariants as stage
+use Rattle.process_image.specs.declared.header.Stage.TheVariants as image_stage
 
 -- before the first slot, or of the last slot
 abbrev pub own_left : Stage → SlotHeader → ℕ
-own_left stage.Start last = 2
-own_left stage.Title last = 1
-own_left stage.Size last = 0
-own_left stage.Slots last = lines_left last.own
-own_left stage.Done last = lines_left last.own
-own_left stage.Refused last = 0
+own_left image_stage.Start last = 2
+own_left image_stage.Title last = 1
+own_left image_stage.Size last = 0
+own_left image_stage.Slots last = lines_left last.own
+own_left image_stage.Done last = lines_left last.own
+own_left image_stage.Refused last = 0
 
 -- at most 1,032 lines are those of each slot that is still to come
 abbrev pub image_lines_left : ImageHeading → ℕ

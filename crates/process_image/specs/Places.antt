@@ -38,9 +38,9 @@ pub record Plan : Type 0 where
   pub places : List Place
 
 -- the slot of this number, from 1
-abbrev pub numbered : {X : Type 0} → ℕ → List X → Option X
-numbered zero xs = None
-numbered (suc before) xs = slice_get xs before
+abbrev pub slot_numbered : {X : Type 0} → ℕ → List X → Option X
+slot_numbered zero xs = None
+slot_numbered (suc before) xs = slice_get xs before
 
 -- slots are numbered in their order, from n on
 abbrev pub AreNumbered : ℕ → List Place → Type 0

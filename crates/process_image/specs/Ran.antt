@@ -6,7 +6,7 @@ use Rattle.file_run.specs.Outside.{Outside}
 use Rattle.file_run.specs.Ran.{RanOver}
 use Rattle.file_run.specs.Reporting.{Reporting, BeforeEvents, ended_at}
 use Rattle.process_image.specs.Header.{ImageHeading, image_heading_new, image_heading_after, image_heading_is_whole}
-use Rattle.process_image.specs.Report.{IsImageReport, event_in, is_full, said_after}
+use Rattle.process_image.specs.Report.{IsImageReport, event_in, image_is_full, image_said_after}
 use Rattle.process_image.specs.declared.event.ImageEvent.{ImageEvent}
 use Rattle.process_image.specs.declared.event.ImageLine.{ImageLine}
 
@@ -16,9 +16,9 @@ image_format = record {
   start = image_heading_new;
   header_line = image_heading_after;
   is_whole = image_heading_is_whole;
-  line = said_after;
+  line = image_said_after;
   event = event_in;
-  is_full = is_full;
+  is_full = image_is_full;
 }
 
 -- what an input of images says

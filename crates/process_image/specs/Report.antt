@@ -13,37 +13,37 @@ use Rattle.end_model.specs.Setup.{Setup, OfMaster, OfSlave}
 use Rattle.end_model.specs.Deed.{Deed}
 use Rattle.end_model.specs.Outputs.{out}
 use Rattle.end_model.specs.Readiness.{state_of}
-use Rattle.process_image.specs.Calls.{move_in, deeds, next_deed, output}
+use Rattle.process_image.specs.Calls.{move_in, slot_deeds, slot_next_deed, output}
 use Rattle.process_image.specs.EventLine.{image_line}
-use Rattle.process_image.specs.Header.{ImageHeading, slots_of, end_of}
+use Rattle.process_image.specs.Header.{ImageHeading, slots_of, slot_end}
 use Rattle.process_image.specs.Places.{AreNumbered, Place, Plan}
 use Rattle.process_image.specs.declared.event.ImageEvent.{ImageEvent}
 use Rattle.process_image.specs.declared.event.ImageLine.{ImageLine}
-use Rattle.process_image.specs.declared.event.ImageLine.TheVariants as line
+use Rattle.process_image.specs.declared.event.ImageLine.TheVariants as image_says
 use Rattle.process_image.specs.declared.event_line.SlotEnd.{SlotEnd}
 use Rattle.process_image.specs.declared.header.SlotHeader.{SlotHeader}
 
 -- what lines of events look at of a slot
 abbrev pub end_terms : SlotHeader → SlotEnd
-end_terms s = record { sends = own_length s.own (end_of s); profile = heading_profile s.own (end_of s) }
+end_terms s = record { sends = own_length s.own (slot_end s); profile = heading_profile s.own (slot_end s) }
 
 -- the event of a line, if it is one
 abbrev pub event_in : ImageLine → Option ImageEvent
-event_in (line.Step event) = Some event
-event_in line.End = None
+event_in (image_says.Step event) = Some event
+event_in image_says.End = None
 
 -- what a line says that stands after a header
-abbrev pub said_after : ImageHeading → List ℕ → Result ImageLine LineCause
-said_after h text = image_line h.size_in (map end_terms (slots_of h)) text
+abbrev pub image_said_after : ImageHeading → List ℕ → Result ImageLine LineCause
+image_said_after h text = image_line h.size_in (map end_terms (slots_of h)) text
 
 -- no event may come after 2,000
-abbrev pub is_full : ImageHeading → List ImageEvent → Bool
-is_full h events = nat_le 2000 (length events)
+abbrev pub image_is_full : ImageHeading → List ImageEvent → Bool
+image_is_full h events = nat_le 2000 (length events)
 
 -- an end is set to what the lines of a slot say
 abbrev pub IsEndOf : SlotHeader → Setup → Type 0
-IsEndOf s (OfMaster settings) = (end_of s ≡ side.Master) × IsMasterOf s.own settings
-IsEndOf s (OfSlave settings) = (end_of s ≡ side.Slave) × IsSlaveOf s.own settings
+IsEndOf s (OfMaster settings) = (slot_end s ≡ side.Master) × IsMasterOf s.own settings
+IsEndOf s (OfSlave settings) = (slot_end s ≡ side.Slave) × IsSlaveOf s.own settings
 
 -- a slot stands where its lines say, with an end that is set as they say
 pub record IsSlotOf (s : SlotHeader) (p : Place) : Type 0 where
@@ -60,35 +60,35 @@ pub record IsPlanOf (h : ImageHeading) (plan : Plan) : Type 0 where
 
 -- the line of what the end of a slot did at the event of this number, with the state and the outputs after it, and the
 -- frame that it sent
-abbrev pub entry_line : ℕ → Place → List Deed → Deed → List ℕ
-entry_line n p e x = decimal n ++ codes " " ++ decimal p.number ++ codes " " ++ entry_text x.did (state_of p.setup (x ∷ e)) (out p.setup (x ∷ e)) x.sent ++ codes "\n"
+abbrev pub slot_entry_line : ℕ → Place → List Deed → Deed → List ℕ
+slot_entry_line n p e x = decimal n ++ codes " " ++ decimal p.number ++ codes " " ++ entry_text x.did (state_of p.setup (x ∷ e)) (out p.setup (x ∷ e)) x.sent ++ codes "\n"
 
 -- the line of a slot at an event, where that is a move of it
 abbrev pub move_line : ℕ → ℕ → Place → List ImageEvent → Option Move → List ℕ
 move_line n size p calls None = []
-move_line n size p calls (Some what) = entry_line n p (deeds size p calls) (next_deed size p calls what)
+move_line n size p calls (Some what) = slot_entry_line n p (slot_deeds size p calls) (slot_next_deed size p calls what)
 
 -- the lines of an event after these: one for each slot of which it is a move, in their order
-abbrev pub event_lines : ℕ → List ImageEvent → ImageEvent → List Place → List ℕ
-event_lines size calls event [] = []
-event_lines size calls event (p ∷ places) = move_line (length calls + 1) size p calls (move_in size p calls event) ++ event_lines size calls event places
+abbrev pub image_event_lines : ℕ → List ImageEvent → ImageEvent → List Place → List ℕ
+image_event_lines size calls event [] = []
+image_event_lines size calls event (p ∷ places) = move_line (length calls + 1) size p calls (move_in size p calls event) ++ image_event_lines size calls event places
 
 -- the lines of all events, newest first
-abbrev pub lines_of_events : Plan → List ImageEvent → List ℕ
-lines_of_events plan [] = []
-lines_of_events plan (event ∷ calls) = lines_of_events plan calls ++ event_lines plan.size_in calls event plan.places
+abbrev pub image_lines : Plan → List ImageEvent → List ℕ
+image_lines plan [] = []
+image_lines plan (event ∷ calls) = image_lines plan calls ++ image_event_lines plan.size_in calls event plan.places
 
 -- the last lines: at `end` the number of events and the output image, else the line that is refused
-abbrev pub last_lines : Plan → List ImageEvent → Stop → List ℕ
-last_lines plan calls AtEnd = events_line (length calls) ++ codes "out " ++ encode_lower (output plan calls) ++ codes "\n"
-last_lines plan calls (Refused number why) = refused_line number why
+abbrev pub image_last_lines : Plan → List ImageEvent → Stop → List ℕ
+image_last_lines plan calls AtEnd = events_line (length calls) ++ codes "out " ++ encode_lower (output plan calls) ++ codes "\n"
+image_last_lines plan calls (Refused number why) = refused_line number why
 
 -- the report of images that were made so over these events, newest first
-abbrev pub report_of : Plan → List ImageEvent → Stop → List ℕ
-report_of plan calls stop = lines_of_events plan calls ++ last_lines plan calls stop
+abbrev pub image_report : Plan → List ImageEvent → Stop → List ℕ
+image_report plan calls stop = image_lines plan calls ++ image_last_lines plan calls stop
 
 -- the report of an input with this header, these events and this stop: without a whole header there is only the line
 -- that is refused
 abbrev pub IsImageReport : Option ImageHeading → List ImageEvent → Stop → List ℕ → Type 0
 IsImageReport None events stop text = text ≡ last_line 0 stop
-IsImageReport (Some h) events stop text = (plan : Plan) × IsPlanOf h plan × (text ≡ report_of plan (reverse events) stop)
+IsImageReport (Some h) events stop text = (plan : Plan) × IsPlanOf h plan × (text ≡ image_report plan (reverse events) stop)

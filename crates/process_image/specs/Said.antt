@@ -4,21 +4,21 @@ use Rattle.schedule_file.specs.Fields.{number_16}
 use Rattle.schedule_file.specs.declared.line_cause.LineCause.{LineCause}
 use Rattle.schedule_file.specs.declared.line_cause.LineCause.TheVariants as cause
 use Rattle.process_image.specs.declared.event.ImageEvent.{ImageEvent}
-use Rattle.process_image.specs.declared.event.ImageEvent.TheVariants as event
+use Rattle.process_image.specs.declared.event.ImageEvent.TheVariants as image_event
 use Rattle.process_image.specs.declared.event.ImageLine.{ImageLine}
-use Rattle.process_image.specs.declared.event.ImageLine.TheVariants as line
+use Rattle.process_image.specs.declared.event.ImageLine.TheVariants as image_says
 use Rattle.process_image.specs.declared.said.Kind.{Kind}
 use Rattle.process_image.specs.declared.said.Kind.TheVariants as kind
 
 -- what was said last, where a write stands in a place of its own
 abbrev pub said_in : Kind → ImageEvent → ImageEvent → ImageLine
-said_in kind.Write write other = line.Step write
-said_in kind.Other write other = line.Step other
-said_in kind.End write other = line.End
+said_in kind.Write write other = image_says.Step write
+said_in kind.Other write other = image_says.Step other
+said_in kind.End write other = image_says.End
 
 -- bytes are written
 abbrev pub IsWrite : ImageEvent → Type 0
-IsWrite (event.Write at bytes) = Unit {0}
+IsWrite (image_event.Write at bytes) = Unit {0}
 IsWrite other = ⊥
 
 -- a cause, or the one for want of a value that comes before it

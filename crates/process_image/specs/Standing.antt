@@ -8,12 +8,12 @@ use Rattle.end_model.specs.Deed.{Deed}
 use Rattle.end_model.specs.Step.{step}
 use Rattle.end_core.specs.Core.{setup_of}
 use Rattle.end_core.specs.Standing.{IsAfter}
-use Rattle.process_image.specs.Calls.{contents, move_in, deeds, next_deed, frame_of, output}
+use Rattle.process_image.specs.Calls.{slot_contents, move_in, slot_deeds, slot_next_deed, slot_frame, output}
 use Rattle.process_image.specs.Fault.{IsPlan}
 use Rattle.process_image.specs.Image.{bytes_at, input, sampled}
-use Rattle.process_image.specs.Places.{Place, Plan, share, spans_of, numbered}
+use Rattle.process_image.specs.Places.{Place, Plan, share, spans_of, slot_numbered}
 use Rattle.process_image.specs.declared.event.ImageEvent.{ImageEvent}
-use Rattle.process_image.specs.declared.event.ImageEvent.TheVariants as event
+use Rattle.process_image.specs.declared.event.ImageEvent.TheVariants as image_event
 use Rattle.process_image.specs.declared.seat.Seat.{Seat}
 
 -- what contracts see: the slots with their ends, and both images
@@ -39,8 +39,8 @@ pub record HasSlot (v : ImagesView) (slot : ℕ) : Type 0 where
 pub record IsSeatOf (size : ℕ) (calls : List ImageEvent) (p : Place) (seat : Seat) : Type 0 where
   pub at_in_is : seat.at_in ≡ p.at_in
   pub at_out_is : seat.at_out ≡ p.at_out
-  pub end_is : IsAfter p.setup seat.core (deeds size p calls)
-  pub seen_is : seat.seen ≡ contents p (sampled size calls)
+  pub end_is : IsAfter p.setup seat.core (slot_deeds size p calls)
+  pub seen_is : seat.seen ≡ slot_contents p (sampled size calls)
 
 -- images were made by this plan and stand for these calls: each slot stands for them, and so do both images
 pub record StandsFor (plan : Plan) (v : ImagesView) (calls : List ImageEvent) : Type 0 where
@@ -61,7 +61,7 @@ pub record Keeps (old new : ImagesView) : Type 0 where
 
 -- what is told of a slot at a call: what its end did, where the call is a move of it
 abbrev pub told : ℕ → List ImageEvent → ImageEvent → Place → Option Did
-told size calls call p = option_map (λ what. (next_deed size p calls what).did) (move_in size p calls call)
+told size calls call p = option_map (λ what. (slot_next_deed size p calls what).did) (move_in size p calls call)
 
 -- what is told of the slots is this word of each
 pub record TellsEach {T : Type 0} (old : ImagesView) (dids : List T) (word : ℕ → List ImageEvent → Place → T) : Type 0 where
@@ -69,16 +69,16 @@ pub record TellsEach {T : Type 0} (old : ImagesView) (dids : List T) (word : ℕ
 
 -- a sample tells of each slot what is told of it
 abbrev pub AnswersSample : ImagesView → List (Option Did) → Type 0
-AnswersSample old dids = TellsEach old dids (λ size calls. told size calls event.Sample)
+AnswersSample old dids = TellsEach old dids (λ size calls. told size calls image_event.Sample)
 
 -- a tick tells of each slot what its end did
 abbrev pub AnswersTick : ImagesView → List Did → Type 0
-AnswersTick old dids = TellsEach old dids (λ size calls p. (next_deed size p calls move.Tick).did)
+AnswersTick old dids = TellsEach old dids (λ size calls p. (slot_next_deed size p calls move.Tick).did)
 
 -- what is shown of a slot is this word of what its end did
 pub record ShowsAt {X : Type 0} (v : ImagesView) (slot : ℕ) (shown : X) (word : Setup → List Deed → X) : Type 0 where
   pub shows : (plan : Plan) (calls : List ImageEvent) → StandsFor plan v calls
-      → option_map (λ p. word p.setup (deeds plan.size_in p calls)) (numbered slot plan.places) ≡ Some shown
+      → option_map (λ p. word p.setup (slot_deeds plan.size_in p calls)) (slot_numbered slot plan.places) ≡ Some shown
 
 -- a reset of a slot tells what its end did
 abbrev pub AnswersReset : ImagesView → ℕ → Did → Type 0
@@ -94,7 +94,7 @@ IsBeside at len p = share at len p.at_out (spans_of p).len_out ≡ false
 
 -- an output image has at each slot the last frame that its end sent, and zeros beside all slots
 pub record HoldsFrames (plan : Plan) (calls : List ImageEvent) (image : List ℕ) : Type 0 where
-  pub frames : All (λ p. bytes_at p.at_out (spans_of p).len_out image ≡ frame_of plan.size_in calls p) plan.places
+  pub frames : All (λ p. bytes_at p.at_out (spans_of p).len_out image ≡ slot_frame plan.size_in calls p) plan.places
   pub beside : (at len : ℕ) → at + len ≤ plan.size_out → All (IsBeside at len) plan.places → bytes_at at len image ≡ replicate len 0
 
 -- what is shown is such an image

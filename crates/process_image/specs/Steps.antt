@@ -4,7 +4,7 @@ use Rattle.fsoe_base.specs.declared.did.Did.{Did}
 use Rattle.param_load.specs.declared.entry.Move.{Move}
 use Rattle.end_core.specs.Core.{setup_of, IsAtRest}
 use Rattle.end_core.specs.Standing.{Follows, Answers}
-use Rattle.process_image.specs.Calls.{delivery}
+use Rattle.process_image.specs.Calls.{slot_delivery}
 use Rattle.process_image.specs.Image.{bytes_at, with_bytes}
 use Rattle.process_image.specs.declared.seat.Seat.{Seat}
 
@@ -53,7 +53,7 @@ seat_contents seat input = bytes_at seat.at_in (length seat.seen) input
 -- a sample of this input image at a slot: its contents are delivered where it didn't see them, and it saw them then
 pub record IsSampleStep (input : List ℕ) (x : SeatStep) : Type 0 where
   pub is : IsSeatStep x
-  pub what_is : x.what ≡ delivery x.old.seen (seat_contents x.old input)
+  pub what_is : x.what ≡ slot_delivery x.old.seen (seat_contents x.old input)
   pub seen_is : x.new.seen ≡ seat_contents x.old input
 
 -- this move of a slot, at which nothing is sampled

@@ -6,7 +6,7 @@ use Rattle.process_image.specs.Header.{ImageHeading, heading_spans}
 use Rattle.process_image.specs.Places.{lie_inside, overlap}
 use Rattle.process_image.specs.declared.header.SlotHeader.{SlotHeader}
 use Rattle.process_image.specs.declared.header.Stage.{Stage}
-use Rattle.process_image.specs.declared.header.Stage.TheVariants as stage
+use Rattle.process_image.specs.declared.header.Stage.TheVariants as image_stage
 use Rattle.process_image.specs.declared.spans.Spans.{Spans}
 
 -- frames that take these bytes share none with any of the others
@@ -29,8 +29,8 @@ is_placed other = true
 
 -- the slots of a header that were tested, by how far it is: the last one once it is placed
 abbrev pub tested_by : Stage → List SlotHeader → SlotHeader → List SlotHeader
-tested_by stage.Slots before last = if is_placed last.own.place then before ++ last ∷ [] else before
-tested_by stage.Done before last = before ++ last ∷ []
+tested_by image_stage.Slots before last = if is_placed last.own.place then before ++ last ∷ [] else before
+tested_by image_stage.Done before last = before ++ last ∷ []
 tested_by other before last = []
 
 -- they fit the images of the header

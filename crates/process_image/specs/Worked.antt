@@ -10,10 +10,10 @@ use Rattle.end_model.specs.WorkedRuns.{a_slave, a_master, if_bytes}
 use Rattle.process_image.specs.EventLine.{image_line}
 use Rattle.process_image.specs.Header.{ImageHeading, image_heading_new, image_heading_after}
 use Rattle.process_image.specs.Places.{Place, Plan}
-use Rattle.process_image.specs.Report.{report_of}
+use Rattle.process_image.specs.Report.{image_report}
 use Rattle.process_image.specs.declared.event.ImageEvent.{ImageEvent}
 use Rattle.process_image.specs.declared.event.ImageLine.{ImageLine}
-use Rattle.process_image.specs.declared.event.ImageEvent.TheVariants as event
+use Rattle.process_image.specs.declared.event.ImageEvent.TheVariants as image_event
 use Rattle.process_image.specs.declared.header.Stage.{Stage}
 
 -- a header after these lines, or why one of them is refused
@@ -23,7 +23,7 @@ after_lines h (text ∷ texts) = after_lines (h >>= (λ heading. image_heading_a
 
 -- bytes are written, in hexadecimal
 abbrev pub w : ℕ → List ℕ → ImageEvent
-w at text = event.Write at (if_bytes (decode_of text))
+w at text = image_event.Write at (if_bytes (decode_of text))
 
 -- the slot of this number, whose frames begin here in both images
 abbrev pub slot_at : ℕ → ℕ → ℕ → Setup → Place
@@ -31,7 +31,7 @@ slot_at number at_in at_out setup = record { number = number; at_in = at_in; at_
 
 -- this is the report of these events, the first of which comes first
 unfoldable pub Reports : Plan → List ImageEvent → List ℕ → Type 0
-Reports plan events text = report_of plan (reverse events) AtEnd ≡ text
+Reports plan events text = image_report plan (reverse events) AtEnd ≡ text
 
 -- one slave, whose frames fill both images
 abbrev pub one_slave : Plan
@@ -39,11 +39,11 @@ one_slave = record { size_in = 7; size_out = 7; places = slot_at 1 0 0 a_slave �
 
 -- a Reset frame, which is sampled twice, and a Session frame
 abbrev pub two_frames : List ImageEvent
-two_frames = w 0 (codes "2a0000c42d0000") ∷ event.Sample ∷ event.Sample ∷ w 0 (codes "4e0100123e0000") ∷ event.Sample ∷ []
+two_frames = w 0 (codes "2a0000c42d0000") ∷ image_event.Sample ∷ image_event.Sample ∷ w 0 (codes "4e0100123e0000") ∷ image_event.Sample ∷ []
 
 -- the Session frame in two writes with a sample between them: the half of it is told as the frame that it is
 abbrev pub two_halves : List ImageEvent
-two_halves = w 0 (codes "2a0000c42d0000") ∷ event.Sample ∷ w 0 (codes "4e0100") ∷ event.Sample ∷ w 3 (codes "123e0000") ∷ event.Sample ∷ []
+two_halves = w 0 (codes "2a0000c42d0000") ∷ image_event.Sample ∷ w 0 (codes "4e0100") ∷ image_event.Sample ∷ w 3 (codes "123e0000") ∷ image_event.Sample ∷ []
 
 -- a master and a slave side by side, without a gap
 abbrev pub side_by_side : Plan
@@ -51,7 +51,7 @@ side_by_side = record { size_in = 14; size_out = 14; places = slot_at 1 0 0 a_ma
 
 -- the master's Reset frame comes to the slave, and the slave's answer to the master: each goes on by itself
 abbrev pub first_exchange : List ImageEvent
-first_exchange = event.Tick ∷ w 7 (codes "2a0000c42d0000") ∷ event.Sample ∷ w 0 (codes "2a0000c42d0000") ∷ event.Sample ∷ []
+first_exchange = image_event.Tick ∷ w 7 (codes "2a0000c42d0000") ∷ image_event.Sample ∷ w 0 (codes "2a0000c42d0000") ∷ image_event.Sample ∷ []
 
 -- two slots of seven bytes that share the last byte of the first
 abbrev pub sharing : Plan

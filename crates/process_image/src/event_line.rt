@@ -1,8 +1,8 @@
 //! Lines of events.
 ghost use Rattle.std.specs.Prelude.{◌≡◌};
 ghost use Rattle.schedule_file.specs.FieldsRead.{fields_after, Becomes};
-ghost use Rattle.process_image.specs.EventLine.{IsSlotAndField, slot_and_field, write_line, put_line, hold_line, nonce_line, reset_line, image_line};
-ghost use Rattle.process_image.specs.Places.{numbered};
+ghost use Rattle.process_image.specs.EventLine.{IsSlotAndField, slot_and_field, write_line, slot_put_line, slot_hold_line, slot_nonce_line, reset_line, image_line};
+ghost use Rattle.process_image.specs.Places.{slot_numbered};
 
 use crate::event::ImageEvent;
 use crate::said::Said;
@@ -58,7 +58,7 @@ impl Default for SlotEnd {
 
 /// The end of the slot of this number, where there is one.
 fn find_end(slot: u16, ends: &[SlotEnd]) -> Option<SlotEnd>
-    ensures { result ≡ numbered slot ends.now }
+    ensures { result ≡ slot_numbered slot ends.now }
 {
     if slot == 0 {
         return None;
@@ -89,7 +89,7 @@ fn slot_and_field(fields: Option<&[u8]>) -> Result<(u16, &[u8]), LineCause>
 
 /// `<k> <hex>`: as many safe data bytes as the end of the slot sends.
 fn read_put(ends: &[SlotEnd], fields: Option<&[u8]>, says: &mut Said) -> Result<(), LineCause>
-    ensures { Becomes result says.new (put_line ends.now (fields_after fields.entry)) }
+    ensures { Becomes result says.new (slot_put_line ends.now (fields_after fields.entry)) }
 {
     let (slot, digits) = slot_and_field(fields)?;
     let end = find_end(slot, ends).ok_or(LineCause::NoLink)?;
@@ -104,7 +104,7 @@ fn read_put(ends: &[SlotEnd], fields: Option<&[u8]>, says: &mut Said) -> Result<
 
 /// `<k> 0` or `<k> 1`: fail-safe data off or on.
 fn read_hold(ends: &[SlotEnd], fields: Option<&[u8]>, says: &mut Said) -> Result<(), LineCause>
-    ensures { Becomes result says.new (hold_line ends.now (fields_after fields.entry)) }
+    ensures { Becomes result says.new (slot_hold_line ends.now (fields_after fields.entry)) }
 {
     let (slot, field) = slot_and_field(fields)?;
     let failsafe = read_switch(field).ok_or(LineCause::Number)?;
@@ -115,7 +115,7 @@ fn read_hold(ends: &[SlotEnd], fields: Option<&[u8]>, says: &mut Said) -> Result
 
 /// `<k> <id>`: a session id that the profile of the slot's end allows.
 fn read_nonce(ends: &[SlotEnd], fields: Option<&[u8]>, says: &mut Said) -> Result<(), LineCause>
-    ensures { Becomes result says.new (nonce_line ends.now (fields_after fields.entry)) }
+    ensures { Becomes result says.new (slot_nonce_line ends.now (fields_after fields.entry)) }
 {
     let (slot, field) = slot_and_field(fields)?;
     let id = number_32(field)?;

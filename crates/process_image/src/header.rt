@@ -4,7 +4,7 @@ ghost use Rattle.std.specs.List.{AllZip, list_any};
 ghost use Rattle.schedule_file.specs.FieldsRead.{fields_after, Becomes};
 ghost use Rattle.schedule_file.specs.NodeHeader.{may_end};
 ghost use Rattle.process_image.specs.Fault.{first_fault, plan_of, IsMadeOf};
-ghost use Rattle.process_image.specs.Header.{image_heading_new, image_heading_is_whole, image_heading_after, size_line, slot_line, slot_begun, size_taken, slot_taken, two_numbers, own_taken, slots_of, fits_images, heading_spans, end_of};
+ghost use Rattle.process_image.specs.Header.{image_heading_new, image_heading_is_whole, image_heading_after, size_line, slot_line, slot_begun, size_taken, slot_taken, two_numbers, own_taken, slots_of, fits_images, heading_spans, slot_end};
 ghost use Rattle.process_image.specs.LinesLeft.{image_lines_left};
 ghost use Rattle.process_image.specs.Places.{overlap};
 ghost use Rattle.process_image.specs.Report.{end_terms};
@@ -67,7 +67,7 @@ impl SlotHeader {
 
     /// The end of the slot, once its `master` or `slave` line is read.
     pub(crate) fn end(&self) -> End
-        ensures { result ≡ end_of self.now }
+        ensures { result ≡ slot_end self.now }
     {
         match self.own.kind() {
             HeaderKind::Node(end) => end,

@@ -46,7 +46,7 @@ impl Images {
     ghost use Rattle.process_image.specs.Calls.{last_frame, output};
     ghost use Rattle.process_image.specs.Fault.{first_fault, plan_of};
     ghost use Rattle.process_image.specs.Standing.{setups_of, slots_in, StandsFor, HasSlot, Follows, Keeps, AnswersSample, AnswersTick, AnswersReset, ShowsAt, ShowsImage, ShowsFrames};
-    ghost use Rattle.process_image.specs.Places.{most_slots, numbered};
+    ghost use Rattle.process_image.specs.Places.{most_slots, slot_numbered};
     ghost use Rattle.process_image.specs.SlotLines.{told_line};
     ghost use Rattle.process_image.specs.Sound.{IsSoundSeat};
 
@@ -127,7 +127,7 @@ impl Images {
     /// Sets the safe data that this slot's end sends from now on, as many as its frames have. They outlast resets.
     pub fn put(&mut self, slot: u16, load: &[u8])
         requires slot { HasSlot self.old slot }
-        requires len { IfSome (numbered slot (setups_of self.old)) (λ s. length load.now ≡ sends s) }
+        requires len { IfSome (slot_numbered slot (setups_of self.old)) (λ s. length load.now ≡ sends s) }
         ensures follows { Follows self.old (event.Put slot load.now) self.new }
         ensures keeps { Keeps self.old self.new }
     {
@@ -147,7 +147,7 @@ impl Images {
     /// outlasts resets: give a fresh one before each session.
     pub fn nonce(&mut self, slot: u16, id: u32)
         requires slot { HasSlot self.old slot }
-        requires allowed { IfSome (numbered slot (setups_of self.old)) (λ s. IsTrue (allows_id (profile_of s) id)) }
+        requires allowed { IfSome (slot_numbered slot (setups_of self.old)) (λ s. IsTrue (allows_id (profile_of s) id)) }
         ensures follows { Follows self.old (event.Nonce slot id) self.new }
         ensures keeps { Keeps self.old self.new }
     {
@@ -178,7 +178,7 @@ impl Images {
     /// The seat of this slot.
     fn seat(&self, slot: u16) -> &Seat
         requires { HasSlot self.now slot }
-        ensures there { numbered slot self.now.seats ≡ Some result.now }
+        ensures there { slot_numbered slot self.now.seats ≡ Some result.now }
         ensures sound { IsSoundSeat (length self.now.input) (length self.now.output) result.now }
     {
         &self.seats[usize::from(slot) - 1]
@@ -198,7 +198,7 @@ impl Images {
     pub fn outputs(&self, slot: u16) -> &[u8]
         requires { HasSlot self.now slot }
         ensures shown { ShowsAt self.now slot result.now out }
-        ensures len { IfSome (numbered slot (setups_of self.now)) (λ s. length result.now ≡ receives s) }
+        ensures len { IfSome (slot_numbered slot (setups_of self.now)) (λ s. length result.now ≡ receives s) }
         ensures most { length result.now ≤ MOST_DATA }
     {
         self.seat(slot).core.outputs()

@@ -7,7 +7,7 @@ ghost use Rattle.end_model.specs.Deed.{Deed, is_empty};
 ghost use Rattle.end_model.specs.Setup.{Setup, sends};
 ghost use Rattle.end_model.specs.Step.{step};
 ghost use Rattle.end_model.specs.Runs.{IsProper, IsRun};
-ghost use Rattle.process_image.specs.Calls.{contents, moves, output};
+ghost use Rattle.process_image.specs.Calls.{slot_contents, moves, output};
 ghost use Rattle.process_image.specs.Fault.{first_fault};
 ghost use Rattle.process_image.specs.Own.{Unwritten, WritesFit, at_samples, distinct_after, frames_in};
 ghost use Rattle.process_image.specs.Image.{input};
@@ -58,7 +58,7 @@ pub fn worked_lines()
 /// sample before, and zeros at the first one.
 #[tactic(auto, using(crate::proofs::Distinct::distinct))]
 pub fn distinct()
-    ensures { (size : ℕ) (p : Place) (calls : List ImageEvent) → frames_in (moves size p calls) ≡ distinct_after (contents p (replicate size 0)) (at_samples size p calls) }
+    ensures { (size : ℕ) (p : Place) (calls : List ImageEvent) → frames_in (moves size p calls) ≡ distinct_after (slot_contents p (replicate size 0)) (at_samples size p calls) }
 {}
 
 /// A sample with no write after the last one reports nothing and changes nothing, whatever comes after it.
@@ -72,5 +72,5 @@ pub fn quiet_samples()
 /// A write beside a slot changes nothing of it.
 #[tactic(auto, using(crate::proofs::Frames::write_beside))]
 pub fn writes_beside()
-    ensures { (size at : ℕ) (bytes : List ℕ) (p : Place) (calls : List ImageEvent) → WritesFit size (event.Write at bytes ∷ calls) → share p.at_in (spans_of p).len_in at (length bytes) ≡ false → contents p (input size (event.Write at bytes ∷ calls)) ≡ contents p (input size calls) }
+    ensures { (size at : ℕ) (bytes : List ℕ) (p : Place) (calls : List ImageEvent) → WritesFit size (event.Write at bytes ∷ calls) → share p.at_in (spans_of p).len_in at (length bytes) ≡ false → slot_contents p (input size (event.Write at bytes ∷ calls)) ≡ slot_contents p (input size calls) }
 {}

@@ -1,7 +1,7 @@
 -- Worked rows of a channel of chosen rates, made in the same way as those of a channel of chance.
 use Rattle.std.specs.Prelude.{◌≡◌, ℕ, zero, suc, List, [], ◌∷◌}
 use Rattle.rand_pcg.specs.Pcg.{pcg32}
-use Rattle.black_channel.specs.Holds.{generator_of}
+use Rattle.black_channel.specs.Holds.{seed_generator}
 use Rattle.black_channel.specs.WorkedHolds.{parcel, number}
 use Rattle.rate_channel.specs.Rated.{RateView, pushed, pulled}
 use Rattle.rate_channel.specs.declared.rate_channel.Rates.{Rates}
@@ -24,7 +24,7 @@ gifts (suc n) v =
 
 -- what so many pulls of a channel with these rates give, by its seed and after pushes to so many connections
 abbrev pub given : Rates → ℕ → ℕ → ℕ → List ℕ
-given rates seed links pulls = gifts pulls (after_pushes links (record { rates = rates; ring = []; words = generator_of seed; empties = 0 }))
+given rates seed links pulls = gifts pulls (after_pushes links (record { rates = rates; ring = []; words = seed_generator seed; empties = 0 }))
 
 -- parcels that are lost, altered, repeated and late
 unfoldable pub RateRows : Type 0

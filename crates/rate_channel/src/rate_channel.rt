@@ -2,8 +2,8 @@
 ghost use Rattle.std.specs.Prelude.{◌≡◌, ◌≤◌, [], codes, length, IfOk};
 ghost use Rattle.rand_pcg.specs.Pcg.{pcg32};
 ghost use Rattle.black_channel.specs.Calls.{empties_after, parcel_of};
-ghost use Rattle.black_channel.specs.Holds.{generator_of, turned_frame};
-ghost use Rattle.black_channel.specs.Told.{Told, Begins, PushesParcel, PullsParcel};
+ghost use Rattle.black_channel.specs.Holds.{seed_generator, turned_frame};
+ghost use Rattle.black_channel.specs.Told.{ChannelTold, Begins, PushesParcel, PullsParcel};
 ghost use Rattle.rate_channel.specs.Rated.{RateView, pulled, pushed, told_of};
 
 use black_channel::{Channel, PerfectChannel, Place, altered};
@@ -62,7 +62,7 @@ fn turned_frame(word: u32, frame: &[u8]) -> FrameBuf
 impl RateChannel {
     /// Creates a channel as after a begin with seed 0, with nothing under way. `Memory` without room for 1,024 frames.
     pub fn new(alloc: Global, rates: Rates) -> Result<RateChannel, Memory>
-        ensures { IfOk result (λ c. c ≡ record { rates = rates; ring = []; words = generator_of 0; empties = 0 }) }
+        ensures { IfOk result (λ c. c ≡ record { rates = rates; ring = []; words = seed_generator 0; empties = 0 }) }
     {
         Ok(RateChannel {
             rates,
@@ -83,7 +83,7 @@ impl Channel for RateChannel {
     }
 
     fn begin(&mut self, seed: u64)
-        ensures { self.new ≡ record self.old { ring = []; words = generator_of seed } }
+        ensures { self.new ≡ record self.old { ring = []; words = seed_generator seed } }
     {
         self.channel.begin(seed);
         self.words = Pcg32::seed_from_u64(seed);

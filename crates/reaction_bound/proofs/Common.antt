@@ -20,7 +20,7 @@ pub use Rattle.param_load.specs.declared.entry.Move.{Move}
 pub use Rattle.param_load.specs.declared.master_settings.MasterSettings.{MasterSettings}
 pub use Rattle.param_load.specs.declared.slave_settings.SlaveSettings.{SlaveSettings}
 pub use Rattle.param_load.specs.declared.terms.Terms.{Terms}
-pub use Rattle.reaction_bound.specs.Age.{age_of, greater, sends_item, source, source_after, source_at, source_by, source_in, ticked_at, ticks_since, told, told_age, worst_of}
+pub use Rattle.reaction_bound.specs.Age.{age_of, greater, sends_item, source, source_after, source_at, source_by, source_in, ticked_at, ticks_since, told_ticks, told_age, worst_of}
 pub use Rattle.reaction_bound.specs.Ages.{AgesView, NotesEntry, NotesParts, acted_next, age_in, awaited_by, counted, kept_of, left_after, left_at, left_by, standing_at, standing_counted, standing_next, standing_of, standing_taken, standing_ticked, view_of, waited, waited_next, watchdog_in}
 pub use Rattle.reaction_bound.specs.declared.end_age.Standing.{Standing}
 pub use Rattle.std.proofs.lemmas.Bool.{eq-eqb, ltb-true}

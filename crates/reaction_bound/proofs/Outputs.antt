@@ -1,5 +1,5 @@
 -- The outputs of an end that are from an item.
-use Rattle.reaction_bound.proofs.Common.{Command, End, Entry, Move, Standing, Terms, Took, age_in, age_of, awaited_by, counted, greater, is_other, is_tick, items, items_of, kept_of, left_after, left_at, left_by, peer, same_end, source_after, source_at, source_by, source_in, standing_at, standing_counted, standing_next, standing_of, standing_taken, standing_ticked, ticked, ticked_at, ticks_since, told, told_age, waited, watchdog_in, worst_of}
+use Rattle.reaction_bound.proofs.Common.{Command, End, Entry, Move, Standing, Terms, Took, age_in, age_of, awaited_by, counted, greater, is_other, is_tick, items, items_of, kept_of, left_after, left_at, left_by, peer, same_end, source_after, source_at, source_by, source_in, standing_at, standing_counted, standing_next, standing_of, standing_taken, standing_ticked, ticked, ticked_at, ticks_since, told_ticks, told_age, waited, watchdog_in, worst_of}
 use Rattle.std.proofs.Common.{◌≡◌, ℕ, suc, ◌-◌, ◌≤◌, nat_le, List, [], ◌∷◌, length, Bool, true, false, Option, Some, None, is_some, option_map, if◌then◌else◌, refl, ap, ◌∙◌, arith, rules}
 use Rattle.reaction_bound.proofs.Waiting.{awaited_within, items_grow, told_since}
 
@@ -80,22 +80,22 @@ heard_outputs which x w h = search (rules, source_within)
 
 -- outputs by a frame that was taken in an entry
 taken-in : (which : End) (x : Entry) (w : List Entry) (terms : Option Terms) (other : Bool) (before : Option ℕ) (c : Command) → same_end which x.end ≡ true → awaited_by which w ≡ before
-    → option_map (λ k. stands (left_by 0 terms) (told (ticks_since which k (x ∷ w)))) (source_by 0 terms other before c)
+    → option_map (λ k. stands (left_by 0 terms) (told_ticks (ticks_since which k (x ∷ w)))) (source_by 0 terms other before c)
     ≡ standing_taken other before (watchdog_in terms) (counted (is_tick x.what) (waited which w before)) c
 taken-in which x w terms other before c h k = search rules
 
 -- outputs one tick later
 tick-map : (left left' : ℕ) (ages : ℕ → ℕ) (o later : Option ℕ) → left' ≡ left - 1 → later ≡ (if nat_le left 1 then None else o)
-    → option_map (λ k. stands left' (told (suc (ages k)))) later ≡ standing_ticked (option_map (λ k. stands left (ages k)) o)
+    → option_map (λ k. stands left' (told_ticks (suc (ages k)))) later ≡ standing_ticked (option_map (λ k. stands left (ages k)) o)
 tick-map left left' ages o later h k = grind arith
 
 -- outputs after an entry of the end that took nothing
 ticked-in : (which : End) (x : Entry) (w : List Entry) → same_end which x.end ≡ true
-    → option_map (λ k. stands (left_after which (ticked x.what 0) w) (told (ticks_since which k (x ∷ w)))) (source_after which (ticked x.what 0) w) ≡ standing_counted (is_tick x.what) (standing_of which w)
-ticked-in which x w h = search (rules, same-map, ticked, told_since, source_within, tick-map, told, ticks_since, left-next, expires)
+    → option_map (λ k. stands (left_after which (ticked x.what 0) w) (told_ticks (ticks_since which k (x ∷ w)))) (source_after which (ticked x.what 0) w) ≡ standing_counted (is_tick x.what) (standing_of which w)
+ticked-in which x w h = search (rules, same-map, ticked, told_since, source_within, tick-map, told_ticks, ticks_since, left-next, expires)
 
 own-by : (which : End) (x : Entry) (w : List Entry) (reset : Bool) (took : Option Took) → same_end which x.end ≡ true
-    → option_map (λ k. stands (left_at 0 x.terms took (left_after which (ticked x.what 0) w)) (told (ticks_since which k (x ∷ w))))
+    → option_map (λ k. stands (left_at 0 x.terms took (left_after which (ticked x.what 0) w)) (told_ticks (ticks_since which k (x ∷ w))))
     (if reset then None else source_at 0 x.terms (is_other (items w) x) (awaited_by which w) took (source_after which (ticked x.what 0) w))
     ≡ (if reset then None else standing_at (is_other (items w) x) (awaited_by which w) (watchdog_in x.terms) (counted (is_tick x.what) (waited which w (awaited_by which w))) took (standing_counted (is_tick x.what) (standing_of which w)))
 own-by which x w true took e = refl
@@ -106,10 +106,10 @@ own-by which x w false (Some t) e = taken-in which x w x.terms (is_other (items 
 pub acted_outputs : (which : End) (x : Entry) (w : List Entry) → same_end which x.end ≡ true
     → standing_of which (x ∷ w) ≡ standing_next (is_tick x.what) (is_other (items w) x) x.did (watchdog_in x.terms) (awaited_by which w) (kept_of which w)
 acted_outputs which x w e =
-    ap (λ (b : Bool). option_map (λ k. stands (left-in b which x w) (told (ticks_since which k (x ∷ w)))) (source-at b which x w)) e
+    ap (λ (b : Bool). option_map (λ k. stands (left-in b which x w) (told_ticks (ticks_since which k (x ∷ w)))) (source-at b which x w)) e
     ∙ own-by which x w (is_some x.did.reset) x.did.took e
 
-age-in : (left : ℕ) (ages : ℕ → ℕ) (o : Option ℕ) → age_in (option_map (λ k. stands left (told (ages k))) o) ≡ told_age (option_map ages o)
+age-in : (left : ℕ) (ages : ℕ → ℕ) (o : Option ℕ) → age_in (option_map (λ k. stands left (told_ticks (ages k))) o) ≡ told_age (option_map ages o)
 age-in left ages o = grind arith
 
 -- the greatest age after an entry of the end

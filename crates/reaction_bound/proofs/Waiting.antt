@@ -1,5 +1,5 @@
 -- The ticks since the item that an end awaits was sent.
-use Rattle.reaction_bound.proofs.Common.{End, Entry, Item, Move, Side, awaited, awaited_by, counted, delivered, eq-eqb, heard_next, is_answer, is_empty, is_tick, item_number, items, items_of, next_number, next_sent, peer, same, same_end, sends_item, sent_next, sent_number, ticked, ticks_since, told, waited, waited_next}
+use Rattle.reaction_bound.proofs.Common.{End, Entry, Item, Move, Side, awaited, awaited_by, counted, delivered, eq-eqb, heard_next, is_answer, is_empty, is_tick, item_number, items, items_of, next_number, next_sent, peer, same, same_end, sends_item, sent_next, sent_number, ticked, ticks_since, told_ticks, waited, waited_next}
 use Rattle.exchange_model.proofs.Offering.Sending.{grown-length, peer-back}
 use Rattle.std.proofs.Common.{◌≡◌, ℕ, suc, ◌≤◌, ◌==◌, List, ◌∷◌, length, Bool, true, false, ◌&&◌, not, Option, Some, None, if◌then◌else◌, refl, sym, ap, ◌∙◌, subst, arith, rules}
 use Rattle.fsoe_base.specs.declared.command.Command.TheVariants as command
@@ -90,8 +90,8 @@ counted_at mine m n = if mine then counted (is_tick m) n else n
 
 -- the ticks since an item that was sent before an entry, as they are told
 pub told_since : (which : End) (k : ℕ) (x : Entry) (w : List Entry) (mine : Bool) → same_end which x.end ≡ mine → k ≤ length (items_of (peer which) (items w))
-    → told (ticks_since which k (x ∷ w)) ≡ counted_at mine x.what (told (ticks_since which k w))
-told_since which k x w mine h l = search (rules, told, since_next, ticks_since)
+    → told_ticks (ticks_since which k (x ∷ w)) ≡ counted_at mine x.what (told_ticks (ticks_since which k w))
+told_since which k x w mine h l = search (rules, told_ticks, since_next, ticks_since)
 
 none-after : (before : Option ℕ) (n : ℕ) → waited_next before None n ≡ 0
 none-after before n = grind arith
@@ -110,4 +110,4 @@ fresh-after which k x w before n h l = search (rules, awaited_within)
 -- the ticks since the item that an end awaits was sent, after an entry
 pub waited_step : (which : End) (x : Entry) (w : List Entry) (mine : Bool) → same_end which x.end ≡ mine
     → waited which (x ∷ w) (awaited_by which (x ∷ w)) ≡ waited_next (awaited_by which w) (awaited_by which (x ∷ w)) (counted_at mine x.what (waited which w (awaited_by which w)))
-waited_step which x w mine h = search (rules, none-after, kept-after, told, fresh_now, fresh-after, next)
+waited_step which x w mine h = search (rules, none-after, kept-after, told_ticks, fresh_now, fresh-after, next)

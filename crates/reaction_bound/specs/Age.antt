@@ -70,9 +70,9 @@ worst_of which [] = None
 worst_of which (x ∷ w) = greater (age_of which (x ∷ w)) (worst_of which w)
 
 -- the number by which so many ticks are told: at most 2^32 - 1
-abbrev pub told : ℕ → ℕ
-told n = min n (2 ^ 32 - 1)
+abbrev pub told_ticks : ℕ → ℕ
+told_ticks n = min n (2 ^ 32 - 1)
 
 -- an age as it is told, if there is one
 abbrev pub told_age : Option ℕ → Option ℕ
-told_age age = option_map told age
+told_age age = option_map told_ticks age

@@ -1,7 +1,7 @@
 -- What is kept of both ends to tell the ages of their outputs, and how an entry changes it.
 use Rattle.std.specs.Prelude.{ℕ, suc, ◌≡◌, ◌-◌, ◌==◌, ◌||◌, nat_le, List, [], ◌∷◌, Bool, Option, Some, None, IfSome, is_some, option_map, if◌then◌else◌}
 use Rattle.fsoe_base.specs.declared.command.End.{End}
-use Rattle.fsoe_base.specs.declared.command.End.TheVariants as end_name
+use Rattle.fsoe_base.specs.declared.command.End.TheVariants as side
 use Rattle.fsoe_base.specs.declared.command.Command.{Command}
 use Rattle.fsoe_base.specs.declared.command.Command.TheVariants as command
 use Rattle.fsoe_base.specs.declared.did.Did.{Did}
@@ -16,7 +16,7 @@ use Rattle.exchange_model.specs.Monitor.{MonitorView, HasParts}
 use Rattle.exchange_model.specs.Other.{item_number}
 use Rattle.reaction_bound.specs.declared.end_age.Standing.{Standing}
 use Rattle.reaction_bound.specs.declared.end_age.EndAge.{EndAge}
-use Rattle.reaction_bound.specs.Age.{ticked_at, source, ticks_since, greater, worst_of, told, told_age}
+use Rattle.reaction_bound.specs.Age.{ticked_at, source, ticks_since, greater, worst_of, told_ticks, told_age}
 
 -- the number of the item that an end awaits, if it awaits one
 abbrev pub awaited_by : End → List Entry → Option ℕ
@@ -25,7 +25,7 @@ awaited_by which w = item_number (awaited (items w) which)
 -- the ticks of an end since its peer sent the item of this number, as they are told; 0 where there is no number
 abbrev pub waited : End → List Entry → Option ℕ → ℕ
 waited which w None = 0
-waited which w (Some number) = told (ticks_since which number w)
+waited which w (Some number) = told_ticks (ticks_since which number w)
 
 -- the ticks that are left of the watchdog of these terms, which were told n ticks ago
 abbrev pub left_by : ℕ → Option Terms → ℕ
@@ -46,7 +46,7 @@ left_after which n (x ∷ w) =
 
 -- the outputs of an end where they are from an item: how many ticks are left until they are zeros, and their age
 abbrev pub standing_of : End → List Entry → Option Standing
-standing_of which w = option_map (λ number. record { left = left_after which 0 w; age = told (ticks_since which number w) }) (source which w)
+standing_of which w = option_map (λ number. record { left = left_after which 0 w; age = told_ticks (ticks_since which number w) }) (source which w)
 
 -- what is kept of an end
 abbrev pub kept_of : End → List Entry → EndAge
@@ -60,7 +60,7 @@ pub record AgesView : Type 0 where
 
 -- ages that noted these entries
 abbrev pub view_of : List Entry → AgesView
-view_of w = record { monitor = monitor.view_of w; master = kept_of end_name.Master w; slave = kept_of end_name.Slave w }
+view_of w = record { monitor = monitor.view_of w; master = kept_of side.Master w; slave = kept_of side.Slave w }
 
 -- ages that had noted some entries have noted this one too
 pub record NotesEntry (old : AgesView) (x : Entry) (new : AgesView) : Type 0 where
@@ -102,12 +102,12 @@ waited_next before after n = 0
 
 -- one more tick, as it is told
 abbrev pub counted : Bool → ℕ → ℕ
-counted tick n = if tick then told (suc n) else n
+counted tick n = if tick then told_ticks (suc n) else n
 
 -- outputs after a tick: zeros where the watchdog expires with it
 abbrev pub standing_ticked : Option Standing → Option Standing
 standing_ticked None = None
-standing_ticked (Some s) = if nat_le s.left 1 then None else Some (record { left = s.left - 1; age = told (suc s.age) })
+standing_ticked (Some s) = if nat_le s.left 1 then None else Some (record { left = s.left - 1; age = told_ticks (suc s.age) })
 
 -- the same of an entry that may be a tick
 abbrev pub standing_counted : Bool → Option Standing → Option Standing

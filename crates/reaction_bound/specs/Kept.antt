@@ -1,6 +1,6 @@
 -- What a reaction keeps of what it heard, newest first.
 use Rattle.std.specs.Prelude.{ℕ, ◌≡◌, ◌-◌, nat_le, List, [], ◌∷◌, Bool, true, false, Option, Some, None}
-use Rattle.reaction_bound.specs.Reaction.{Heard, Quiet, Tick, ticks, broken_of}
+use Rattle.reaction_bound.specs.Reaction.{Heard, Quiet, Tick, heard_ticks, broken_of}
 
 -- the first of two numbers, where there may be one
 abbrev pub first_of : Option ℕ → ℕ → ℕ
@@ -11,7 +11,7 @@ first_of (Some first) n = first
 -- where it isn't quiet
 abbrev pub quiet_from : List Heard → Option ℕ
 quiet_from [] = None
-quiet_from (Quiet true ∷ heard) = Some (first_of (quiet_from heard) (ticks heard))
+quiet_from (Quiet true ∷ heard) = Some (first_of (quiet_from heard) (heard_ticks heard))
 quiet_from (Quiet false ∷ heard) = None
 quiet_from (Tick on ∷ heard) = quiet_from heard
 
@@ -30,7 +30,7 @@ pub record ReactionView : Type 0 where
 
 -- a reaction of this limit that has heard this
 abbrev pub view_of : ℕ → List Heard → ReactionView
-view_of limit heard = record { limit = limit; ticks = ticks heard; quiet_from = quiet_from heard; broken = broken_of limit heard }
+view_of limit heard = record { limit = limit; ticks = heard_ticks heard; quiet_from = quiet_from heard; broken = broken_of limit heard }
 
 -- a reaction that has heard some hears this too
 pub record Hears (old : ReactionView) (next : Heard) (new : ReactionView) : Type 0 where

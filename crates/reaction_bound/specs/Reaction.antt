@@ -9,10 +9,10 @@ pub data Heard : Type 0 where
   Tick : Bool → Heard
 
 -- the ticks that were heard
-abbrev pub ticks : List Heard → ℕ
-ticks [] = 0
-ticks (Quiet is ∷ heard) = ticks heard
-ticks (Tick on ∷ heard) = suc (ticks heard)
+abbrev pub heard_ticks : List Heard → ℕ
+heard_ticks [] = 0
+heard_ticks (Quiet is ∷ heard) = heard_ticks heard
+heard_ticks (Tick on ∷ heard) = suc (heard_ticks heard)
 
 -- whether at least n ticks came since the stop was heard to be quiet, without being heard not to be after it
 abbrev pub quiet_for : ℕ → List Heard → Bool
@@ -23,11 +23,11 @@ quiet_for n (Tick on ∷ heard) = quiet_for (n - 1) heard
 
 -- whether the newest that was heard is a late tick: the drive is on with it, and the stop was quiet for so many ticks,
 -- with it
-abbrev pub is_late : ℕ → List Heard → Bool
-is_late limit (Tick true ∷ heard) = quiet_for limit (Tick true ∷ heard)
-is_late limit _ = false
+abbrev pub is_late_tick : ℕ → List Heard → Bool
+is_late_tick limit (Tick true ∷ heard) = quiet_for limit (Tick true ∷ heard)
+is_late_tick limit _ = false
 
 -- the number from 1 of the first late tick; none where no tick is late
 abbrev pub broken_of : ℕ → List Heard → Option ℕ
 broken_of limit [] = None
-broken_of limit (next ∷ heard) = first_of_both (broken_of limit heard) (is_late limit (next ∷ heard)) (ticks (next ∷ heard))
+broken_of limit (next ∷ heard) = first_of_both (broken_of limit heard) (is_late_tick limit (next ∷ heard)) (heard_ticks (next ∷ heard))

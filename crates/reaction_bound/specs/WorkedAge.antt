@@ -1,7 +1,7 @@
 -- Worked ages: with a watchdog of five ticks outputs get eight ticks old, and no older.
 use Rattle.std.specs.Prelude.{ℕ, ◌≡◌, List, [], ◌∷◌, ◌++◌, replicate, Option, Some, None}
 use Rattle.fsoe_base.specs.declared.command.End.{End}
-use Rattle.fsoe_base.specs.declared.command.End.TheVariants as end_name
+use Rattle.fsoe_base.specs.declared.command.End.TheVariants as side
 use Rattle.schedule_file.specs.declared.event.Event.{Event}
 use Rattle.schedule_file.specs.declared.event.Event.TheVariants as event
 use Rattle.exchange_model.specs.Schedules.{dm, ds, tm, ts, until_data}
@@ -24,8 +24,8 @@ pub record IsOldest (which : End) (events : List Event) : Type 0 where
 -- each end shows as old outputs as may be; and outputs that have no age
 pub record WorkedAges : Type 0 where
   -- the slave takes the master's last frame four ticks after it was sent, and four more pass
-  pub slave : IsOldest end_name.Slave (until_data ++ replicate 4 ts ++ ds 1 ∷ replicate 4 ts)
+  pub slave : IsOldest side.Slave (until_data ++ replicate 4 ts ++ ds 1 ∷ replicate 4 ts)
   -- the master takes the slave's
-  pub master : IsOldest end_name.Master (until_data ++ ds 1 ∷ replicate 4 tm ++ dm 1 ∷ replicate 4 tm)
+  pub master : IsOldest side.Master (until_data ++ ds 1 ∷ replicate 4 tm ++ dm 1 ∷ replicate 4 tm)
   -- data that the peer didn't send have no age, though the slave shows them
-  pub forged : age_of end_name.Slave forged_data_run ≡ None
+  pub forged : age_of side.Slave forged_data_run ≡ None

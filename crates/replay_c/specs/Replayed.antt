@@ -5,7 +5,7 @@ use Rattle.fsoe_io.specs.declared.status.Ended.{Ended}
 use Rattle.fsoe_io.specs.declared.status.Status.{Status}
 use Rattle.fsoe_io.specs.declared.status.Status.TheVariants as status
 use Rattle.schedule_file.specs.Input.{Input, input_of}
-use Rattle.schedule_file.specs.declared.header_kind.HeaderKind.TheVariants as kind
+use Rattle.schedule_file.specs.declared.header_kind.HeaderKind.TheVariants as header_kind
 use Rattle.file_run.specs.Reporting.{CutsReport}
 use Rattle.duo_run.specs.Replay.{ReplayReports, replay_reporting}
 
@@ -24,7 +24,7 @@ WrittenWith status.Memory input ended written = ⊥
 
 -- a replay of a text ended so, and this was written
 abbrev pub Replayed : List ℕ → Ended → List ℕ → Type 0
-Replayed text ended written = WrittenWith ended.status (input_of kind.Pair text) ended written
+Replayed text ended written = WrittenWith ended.status (input_of header_kind.Pair text) ended written
 
 -- a replay of a text, by which this was written, ended with the status of this number and with this place
 pub record EndedAs (text : List ℕ) (number place : ℕ) (written : List ℕ) : Type 0 where

@@ -15,7 +15,7 @@ use Rattle.schedule_file.specs.declared.event.Event.TheVariants as event
 use Rattle.schedule_file.specs.declared.event.ScheduleLine.{ScheduleLine}
 use Rattle.schedule_file.specs.declared.event.ScheduleLine.TheVariants as line
 use Rattle.schedule_file.specs.declared.event_line.EventWord.{EventWord}
-use Rattle.schedule_file.specs.declared.event_line.EventWord.TheVariants as word
+use Rattle.schedule_file.specs.declared.event_line.EventWord.TheVariants as event_word
 use Rattle.schedule_file.specs.declared.line_cause.LineCause.{LineCause}
 use Rattle.schedule_file.specs.declared.line_cause.LineCause.TheVariants as cause
 
@@ -88,14 +88,14 @@ nonce_line at profile fields = do
 -- what a word says of an event at an end with its fields: the ends send so many safe data bytes, and this one has this
 -- profile
 abbrev pub event_said : (End → ℕ) → Profile → EventWord × End → List (List ℕ) → Result Event LineCause
-event_said sends profile (word.Deliver, at) fields = deliver_line at fields
-event_said sends profile (word.Altered, at) fields = altered_line at (delivered_len sends at) fields
-event_said sends profile (word.Raw, at) fields = raw_line at fields
-event_said sends profile (word.Tick, at) fields = bare_line (event.Tick at) fields
-event_said sends profile (word.Put, at) fields = put_line at (sends at) fields
-event_said sends profile (word.Hold, at) fields = hold_line at fields
-event_said sends profile (word.Nonce, at) fields = nonce_line at profile fields
-event_said sends profile (word.Local, at) fields = bare_line (event.Local at) fields
+event_said sends profile (event_word.Deliver, at) fields = deliver_line at fields
+event_said sends profile (event_word.Altered, at) fields = altered_line at (delivered_len sends at) fields
+event_said sends profile (event_word.Raw, at) fields = raw_line at fields
+event_said sends profile (event_word.Tick, at) fields = bare_line (event.Tick at) fields
+event_said sends profile (event_word.Put, at) fields = put_line at (sends at) fields
+event_said sends profile (event_word.Hold, at) fields = hold_line at fields
+event_said sends profile (event_word.Nonce, at) fields = nonce_line at profile fields
+event_said sends profile (event_word.Local, at) fields = bare_line (event.Local at) fields
 
 -- what a line says that begins so: the word `end` is that of no event
 abbrev pub line_said : List ℕ → List (List ℕ) → Result Event LineCause → Result ScheduleLine LineCause

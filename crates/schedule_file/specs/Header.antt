@@ -23,7 +23,7 @@ use Rattle.schedule_file.specs.declared.line_cause.LineCause.TheVariants as caus
 use Rattle.schedule_file.specs.declared.place.Place.{Place}
 use Rattle.schedule_file.specs.declared.place.Place.TheVariants as place
 use Rattle.schedule_file.specs.declared.place.Word.{Word}
-use Rattle.schedule_file.specs.declared.place.Word.TheVariants as word
+use Rattle.schedule_file.specs.declared.place.Word.TheVariants as header_word
 
 -- the kind of a header, its place after the lines that were read, and what these lines say; what they don't say is as
 -- in a new one
@@ -62,7 +62,7 @@ wants_profile other master slave = false
 
 -- where a `profile` line has to come, any other line is out of range
 abbrev pub profile_given : Heading → Word → Result (Unit {0}) LineCause
-profile_given h word.Profile = Ok tt
+profile_given h header_word.Profile = Ok tt
 profile_given h other = if wants_profile h.place h.master h.slave then Err cause.Range else Ok tt
 
 -- a `profile` line is that of the end whose line stands before it; after a master's the same may follow as after an

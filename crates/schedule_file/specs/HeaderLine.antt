@@ -16,7 +16,7 @@ use Rattle.schedule_file.specs.declared.header_line.SlaveLine.{SlaveLine}
 use Rattle.schedule_file.specs.declared.line_cause.LineCause.{LineCause}
 use Rattle.schedule_file.specs.declared.line_cause.LineCause.TheVariants as cause
 use Rattle.schedule_file.specs.declared.place.Word.{Word}
-use Rattle.schedule_file.specs.declared.place.Word.TheVariants as word
+use Rattle.schedule_file.specs.declared.place.Word.TheVariants as header_word
 
 -- the number of safe data bytes that each end sends
 abbrev pub lengths_line : List (List ℕ) → Result LengthsLine LineCause
@@ -91,12 +91,12 @@ range_line fields = do
 
 -- what the fields of a line say that begins with a word
 abbrev pub header_line : Word → List (List ℕ) → Result HeaderLine LineCause
-header_line word.Lengths fields = map_ok says.Lengths (lengths_line fields)
-header_line word.Master fields = map_ok says.Master (master_line fields)
-header_line word.Profile fields = map_ok says.Profile (profile_line fields)
-header_line word.App fields = map_ok says.App (one_hex_field max_hex fields)
-header_line word.Slave fields = map_ok says.Slave (slave_line fields)
-header_line word.Rule fields = map_ok says.Rule (rule_line fields)
-header_line word.Bytes fields = map_ok says.Bytes (one_hex_field max_hex fields)
-header_line word.Range fields = map_ok says.Range (range_line fields)
-header_line word.Go fields = map_ok (λ _. says.Go) (no_field fields)
+header_line header_word.Lengths fields = map_ok says.Lengths (lengths_line fields)
+header_line header_word.Master fields = map_ok says.Master (master_line fields)
+header_line header_word.Profile fields = map_ok says.Profile (profile_line fields)
+header_line header_word.App fields = map_ok says.App (one_hex_field max_hex fields)
+header_line header_word.Slave fields = map_ok says.Slave (slave_line fields)
+header_line header_word.Rule fields = map_ok says.Rule (rule_line fields)
+header_line header_word.Bytes fields = map_ok says.Bytes (one_hex_field max_hex fields)
+header_line header_word.Range fields = map_ok says.Range (range_line fields)
+header_line header_word.Go fields = map_ok (λ _. says.Go) (no_field fields)

@@ -6,7 +6,7 @@ use Rattle.rand_pcg.specs.Lcg.{Lcg, advance}
 use Rattle.rand_pcg.specs.Pcg.{multiplier_64, pcg32, pcg32_of_seed}
 use Rattle.fsoe_base.specs.declared.command.End.TheVariants as side
 use Rattle.fsoe_base.specs.declared.lengths.Lengths.{Lengths}
-use Rattle.param_load.specs.declared.app_rule.AppRule.TheVariants as rule
+use Rattle.param_load.specs.declared.app_rule.AppRule.TheVariants as app_rule
 use Rattle.param_load.specs.declared.master_settings.MasterSettings.{MasterSettings}
 use Rattle.param_load.specs.declared.profile.Profile.TheVariants as profile
 use Rattle.param_load.specs.declared.slave_settings.SlaveSettings.{SlaveSettings}
@@ -40,7 +40,7 @@ made_slave = record {
   address = 2;
   hand = 100;
   most = 1000;
-  rule = rule.Any 0;
+  rule = app_rule.Any 0;
   nonce = 2;
   profile = profile.One;
   some_hand = ltb-true 0 100 refl;
@@ -70,8 +70,8 @@ abbrev pub is_switch_on : ℕ → Bool
 is_switch_on word = word / 2 ^ 8 % 2 == 1
 
 -- the place in a frame of 7 bytes that a word alters
-abbrev pub place_of : ℕ → ℕ
-place_of word = word / 2 ^ 8 % 7
+abbrev pub altered_place : ℕ → ℕ
+altered_place word = word / 2 ^ 8 % 7
 
 -- the mask of one bit by which a word alters it
 abbrev pub mask_of : ℕ → ℕ
@@ -90,8 +90,8 @@ event_by rest word =
     else if nat_lt rest 52 then event.Tick side.Slave
     else if rest == 52 then event.Deliver side.Slave 2
     else if rest == 53 then event.Deliver side.Master 2
-    else if rest == 54 then event.Altered side.Slave 1 (place_of word) (mask_of word)
-    else if rest == 55 then event.Altered side.Master 1 (place_of word) (mask_of word)
+    else if rest == 54 then event.Altered side.Slave 1 (altered_place word) (mask_of word)
+    else if rest == 55 then event.Altered side.Master 1 (altered_place word) (mask_of word)
     else if nat_lt rest 58 then event.Put side.Master (load_of word)
     else if nat_lt rest 60 then event.Put side.Slave (load_of word)
     else if rest == 60 then event.Hold side.Master (is_switch_on word)

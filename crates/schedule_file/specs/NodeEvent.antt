@@ -7,15 +7,15 @@ use Rattle.schedule_file.specs.Field.{fields_of, word_in}
 use Rattle.schedule_file.specs.Fields.{◌>>=◌, by_word, value_or}
 use Rattle.schedule_file.specs.declared.event.ScheduleLine.{ScheduleLine}
 use Rattle.schedule_file.specs.declared.event_line.EventWord.{EventWord}
-use Rattle.schedule_file.specs.declared.event_line.EventWord.TheVariants as word
+use Rattle.schedule_file.specs.declared.event_line.EventWord.TheVariants as event_word
 use Rattle.schedule_file.specs.declared.line_cause.LineCause.{LineCause}
 use Rattle.schedule_file.specs.declared.line_cause.LineCause.TheVariants as cause
 
 -- the word of an event at a node
 abbrev pub node_word_of : List ℕ → Option EventWord
 node_word_of = word_in (
-    (codes "t", word.Tick) ∷ (codes "d", word.Raw) ∷ (codes "p", word.Put) ∷ (codes "h", word.Hold)
-    ∷ (codes "n", word.Nonce) ∷ (codes "z", word.Local) ∷ [])
+    (codes "t", event_word.Tick) ∷ (codes "d", event_word.Raw) ∷ (codes "p", event_word.Put) ∷ (codes "h", event_word.Hold)
+    ∷ (codes "n", event_word.Nonce) ∷ (codes "z", event_word.Local) ∷ [])
 
 -- what the fields of a line say that begins so to the node at this end, which has this profile
 abbrev pub node_said : End → (End → ℕ) → Profile → List ℕ → List (List ℕ) → Result ScheduleLine LineCause

@@ -6,21 +6,21 @@ use Rattle.schedule_file.specs.Field.{fields_of}
 use Rattle.schedule_file.specs.Header.{Heading, heading_new, heading_after}
 use Rattle.schedule_file.specs.Place.{header_word_of, may_stand}
 use Rattle.schedule_file.specs.declared.header_kind.HeaderKind.{HeaderKind}
-use Rattle.schedule_file.specs.declared.header_kind.HeaderKind.TheVariants as kind
+use Rattle.schedule_file.specs.declared.header_kind.HeaderKind.TheVariants as header_kind
 use Rattle.schedule_file.specs.declared.line_cause.LineCause.{LineCause}
 use Rattle.schedule_file.specs.declared.place.Place.{Place}
 use Rattle.schedule_file.specs.declared.place.Place.TheVariants as place
 use Rattle.schedule_file.specs.declared.place.Word.{Word}
-use Rattle.schedule_file.specs.declared.place.Word.TheVariants as word
+use Rattle.schedule_file.specs.declared.place.Word.TheVariants as header_word
 
 -- no line of it is read, and `lengths` comes next; it counts as that of a slave until it says otherwise
 abbrev pub heading_begun : Heading
-heading_begun = record (heading_new (kind.Node side.Slave)) { place = place.Title }
+heading_begun = record (heading_new (header_kind.Node side.Slave)) { place = place.Title }
 
 -- the node that a word says
 abbrev pub kind_said : Option Word → HeaderKind → HeaderKind
-kind_said (Some word.Master) before = kind.Node side.Master
-kind_said (Some word.Slave) before = kind.Node side.Slave
+kind_said (Some header_word.Master) before = header_kind.Node side.Master
+kind_said (Some header_word.Slave) before = header_kind.Node side.Slave
 kind_said other before = before
 
 -- the node that a line says, by its first field: that after `lengths` says it
@@ -40,4 +40,4 @@ is_end_line other = false
 
 -- the header may end here: `go` may come next
 abbrev pub may_end : Heading → Bool
-may_end h = may_stand h.kind h.place word.Go
+may_end h = may_stand h.kind h.place header_word.Go

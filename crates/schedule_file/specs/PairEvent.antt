@@ -9,21 +9,21 @@ use Rattle.schedule_file.specs.Fields.{◌>>=◌, by_word, value_or}
 use Rattle.schedule_file.specs.declared.event.Event.{Event}
 use Rattle.schedule_file.specs.declared.event.ScheduleLine.{ScheduleLine}
 use Rattle.schedule_file.specs.declared.event_line.EventWord.{EventWord}
-use Rattle.schedule_file.specs.declared.event_line.EventWord.TheVariants as word
+use Rattle.schedule_file.specs.declared.event_line.EventWord.TheVariants as event_word
 use Rattle.schedule_file.specs.declared.line_cause.LineCause.{LineCause}
 use Rattle.schedule_file.specs.declared.line_cause.LineCause.TheVariants as cause
 
 -- the word of an event with the letter of its end
 abbrev pub pair_word_of : List ℕ → Option (EventWord × End)
 pair_word_of = word_in (
-    (codes "dm", (word.Deliver, side.Master)) ∷ (codes "ds", (word.Deliver, side.Slave))
-    ∷ (codes "am", (word.Altered, side.Master)) ∷ (codes "as", (word.Altered, side.Slave))
-    ∷ (codes "rm", (word.Raw, side.Master)) ∷ (codes "rs", (word.Raw, side.Slave))
-    ∷ (codes "tm", (word.Tick, side.Master)) ∷ (codes "ts", (word.Tick, side.Slave))
-    ∷ (codes "pm", (word.Put, side.Master)) ∷ (codes "ps", (word.Put, side.Slave))
-    ∷ (codes "hm", (word.Hold, side.Master)) ∷ (codes "hs", (word.Hold, side.Slave))
-    ∷ (codes "nm", (word.Nonce, side.Master)) ∷ (codes "ns", (word.Nonce, side.Slave))
-    ∷ (codes "zm", (word.Local, side.Master)) ∷ (codes "zs", (word.Local, side.Slave)) ∷ [])
+    (codes "dm", (event_word.Deliver, side.Master)) ∷ (codes "ds", (event_word.Deliver, side.Slave))
+    ∷ (codes "am", (event_word.Altered, side.Master)) ∷ (codes "as", (event_word.Altered, side.Slave))
+    ∷ (codes "rm", (event_word.Raw, side.Master)) ∷ (codes "rs", (event_word.Raw, side.Slave))
+    ∷ (codes "tm", (event_word.Tick, side.Master)) ∷ (codes "ts", (event_word.Tick, side.Slave))
+    ∷ (codes "pm", (event_word.Put, side.Master)) ∷ (codes "ps", (event_word.Put, side.Slave))
+    ∷ (codes "hm", (event_word.Hold, side.Master)) ∷ (codes "hs", (event_word.Hold, side.Slave))
+    ∷ (codes "nm", (event_word.Nonce, side.Master)) ∷ (codes "ns", (event_word.Nonce, side.Slave))
+    ∷ (codes "zm", (event_word.Local, side.Master)) ∷ (codes "zs", (event_word.Local, side.Slave)) ∷ [])
 
 -- what a word says of an event with its fields, where the ends send so many safe data bytes and have these profiles
 abbrev pub pair_event : (End → ℕ) → (End → Profile) → EventWord × End → List (List ℕ) → Result Event LineCause

@@ -3,9 +3,9 @@ use Rattle.std.specs.Prelude.{◌≡◌, ℕ, Bool, true, false, List, ◌∷◌
 use Rattle.fsoe_base.specs.declared.command.End.{End}
 use Rattle.param_load.specs.declared.profile.Profile.{Profile}
 use Rattle.schedule_file.specs.declared.event.Event.{Event}
-use Rattle.schedule_file.specs.declared.header_kind.HeaderKind.TheVariants as kind
+use Rattle.schedule_file.specs.declared.header_kind.HeaderKind.TheVariants as header_kind
 use Rattle.schedule_file.specs.declared.pairs_line.PairsEvent.{PairsEvent}
-use Rattle.schedule_file.specs.declared.pairs_line.PairsEvent.TheVariants as event
+use Rattle.schedule_file.specs.declared.pairs_line.PairsEvent.TheVariants as pairs_event
 use Rattle.schedule_file.specs.declared.pairs_line.PairsLine.{PairsLine}
 use Rattle.schedule_file.specs.declared.pairs_line.PairsLine.TheVariants as said
 use Rattle.schedule_file.specs.Event.{Fits}
@@ -33,8 +33,8 @@ with_pair pair text = decimal pair ++ 32 ∷ text
 
 -- the line of an event
 abbrev pub line_of_event : PairsEvent → PairsLine
-line_of_event event.Tick = said.Tick
-line_of_event (event.One pair what) = said.One pair what
+line_of_event pairs_event.Tick = said.Tick
+line_of_event (pairs_event.One pair what) = said.One pair what
 
 -- what is said where an event is kept: the event, or the end
 abbrev pub said_in : Bool → PairsEvent → PairsLine
@@ -43,4 +43,4 @@ said_in false kept = line_of_event kept
 
 -- the header describes both ends of a pair
 abbrev pub IsPair : Heading → Type 0
-IsPair h = h.kind ≡ kind.Pair
+IsPair h = h.kind ≡ header_kind.Pair

@@ -8,11 +8,11 @@ use Rattle.schedule_file.specs.Fields.{◌>>=◌, by_word, one_field, number_16}
 use Rattle.schedule_file.specs.Header.{Heading, heading_new, heading_after, heading_is_whole}
 use Rattle.schedule_file.specs.Limits.{most_pairs}
 use Rattle.schedule_file.specs.NodeHeader.{may_end}
-use Rattle.schedule_file.specs.declared.header_kind.HeaderKind.TheVariants as kind
+use Rattle.schedule_file.specs.declared.header_kind.HeaderKind.TheVariants as header_kind
 use Rattle.schedule_file.specs.declared.line_cause.LineCause.{LineCause}
 use Rattle.schedule_file.specs.declared.line_cause.LineCause.TheVariants as cause
 use Rattle.schedule_file.specs.declared.pairs_header.PairsStage.{PairsStage}
-use Rattle.schedule_file.specs.declared.pairs_header.PairsStage.TheVariants as stage
+use Rattle.schedule_file.specs.declared.pairs_header.PairsStage.TheVariants as pairs_stage
 use Rattle.schedule_file.specs.declared.place.Place.TheVariants as place
 
 -- a header after the lines that were read: the pairs before the last one, and the last one; before the first `pair`
@@ -24,15 +24,15 @@ pub record PairsHeading : Type 0 where
 
 -- a pair of which its `pair` line alone is read: its `lengths` come next
 abbrev pub pair_begun : Heading
-pair_begun = record (heading_new kind.Pair) { place = place.Title }
+pair_begun = record (heading_new header_kind.Pair) { place = place.Title }
 
 -- a header of which no line is read
 abbrev pub pairs_heading_new : PairsHeading
-pairs_heading_new = record { stage = stage.Start; before = []; last = pair_begun }
+pairs_heading_new = record { stage = pairs_stage.Start; before = []; last = pair_begun }
 
 -- after `go`
 abbrev pub is_done : PairsStage → Bool
-is_done stage.Done = true
+is_done pairs_stage.Done = true
 is_done other = false
 
 -- a header is done once its line `go` is read
@@ -41,8 +41,8 @@ pairs_heading_is_whole h = is_done h.stage
 
 -- the pairs of which a line was read
 abbrev pub pairs_begun : PairsStage → List Heading → Heading → List Heading
-pairs_begun stage.Pairs before last = before ++ last ∷ []
-pairs_begun stage.Done before last = before ++ last ∷ []
+pairs_begun pairs_stage.Pairs before last = before ++ last ∷ []
+pairs_begun pairs_stage.Done before last = before ++ last ∷ []
 pairs_begun other before last = []
 
 abbrev pub pairs_of : PairsHeading → List Heading
@@ -59,11 +59,11 @@ next_pair number fields = do
 abbrev pub pair_taken : PairsHeading → List (List ℕ) → Result PairsHeading LineCause
 pair_taken h fields = do
   next ← next_pair (length (pairs_of h) + 1) fields
-  Ok (record { stage = stage.Pairs; before = pairs_of h; last = pair_begun })
+  Ok (record { stage = pairs_stage.Pairs; before = pairs_of h; last = pair_begun })
 
 -- how far a header is after a line of its last pair: with `go` it is done
 abbrev pub stage_after : Heading → PairsStage
-stage_after last = if heading_is_whole last then stage.Done else stage.Pairs
+stage_after last = if heading_is_whole last then pairs_stage.Done else pairs_stage.Pairs
 
 -- a header after a line of its last pair
 abbrev pub last_taken : PairsHeading → List ℕ → Result PairsHeading LineCause
@@ -74,9 +74,9 @@ last_taken h text = do
 -- a header after a line, by its first field and those after it: after the title comes the first `pair`, and where the
 -- lines of a pair may end, the next one or `go`
 abbrev pub pairs_line_taken : PairsStage → PairsHeading → List ℕ → List ℕ → List (List ℕ) → Result PairsHeading LineCause
-pairs_line_taken stage.Start h text first fields = if bytes_eq text (codes "fsoe 2 pairs") then Ok (record h { stage = stage.Title }) else Err cause.Header
-pairs_line_taken stage.Title h text first fields = if bytes_eq first (codes "pair") then pair_taken h fields else Err cause.Header
-pairs_line_taken stage.Pairs h text first fields = if bytes_eq first (codes "pair") && may_end h.last then pair_taken h fields else last_taken h text
+pairs_line_taken pairs_stage.Start h text first fields = if bytes_eq text (codes "fsoe 2 pairs") then Ok (record h { stage = pairs_stage.Title }) else Err cause.Header
+pairs_line_taken pairs_stage.Title h text first fields = if bytes_eq first (codes "pair") then pair_taken h fields else Err cause.Header
+pairs_line_taken pairs_stage.Pairs h text first fields = if bytes_eq first (codes "pair") && may_end h.last then pair_taken h fields else last_taken h text
 pairs_line_taken other h text first fields = Err cause.Header
 
 -- a header after its next line, or why that line is refused

@@ -7,7 +7,7 @@ use Rattle.schedule_file.specs.PairsHeader.{PairsHeading, pairs_heading_new, pai
 use Rattle.schedule_file.specs.PairsLine.{pairs_event_of}
 use Rattle.schedule_file.specs.declared.line_cause.LineCause.{LineCause}
 use Rattle.schedule_file.specs.declared.pairs_line.PairsEvent.{PairsEvent}
-use Rattle.schedule_file.specs.declared.pairs_line.PairsEvent.TheVariants as event
+use Rattle.schedule_file.specs.declared.pairs_line.PairsEvent.TheVariants as pairs_event
 use Rattle.schedule_file.specs.declared.pairs_line.PairsLine.{PairsLine}
 
 -- what a line after a header says
@@ -16,8 +16,8 @@ pairs_said_after h text = pairs_line (map own_length (pairs_of h)) (map heading_
 
 -- how many entries an event makes, where there are so many pairs: a tick is one of both ends of each
 abbrev pub entries_by : ℕ → PairsEvent → ℕ
-entries_by pairs event.Tick = 2 * pairs
-entries_by pairs (event.One pair event) = 1
+entries_by pairs pairs_event.Tick = 2 * pairs
+entries_by pairs (pairs_event.One pair event) = 1
 
 -- how many entries events make
 abbrev pub entries_of : ℕ → List PairsEvent → ℕ

@@ -9,14 +9,14 @@ use Rattle.schedule_file.specs.declared.line_cause.LineCause.TheVariants as caus
 use Rattle.schedule_file.specs.declared.place.Place.{Place}
 use Rattle.schedule_file.specs.declared.place.Place.TheVariants as place
 use Rattle.schedule_file.specs.declared.place.Word.{Word}
-use Rattle.schedule_file.specs.declared.place.Word.TheVariants as word
+use Rattle.schedule_file.specs.declared.place.Word.TheVariants as header_word
 
 -- the word that begins a line of a header
 abbrev pub header_word_of : List ℕ → Option Word
 header_word_of = word_in (
-    (codes "lengths", word.Lengths) ∷ (codes "master", word.Master) ∷ (codes "profile", word.Profile)
-    ∷ (codes "app", word.App) ∷ (codes "slave", word.Slave) ∷ (codes "rule", word.Rule)
-    ∷ (codes "bytes", word.Bytes) ∷ (codes "range", word.Range) ∷ (codes "go", word.Go) ∷ [])
+    (codes "lengths", header_word.Lengths) ∷ (codes "master", header_word.Master) ∷ (codes "profile", header_word.Profile)
+    ∷ (codes "app", header_word.App) ∷ (codes "slave", header_word.Slave) ∷ (codes "rule", header_word.Rule)
+    ∷ (codes "bytes", header_word.Bytes) ∷ (codes "range", header_word.Range) ∷ (codes "go", header_word.Go) ∷ [])
 
 -- no line is read
 abbrev pub is_start : Place → Bool
@@ -31,24 +31,24 @@ is_last other = false
 -- a line with this word may come next in a header of this kind: `lengths` comes after the title, then the lines of the
 -- master, where the header has one, those of the slave, where it has one, and `go`
 abbrev pub may_stand : HeaderKind → Place → Word → Bool
-may_stand kind place.Title word.Lengths = true
-may_stand kind place.Lengths word.Master = has_end kind side.Master
-may_stand kind place.Lengths word.Slave = not (has_end kind side.Master)
-may_stand kind place.Master word.Profile = true
-may_stand kind place.Master word.App = true
-may_stand kind place.Master word.Slave = has_end kind side.Slave
-may_stand kind place.Master word.Go = not (has_end kind side.Slave)
-may_stand kind place.App word.App = true
-may_stand kind place.App word.Slave = has_end kind side.Slave
-may_stand kind place.App word.Go = not (has_end kind side.Slave)
-may_stand kind place.Slave word.Profile = true
-may_stand kind place.Slave word.Rule = true
-may_stand kind place.SlaveProfile word.Rule = true
-may_stand kind place.RuleAny word.Go = true
-may_stand kind place.RuleExact word.Bytes = true
-may_stand kind place.RuleExact word.Go = true
-may_stand kind place.RuleRanges word.Range = true
-may_stand kind place.RuleRanges word.Go = true
+may_stand kind place.Title header_word.Lengths = true
+may_stand kind place.Lengths header_word.Master = has_end kind side.Master
+may_stand kind place.Lengths header_word.Slave = not (has_end kind side.Master)
+may_stand kind place.Master header_word.Profile = true
+may_stand kind place.Master header_word.App = true
+may_stand kind place.Master header_word.Slave = has_end kind side.Slave
+may_stand kind place.Master header_word.Go = not (has_end kind side.Slave)
+may_stand kind place.App header_word.App = true
+may_stand kind place.App header_word.Slave = has_end kind side.Slave
+may_stand kind place.App header_word.Go = not (has_end kind side.Slave)
+may_stand kind place.Slave header_word.Profile = true
+may_stand kind place.Slave header_word.Rule = true
+may_stand kind place.SlaveProfile header_word.Rule = true
+may_stand kind place.RuleAny header_word.Go = true
+may_stand kind place.RuleExact header_word.Bytes = true
+may_stand kind place.RuleExact header_word.Go = true
+may_stand kind place.RuleRanges header_word.Range = true
+may_stand kind place.RuleRanges header_word.Go = true
 may_stand kind place word = false
 
 -- the word of a line that may stand here

@@ -1,6 +1,6 @@
 //! A schedule that is made from a number.
 ghost use Rattle.std.specs.Prelude.{◌≡◌, suc, if◌then◌else◌};
-ghost use Rattle.schedule_file.specs.Made.{event_in_turn, event_of_word, is_switch_on, load_of, mask_of, place_of};
+ghost use Rattle.schedule_file.specs.Made.{event_in_turn, event_of_word, is_switch_on, load_of, mask_of, altered_place};
 ghost use Rattle.schedule_file.specs.Event.{FitsMade};
 ghost use Rattle.fsoe_base.specs.declared.command.End.TheVariants as side;
 ghost use Rattle.schedule_file.specs.declared.event.Event.TheVariants as event;
@@ -126,7 +126,7 @@ fn deliver(to: End, back: u8, out: &mut Event)
 
 /// The peer's last frame comes to an end with one bit turned, at the place and by the mask of a word.
 fn altered_to(to: End, word: u32) -> Event
-    ensures { result ≡ event.Altered to 1 (place_of word) (mask_of word) }
+    ensures { result ≡ event.Altered to 1 (altered_place word) (mask_of word) }
 {
     Event::Altered {
         to,

@@ -1,5 +1,5 @@
 -- The names that more than one file of these proofs cites, passed on from one place. Declares nothing.
-pub use Rattle.end_model.proofs.Common.{AreBytes, Code, Command, Deed, Did, Dropped, Frame, IsProper, IsRun, IsSetting, Move, OfSlave, SlaveSettings, State, age, allowed, begun, bytes_of, code, command_byte, command_of, conn_id, contents, count_in, deed_of, dropped, events_of, first_of, fits, frame_len, frame_of, has_command, held, id_len, id_piece, is_reset, judged_contents, kept, length-replicate, limit, nonce, nothing, number_at, offer, on_expiry, on_fault, on_reset_frame, on_verdict, option_or, out, outputs, padded, phase_of, phase_of_frame, piece_len, rule_len, run, same_phase, session_payload, since, slave_age, slave_allows, slave_limit, state_of, step, takes_frame, ticks, uploaded, whole, with_data}
+pub use Rattle.end_model.proofs.Common.{AreBytes, Code, Command, Deed, Did, Dropped, Frame, IsProper, IsRun, IsSetting, Move, OfSlave, SlaveSettings, State, age, allowed, begun, bytes_of, code, command_byte, command_of, conn_id, contents, count_in, deed_of, dropped, events_of, first_of, fits_session, frame_len, frame_of, has_command, held, id_len, id_piece, is_reset, judged_contents, kept, length-replicate, limit, nonce, nothing, number_at, offer, on_expiry, on_fault, on_reset_frame, on_verdict, option_or, out, outputs, padded, phase_of, phase_of_frame, piece_len, rule_len, run, same_phase, session_payload, since, slave_age, slave_allows, slave_limit, state_of, step, takes_frame, ticks, uploaded, whole, with_data}
 pub use Rattle.end_model.proofs.GoesOn.{ap₃, chain_after, filled, is_there, keeps, later, meets, one_more, piece_own, taking, there}
 pub use Rattle.end_model.proofs.Links.{own_crc}
 pub use Rattle.end_model.proofs.Shown.{fail_safe, looking_back, slave-run}

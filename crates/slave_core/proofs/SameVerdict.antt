@@ -1,5 +1,5 @@
 -- The tests of the machine end as those of looking back.
-use Rattle.slave_core.proofs.Common.{Code, Command, Deed, Dropped, Frame, OfSlave, Outcome, SessionFrameView, SlaveSettings, State, allowed, code, command_of, drops, first_of, fits, fits_next, frame_len, frame_of, id_len, kept, kit_of, next_state, notes_of, now_in, on_frame, on_opened, on_session, own_crc, parameters, refuses, reply, reset_by_peer, rule_len, settles, since, slave_allows, state_of, uploaded, view_in, whole}
+use Rattle.slave_core.proofs.Common.{Code, Command, Deed, Dropped, Frame, OfSlave, Outcome, SessionFrameView, SlaveSettings, State, allowed, code, command_of, drops, first_of, fits_session, fits_next, frame_len, frame_of, id_len, kept, kit_of, next_state, notes_of, now_in, on_frame, on_opened, on_session, own_crc, parameters, refuses, reply, reset_by_peer, rule_len, settles, since, slave_allows, state_of, uploaded, view_in, whole}
 use Rattle.seq_chain.specs.Opened.{opened}
 use Rattle.std.proofs.Common.{◌≡◌, ◌≢◌, ℕ, ◌+◌, nat_le, Bool, true, false, List, length, Option, Some, refl, sym, ap, subst, ◌∙◌, arith, rules}
 use Rattle.fsoe_base.specs.declared.command.Command.TheVariants as command
@@ -42,7 +42,7 @@ pub data Same (p : State) (ss : SlaveSettings) (e : List Deed) (bytes : List ℕ
 kept-same : (p : State) (ss : SlaveSettings) (e : List Deed) → SoundAt p ss e → machine.kept_in (now_in p ss (notes_of ss e)) ≡ kept (since e)
 kept-same p ss e h = grind arith
 
-fits-same : (p : State) (ss : SlaveSettings) (e : List Deed) (f : Frame) → SoundAt p ss e → fits_next (machine.chain_of (now_in p ss (notes_of ss e))) f ≡ fits (OfSlave ss) (since e) f
+fits-same : (p : State) (ss : SlaveSettings) (e : List Deed) (f : Frame) → SoundAt p ss e → fits_next (machine.chain_of (now_in p ss (notes_of ss e))) f ≡ fits_session (OfSlave ss) (since e) f
 fits-same p ss e f h = search (rules, own_crc)
 
 -- the test of the command

@@ -3,7 +3,7 @@ use Rattle.std.specs.Prelude.{ℕ, Bool, true, false, List, [], Option, Some, No
 use Rattle.fsoe_base.specs.declared.command.Code.{Code}
 use Rattle.fsoe_base.specs.declared.command.Command.TheVariants as command
 use Rattle.fsoe_base.specs.declared.did.Cause.{Cause}
-use Rattle.fsoe_base.specs.declared.did.Cause.TheVariants as cause
+use Rattle.fsoe_base.specs.declared.did.Cause.TheVariants as reset_cause
 use Rattle.fsoe_base.specs.declared.did.Did.{Did}
 use Rattle.fsoe_base.specs.declared.did.Dropped.{Dropped}
 use Rattle.fsoe_base.specs.declared.did.Dropped.TheVariants as dropped
@@ -62,11 +62,11 @@ falls v passed why x = outcome_of (fallen v) (resets passed why) (reset_frame x.
 
 -- a test fails: in state Reset the frame is dropped, and else the session ends
 abbrev pub refuses : SlaveView → Bool → Code → Outcome
-refuses v passed x = if is_reset v.state then drops v passed dropped.InReset else falls v passed (cause.Found x) x
+refuses v passed x = if is_reset v.state then drops v passed dropped.InReset else falls v passed (reset_cause.Found x) x
 
 -- the contents of a frame are wrong: the session that it was for ends, also one that is forgotten already
 abbrev pub refuses_contents : SlaveView → Bool → Code → Outcome
-refuses_contents v was_reset x = if was_reset then refuses v true x else falls v true (cause.Found x) x
+refuses_contents v was_reset x = if was_reset then refuses v true x else falls v true (reset_cause.Found x) x
 
 -- a valid Reset frame is taken in state Reset, and a Reset frame with code 0 is sent
 abbrev pub acknowledges : SlaveView → List ℕ → Outcome
@@ -74,7 +74,7 @@ acknowledges v load = outcome_of (fallen v) (takes command.Reset load false) (re
 
 -- a valid Reset frame: in state Reset it is taken, and else the session ends with the peer's code, and code 0 is sent
 abbrev pub reset_by_peer : SlaveView → Code → List ℕ → Outcome
-reset_by_peer v x load = if is_reset v.state then acknowledges v load else falls v false (cause.Peer x) local_reset
+reset_by_peer v x load = if is_reset v.state then acknowledges v load else falls v false (reset_cause.Peer x) local_reset
 
 -- a slave took a frame of a session, and sent this answer
 abbrev pub taken : SlaveView → SessionFrameView → List ℕ → Outcome
@@ -105,7 +105,7 @@ on_frame v bytes = on_opened v (opened (receives (OfSlave v.kit.settings)) (is_r
 abbrev pub tick_in_session : SlaveView → Outcome
 tick_in_session v =
     if expires v.timer
-    then falls v false (cause.Found watchdog_expired) watchdog_expired
+    then falls v false (reset_cause.Found watchdog_expired) watchdog_expired
     else quiet (record v { timer = ticked v.timer })
 
 -- a tick: in state Reset none is counted
@@ -120,7 +120,7 @@ with_kit v kit = quiet (record v { kit = kit })
 abbrev pub after : SlaveView → Move → Outcome
 after v (move.Deliver bytes) = on_frame v bytes
 after v move.Tick = tick_of v
-after v move.Local = falls v false cause.Local local_reset
+after v move.Local = falls v false reset_cause.Local local_reset
 after v (move.Put load) = with_kit v (record v.kit { offer = record v.kit.offer { load = load } })
 after v (move.Hold failsafe) = with_kit v (record v.kit { offer = record v.kit.offer { held = failsafe } })
 after v (move.Nonce id) = with_kit v (record v.kit { nonce = id })

@@ -1,5 +1,5 @@
 -- A delivery that is taken without a reset is answered: the entry sends a frame.
-use Rattle.trace_diag.proofs.Common.{Command, Deed, Entry, Frame, HasNoReset, MasterSettings, Move, OfMaster, OfSlave, Setup, SlaveSettings, TakesDelivery, after_phase, answer, begun, bytes_of, command_byte, conn_id, count_crcs, count_in, delivery, did_on, download_frame, end_of, entry_on, groups, has_command, id_piece, is_data_frame, is_empty, is_guarded, master_answer, next_entry, own, pay, phase_of, pieces, reset_crcs, reset_frame, reset_load, seal, sealed, sends, sent_on, session_id, since, slave_answer, with_data, with_piece}
+use Rattle.trace_diag.proofs.Common.{Command, Deed, Entry, Frame, HasNoReset, MasterSettings, Move, OfMaster, OfSlave, Setup, SlaveSettings, TakesDelivery, after_phase, answer, begun, bytes_of, command_byte, conn_id, count_crcs, count_in, delivery, did_on, download_frame, end_of, entry_on, groups, has_command, id_piece, is_data_frame, is_empty, is_guarded_command, master_answer, next_entry, own, pay, phase_of, pieces, reset_crcs, reset_frame, reset_load, seal, sealed_next, sends, sent_on, session_id, since, slave_answer, with_data, with_piece}
 use Rattle.end_model.specs.Setup.{piece_len}
 use Rattle.end_model.specs.Step.{goes_on}
 use Rattle.std.proofs.Common.{◌≡◌, ℕ, suc, nat_lt, List, ◌∷◌, length, Bool, true, false, Option, Some, None, IsSome, refl, sym, ap, subst, ◌∙◌, if◌then◌else◌, arith, rules}
@@ -20,8 +20,8 @@ either t x y h k = grind arith
 seal-made : (s : Setup) (e : List Deed) (conn : ℕ) (c : Command) (load : List ℕ) → IsMade (seal s e conn c load)
 seal-made s e conn c load = record { frame = _; is = refl; counts = count_crcs _ conn _ (command_byte c) 0 (groups load) }
 
-sealed-made : (s : Setup) (e : List Deed) (c : Command) (load : List ℕ) → IsMade (sealed s e c load)
-sealed-made s e c load = seal-made s (since e) (if is_guarded c then conn_id s e else 0) c load
+sealed-made : (s : Setup) (e : List Deed) (c : Command) (load : List ℕ) → IsMade (sealed_next s e c load)
+sealed-made s e c load = seal-made s (since e) (if is_guarded_command c then conn_id s e else 0) c load
 
 pub reset_made : (l : ℕ) → IsMade (reset_frame 0 l)
 reset_made l = record { frame = record { cmd = 0x2A; load = reset_load 0 l; crcs = reset_crcs (reset_load 0 l); conn = 0 }; is = refl; counts = count_crcs 0 0 1 0x2A 0 (groups (reset_load 0 l)) }

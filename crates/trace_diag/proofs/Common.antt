@@ -5,10 +5,10 @@ pub use Rattle.end_model.proofs.SealedFrames.{padded_len}
 pub use Rattle.end_model.specs.Chain.{newest_crc, own, seal, since, taken}
 pub use Rattle.end_model.specs.Deed.{Deed, is_empty}
 pub use Rattle.end_model.specs.Payloads.{conn_id, conn_in, count_in, first_conn, id_sent, nonce, nonce_after, pay, piece, pieces, pieces_for, session_id}
-pub use Rattle.end_model.specs.Phases.{command_in, has_command, is_data_frame, is_guarded, is_reset, phase_of, phase_of_frame, phase_of_known, same_phase}
+pub use Rattle.end_model.specs.Phases.{command_in, has_command, is_data_frame, is_guarded_command, is_reset, phase_of, phase_of_frame, phase_of_known, same_phase}
 pub use Rattle.end_model.specs.Readiness.{held, held_after, offer, offer_after, phase_sent, phase_taken}
 pub use Rattle.end_model.specs.Setup.{OfMaster, OfSlave, Setup, end_of, first_nonce, sends}
-pub use Rattle.end_model.specs.Step.{after_phase, answer, begun, did_on, download_frame, id_piece, master_answer, sealed, sent_on, slave_answer, step, with_data, with_piece}
+pub use Rattle.end_model.specs.Step.{after_phase, answer, begun, did_on, download_frame, id_piece, master_answer, sealed_next, sent_on, slave_answer, step, with_data, with_piece}
 pub use Rattle.end_model.specs.Verdict.{is_slave_conn, judged, judged_session}
 pub use Rattle.exchange_model.proofs.Alone.Framed.{command_back, piece_fits, piece_frame, sealed_frame}
 pub use Rattle.exchange_model.proofs.Alone.Pieces.{front, piece_in, piece_short, take_padded}
@@ -63,15 +63,15 @@ pub use Rattle.std.proofs.lemmas.Option.{same_Some}
 pub use Rattle.std.proofs.lemmas.List.Elements.{All-append, All-cons, All-head, All-nil, All-tail}
 pub use Rattle.std.specs.List.{list_all}
 pub use Rattle.std.specs.Option.{option_or}
-pub use Rattle.trace_diag.specs.Before.{Before, before, chain_at, chain_of, chain_with, goes_on, newest_load, newest_piece, phase_due, phase_from, piece_asked, piece_place}
+pub use Rattle.trace_diag.specs.Before.{Before, before, chain_at, chain_of, chain_with, phase_following, newest_load, newest_piece, phase_due, phase_from, piece_asked, piece_place}
 pub use Rattle.trace_diag.specs.Conforms.{Conforms, ConformsThroughout, has_length, sent_in}
 pub use Rattle.trace_diag.specs.Judged.{AreOfBytes, DiagnosisStands, KnowsUnless, NotesFrame, TraceStands, TraceView, first_difference, first_of_both, judge_reporting}
 pub use Rattle.trace_diag.specs.Kept.{chain_after, conn_with, connection_with, due_made, kept_from, parameters_with, phase_when, piece_of, place_when}
-pub use Rattle.trace_diag.specs.Lines.{TraceHeading, frame_said, heading_new, lengths_taken, line_taken, trace_format, trace_heading_after, trace_is_whole, trace_line, trace_said}
+pub use Rattle.trace_diag.specs.Lines.{TraceHeading, frame_said, trace_heading_new, lengths_taken, line_taken, trace_format, trace_heading_after, trace_is_whole, trace_line, trace_said}
 pub use Rattle.trace_diag.specs.Schedule.{answer_events, events_before, read_schedule, set_for}
 pub use Rattle.trace_diag.specs.Settings.{AreReadOff, byte_or, connection_from, parameters_from, read_address, read_app, read_app_len, read_conn, read_id, read_watchdog, settings_by, settings_told, word_or}
 pub use Rattle.trace_diag.specs.Table.{conn_holds, connection_holds, crcs_due, field_by, field_of, first_differing, first_failing, frame_field, id_holds, is_of, parameter_holds, payload_holds, piece_holds, wrong_byte, wrong_in_data, wrong_in_echo, wrong_in_piece}
-pub use Rattle.trace_diag.specs.Trace.{Noted, carried, frames_from, payload_from, piece_len, turn}
+pub use Rattle.trace_diag.specs.Trace.{Noted, carried, frames_from, payload_from, trace_piece_len, turn}
 pub use Rattle.trace_diag.specs.Verdicts.{DiffersFirst, IsConforming, IsVerdict}
 pub use Rattle.trace_diag.specs.declared.difference.Difference.{Difference}
 pub use Rattle.trace_diag.specs.declared.field.Field.{Field}

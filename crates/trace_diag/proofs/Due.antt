@@ -1,5 +1,5 @@
 -- Which phase the master's next frame is of, by the pieces that it sent.
-use Rattle.trace_diag.proofs.Common.{Command, FirstConnection, FirstParameter, FirstValues, FirstZeros, IsBegun, MasterSettings, MoreConnection, MoreParameter, MoreSession, Profile, State, Turn, all_come, connection_payload, connection_pieces, front, front_begun, front_long, goes_on, id_len, nat_tests, not_yet, number_at, parameter_payload, parameter_pieces, pay, phase_of, pieces_for, session_payload, session_pieces, some_width, width}
+use Rattle.trace_diag.proofs.Common.{Command, FirstConnection, FirstParameter, FirstValues, FirstZeros, IsBegun, MasterSettings, MoreConnection, MoreParameter, MoreSession, Profile, State, Turn, all_come, connection_payload, connection_pieces, front, front_begun, front_long, phase_following, id_len, nat_tests, not_yet, number_at, parameter_payload, parameter_pieces, pay, phase_of, pieces_for, session_payload, session_pieces, some_width, width}
 use Rattle.end_model.specs.Payloads.{whole}
 use Rattle.std.proofs.Common.{◌≡◌, ℕ, ◌+◌, ◌*◌, ◌<◌, ◌≤◌, nat_le, List, length, Bool, true, false, refl, ap, subst, ◌∙◌, arith, if◌then◌else◌, rules}
 use Rattle.fsoe_base.specs.declared.command.State.TheVariants as state
@@ -46,7 +46,7 @@ stays now next b h = ap (λ (b : Bool). if b then next else now) h
 goes : (now next : State) (b : Bool) → b ≡ true → (if b then next else now) ≡ next
 goes now next b h = ap (λ (b : Bool). if b then next else now) h
 
-pub due_next : (ms : MasterSettings) (c : Command) (p : State) (a b d k : ℕ) → IsPlain ms → Turn (session_pieces ms) (connection_pieces ms) (parameter_pieces ms) c p a b d k → goes_on p (front_in ms p a b d) ≡ phase_of c
+pub due_next : (ms : MasterSettings) (c : Command) (p : State) (a b d k : ℕ) → IsPlain ms → Turn (session_pieces ms) (connection_pieces ms) (parameter_pieces ms) c p a b d k → phase_following p (front_in ms p a b d) ≡ phase_of c
 due_next ms c p a b d k plain (MoreSession _ h) =
     stays state.Session state.Connection _ (not-done 2 (width ms) a (session_payload ms.nonce ms.profile) (some_width ms) (subst (λ (n : ℕ). a < n) (session-plain ms plain) h))
 due_next ms c p a b d k plain FirstConnection =

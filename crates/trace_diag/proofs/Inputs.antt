@@ -1,6 +1,6 @@
 -- Inputs with traces: a header that is done has valid lengths, frames are from 1 to 255 bytes, and each input has a
 -- report.
-use Rattle.trace_diag.proofs.Common.{All-append, All-cons, All-head, All-nil, All-tail, AreBytes, AreOfBytes, AtEnd, DiagnosisStands, Difference, Ended, EndsWhole, InputCause, IsVerdict, Lengths, Noted, NotesFrame, Refused, ReportsSoFar, Stop, TraceHeading, TraceStands, TraceView, WholeHeaderOf, append-nil, first_difference, frame_said, header_in, header_read, header_step, heading_new, input_by, input_read, is_length, judge_reporting, length-reverse, lengths_taken, line_taken, lines_of, refused_at, reverse-append, settings_told, trace_format, trace_heading_after, trace_is_whole, trace_line, trace_said}
+use Rattle.trace_diag.proofs.Common.{All-append, All-cons, All-head, All-nil, All-tail, AreBytes, AreOfBytes, AtEnd, DiagnosisStands, Difference, Ended, EndsWhole, InputCause, IsVerdict, Lengths, Noted, NotesFrame, Refused, ReportsSoFar, Stop, TraceHeading, TraceStands, TraceView, WholeHeaderOf, append-nil, first_difference, frame_said, header_in, header_read, header_step, trace_heading_new, input_by, input_read, is_length, judge_reporting, length-reverse, lengths_taken, line_taken, lines_of, refused_at, reverse-append, settings_told, trace_format, trace_heading_after, trace_is_whole, trace_line, trace_said}
 use Rattle.std.proofs.Common.{◌≡◌, ◌<◌, ◌+◌, ◌-◌, ◌^◌, ◌&&◌, ℕ, List, [], ◌∷◌, ◌++◌, length, reverse, Bool, true, false, Option, Some, None, IfOk, IfSome, Result, Ok, Err, IsTrue, refl, sym, ap, subst, ◌∙◌, arith, if◌then◌else◌, rules}
 use Rattle.std.specs.Str.{bytes_eq}
 use Rattle.std.proofs.lemmas.Result.{IfOk-at_ok}
@@ -108,7 +108,7 @@ by-header (Err (Refused number why)) k = (refused_line number why, refused_at nu
 
 -- each input has a report
 pub some_report : (bytes : List ℕ) → (report : List ℕ) × (ended : Ended) × judge_reporting.reports (input_read trace_format bytes) ended report
-some_report bytes = by-header (header_read trace_format bytes) (headed-in 1 heading_new (lines_of bytes) (refl, refl))
+some_report bytes = by-header (header_read trace_format bytes) (headed-in 1 trace_heading_new (lines_of bytes) (refl, refl))
 
 valid-of : (h : TraceHeading) (lengths : Lengths) → AreLengths h lengths → HasLengths h
 valid-of h lengths are = (subst (λ (n : ℕ). IsTrue (is_length n)) are.master lengths.valid_master, subst (λ (n : ℕ). IsTrue (is_length n)) are.slave lengths.valid_slave)

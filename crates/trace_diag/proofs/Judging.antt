@@ -1,5 +1,5 @@
 -- The judge of a trace stands for the frames that were noted, and its verdict is that on them.
-use Rattle.trace_diag.proofs.Common.{All-cons, AreBytes, Before, Difference, DiffersFirst, End, Field, IsConforming, KnowsUnless, Lengths, Noted, NotesFrame, TraceStands, TraceView, before, field_by, field_of, first_difference, first_of_both, frame_of, kept_from, length_of, piece_len, settings_by, turn}
+use Rattle.trace_diag.proofs.Common.{All-cons, AreBytes, Before, Difference, DiffersFirst, End, Field, IsConforming, KnowsUnless, Lengths, Noted, NotesFrame, TraceStands, TraceView, before, field_by, field_of, first_difference, first_of_both, frame_of, kept_from, length_of, trace_piece_len, settings_by, turn}
 use Rattle.std.proofs.Common.{◌≡◌, ℕ, ◌+◌, List, [], ◌∷◌, length, take, Option, Some, None, is_some, false, refl, sym, ap, ap₂, subst, ◌∙◌, arith, rules}
 use Rattle.trace_diag.specs.declared.verdict.ReadOff.{ReadOff}
 use Rattle.trace_diag.proofs.Keeping.{kept_goes}
@@ -23,7 +23,7 @@ known-is old lengths t differs s = subst (λ (o : Option Difference). KnowsUnles
 
 -- a frame that is as it must be
 pub noted_right : (old : TraceView) (x : Noted) (known : Before) → AreBytes x.frame → old.differs ≡ None → field_by old.lengths old.known x ≡ None
-    → known ≡ kept_from (piece_len old.lengths) old.known x.from (frame_of (length_of old.lengths x.from) x.frame) → NotesFrame old x (record { lengths = old.lengths; frames = old.frames + 1; differs = old.differs; known = known })
+    → known ≡ kept_from (trace_piece_len old.lengths) old.known x.from (frame_of (length_of old.lengths x.from) x.frame) → NotesFrame old x (record { lengths = old.lengths; frames = old.frames + 1; differs = old.differs; known = known })
 noted_right old x known are differs field goes = record {
   stands = λ lengths t s.
       let k : old.known ≡ before lengths t = known-is old lengths t differs s in
@@ -37,8 +37,8 @@ noted_right old x known are differs field goes = record {
         first = differs ∙ ap₂ (λ (o : Option Difference) (field : Option Field). first_of_both o field (length t + 1)) (sym none) (sym here);
         knows = subst (λ (o : Option Difference). KnowsUnless o lengths (x ∷ t) known) (sym differs)
             (goes
-            ∙ (ap₂ (λ (l : Lengths) (k : Before). kept_from (piece_len l) k x.from (frame_of (length_of l x.from) x.frame)) s.lengths_are k
-            ∙ (ap (λ (e : End). kept_from (piece_len lengths) (before lengths t) e (frame_of (length_of lengths e) x.frame)) (sym (same_end_is x.from (turn t) h.turn))
+            ∙ (ap₂ (λ (l : Lengths) (k : Before). kept_from (trace_piece_len l) k x.from (frame_of (length_of l x.from) x.frame)) s.lengths_are k
+            ∙ (ap (λ (e : End). kept_from (trace_piece_len lengths) (before lengths t) e (frame_of (length_of lengths e) x.frame)) (sym (same_end_is x.from (turn t) h.turn))
             ∙ sym (kept_goes lengths x t h (all_in_turn lengths t none)))));
       };
 }

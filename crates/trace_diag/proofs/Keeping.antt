@@ -1,5 +1,5 @@
 -- What is kept of a trace is what looking back over it says, with one more frame that is as it must be too.
-use Rattle.trace_diag.proofs.Common.{Before, Chain, Command, End, Frame, Lengths, Noted, State, before, chain_after, chain_of, chain_with, command_byte, conn_in, conn_with, connection_from, connection_with, first_conn, frame_of, frames_from, fresh, goes_on, has_command, kept_from, length_of, newest_load, newest_piece, option_or, parameters_from, parameters_with, payload_from, peer, phase_due, phase_from, phase_of, phase_of_frame, phase_when, piece_asked, piece_len, piece_of, piece_place, place_when, same_end, same_itself, same_phase, turn, whole}
+use Rattle.trace_diag.proofs.Common.{Before, Chain, Command, End, Frame, Lengths, Noted, State, before, chain_after, chain_of, chain_with, command_byte, conn_in, conn_with, connection_from, connection_with, first_conn, frame_of, frames_from, fresh, phase_following, has_command, kept_from, length_of, newest_load, newest_piece, option_or, parameters_from, parameters_with, payload_from, peer, phase_due, phase_from, phase_of, phase_of_frame, phase_when, piece_asked, trace_piece_len, piece_of, piece_place, place_when, same_end, same_itself, same_phase, turn, whole}
 use Rattle.std.proofs.Common.{◌≡◌, ℕ, ◌+◌, ◌<◌, ◌≤◌, List, [], ◌∷◌, ◌++◌, length, take, drop, Bool, Option, refl, sym, ap, ap₂, ◌∙◌, arith, if◌then◌else◌, rules}
 use Rattle.fsoe_base.specs.declared.command.Command.TheVariants as command
 use Rattle.fsoe_base.specs.declared.command.End.TheVariants as end_name
@@ -70,7 +70,7 @@ chain-more lengths t which x from h =
     ∙ ap₂ (λ (p : State) (bytes : List ℕ). chain_after p (chain_of lengths t) which (frame_of (length_of lengths which) bytes)) (sym head.due) (sym head.is))
 
 payload-mine : (lengths : Lengths) (phase p : State) (x : Noted) (t : List Noted) → x.from ≡ end_name.Master → phase_of_frame x.frame ≡ p → payload_from lengths end_name.Master phase (x ∷ t)
-    ≡ (if same_phase phase p then payload_from lengths end_name.Master phase t ++ take (piece_len lengths) (frame_of lengths.master x.frame).load else payload_from lengths end_name.Master phase t)
+    ≡ (if same_phase phase p then payload_from lengths end_name.Master phase t ++ take (trace_piece_len lengths) (frame_of lengths.master x.frame).load else payload_from lengths end_name.Master phase t)
 payload-mine lengths phase p x t h k = grind arith
 
 payload-theirs : (lengths : Lengths) (phase : State) (x : Noted) (t : List Noted) → x.from ≡ end_name.Slave → payload_from lengths end_name.Master phase (x ∷ t) ≡ payload_from lengths end_name.Master phase t
@@ -83,7 +83,7 @@ frames-theirs : (x : Noted) (t : List Noted) → x.from ≡ end_name.Slave → f
 frames-theirs x t from = ap (λ (e : End). if same_end end_name.Master e then x.frame ∷ frames_from end_name.Master t else frames_from end_name.Master t) from
 
 -- after a frame of the master
-master-kept : (lengths : Lengths) (x : Noted) (t : List Noted) → x.from ≡ end_name.Master → IsFrom lengths t end_name.Master x → before lengths (x ∷ t) ≡ kept_from (piece_len lengths) (before lengths t) end_name.Master (frame_of lengths.master x.frame)
+master-kept : (lengths : Lengths) (x : Noted) (t : List Noted) → x.from ≡ end_name.Master → IsFrom lengths t end_name.Master x → before lengths (x ∷ t) ≡ kept_from (trace_piece_len lengths) (before lengths t) end_name.Master (frame_of lengths.master x.frame)
 master-kept lengths x t from h =
     let f : Frame = frame_of lengths.master x.frame in
     let p : State = phase_due lengths t in
@@ -91,27 +91,27 @@ master-kept lengths x t from h =
     let of-phase : phase_of_frame x.frame ≡ p = sym (due_is lengths t end_name.Master x h) in
     let due : phase_due lengths (x ∷ t) ≡ p = due-after lengths t end_name.Master x h in
     let turned-to : turn (x ∷ t) ≡ end_name.Slave = ap peer h.turn_is in
-    same-kept (before lengths (x ∷ t)) (kept_from (piece_len lengths) (before lengths t) end_name.Master f) turned-to due
+    same-kept (before lengths (x ∷ t)) (kept_from (trace_piece_len lengths) (before lengths t) end_name.Master f) turned-to due
     (ap₂ (λ (p : State) (e : End). piece_place lengths (x ∷ t) p e) due turned-to ∙ (place-kept lengths x t p ∙ ap (λ (e : End). piece_place lengths t p e) (sym h.turn_is)))
     (ap (first_conn lengths.master) (frames-mine x t from)
     ∙ (ap (λ (bytes : List ℕ). option_or (first_conn lengths.master (frames_from end_name.Master t)) (conn_in lengths.master bytes)) head.is
     ∙ (conn-is lengths.master head.command head.tail (first_conn lengths.master (frames_from end_name.Master t)) f.conn (ap (λ (bytes : List ℕ). (frame_of lengths.master bytes).conn) (sym head.is))
     ∙ ap (λ (p : State). conn_with p (first_conn lengths.master (frames_from end_name.Master t)) f.conn) (sym head.due))))
-    (ap (take 4) (payload-mine lengths state.Connection p x t from of-phase) ∙ connection-is p (connection_from lengths t) (take (piece_len lengths) f.load))
-    (ap (take 6) (payload-mine lengths state.Parameter p x t from of-phase) ∙ parameters-are p (parameters_from lengths t) (take (piece_len lengths) f.load))
+    (ap (take 4) (payload-mine lengths state.Connection p x t from of-phase) ∙ connection-is p (connection_from lengths t) (take (trace_piece_len lengths) f.load))
+    (ap (take 6) (payload-mine lengths state.Parameter p x t from of-phase) ∙ parameters-are p (parameters_from lengths t) (take (trace_piece_len lengths) f.load))
     (ap₂ (λ (p : State) (e : End). piece_asked lengths (x ∷ t) p e) due turned-to
-    ∙ piece-is lengths (x ∷ t) p (take (piece_len lengths) f.load) (ap (λ (frames : List (List ℕ)). take (piece_len lengths) (newest_load lengths.master frames)) (frames-mine x t from)))
+    ∙ piece-is lengths (x ∷ t) p (take (trace_piece_len lengths) f.load) (ap (λ (frames : List (List ℕ)). take (trace_piece_len lengths) (newest_load lengths.master frames)) (frames-mine x t from)))
     (chain-more lengths t end_name.Master x from h)
 
 -- the bytes of the payload in hand, with the piece that is answered
 came-long : (lengths : Lengths) (y : Noted) (t : List Noted) (p : State) → IsFrom lengths t end_name.Master y → y.from ≡ end_name.Master → phase_of_frame y.frame ≡ p
-    → length (payload_from lengths end_name.Master p (y ∷ t)) ≡ length (payload_from lengths end_name.Master p t) + piece_len lengths
+    → length (payload_from lengths end_name.Master p (y ∷ t)) ≡ length (payload_from lengths end_name.Master p t) + trace_piece_len lengths
 came-long lengths y t p h from of-phase =
     ap (length {A = ℕ}) (payload-mine lengths p p y t from of-phase)
     ∙ (piece_long lengths end_name.Master y (payload_from lengths end_name.Master p t) (same_phase p p) (whole lengths.master y.frame lengths.valid_master h.long).load
-    ∙ ap (λ (b : Bool). length (payload_from lengths end_name.Master p t) + (if b then piece_len lengths else 0)) (same_state p))
+    ∙ ap (λ (b : Bool). length (payload_from lengths end_name.Master p t) + (if b then trace_piece_len lengths else 0)) (same_state p))
 
-goes-by : (p : State) (u : List ℕ) (n : ℕ) (v : List ℕ) → (CarriesOwn end_name.Master p → length u ≡ n) → (p ≡ state.Parameter → take 6 u ≡ v) → goes_on p u ≡ phase_when p n v
+goes-by : (p : State) (u : List ℕ) (n : ℕ) (v : List ℕ) → (CarriesOwn end_name.Master p → length u ≡ n) → (p ≡ state.Parameter → take 6 u ≡ v) → phase_following p u ≡ phase_when p n v
 goes-by p u n v h k = search rules
 
 placed-by : (p : State) (place : State → ℕ) (n : ℕ) (v : List ℕ) → (CarriesOwn end_name.Master p → place p ≡ n) → ((q : State) → rank p < rank q → place q ≡ 0) → place state.Data ≡ 0 → place (phase_when p n v) ≡ place_when p n v
@@ -128,9 +128,9 @@ none-asked lengths t p = grind arith
 
 -- after an answer of the slave to the newest of these frames
 slave-kept : (lengths : Lengths) (x y : Noted) (t : List Noted) → x.from ≡ end_name.Slave → IsFrom lengths (y ∷ t) end_name.Slave x → y.from ≡ end_name.Master → IsFrom lengths t end_name.Master y → NoLater lengths (y ∷ t)
-    → before lengths (x ∷ y ∷ t) ≡ kept_from (piece_len lengths) (before lengths (y ∷ t)) end_name.Slave (frame_of lengths.slave x.frame)
+    → before lengths (x ∷ y ∷ t) ≡ kept_from (trace_piece_len lengths) (before lengths (y ∷ t)) end_name.Slave (frame_of lengths.slave x.frame)
 slave-kept lengths x y t from h y-from y-is none =
-    let c : ℕ = piece_len lengths in
+    let c : ℕ = trace_piece_len lengths in
     let k : Before = before lengths (y ∷ t) in
     let p : State = phase_due lengths (y ∷ t) in
     let of-phase : phase_of_frame y.frame ≡ p = ap (λ (e : End). phase_from lengths (y ∷ t) e (phase_of_frame y.frame)) (sym h.turn_is) in
@@ -151,7 +151,7 @@ slave-kept lengths x y t from h y-from y-is none =
 peer-slave : (e : End) → peer e ≡ end_name.Slave → e ≡ end_name.Master
 peer-slave e h = grind arith
 
-kept-at : (lengths : Lengths) (x : Noted) (t : List Noted) (at : End) → turn t ≡ at → x.from ≡ at → IsFrom lengths t at x → AllInTurn lengths t → before lengths (x ∷ t) ≡ kept_from (piece_len lengths) (before lengths t) at (frame_of (length_of lengths at) x.frame)
+kept-at : (lengths : Lengths) (x : Noted) (t : List Noted) (at : End) → turn t ≡ at → x.from ≡ at → IsFrom lengths t at x → AllInTurn lengths t → before lengths (x ∷ t) ≡ kept_from (trace_piece_len lengths) (before lengths t) at (frame_of (length_of lengths at) x.frame)
 kept-at lengths x t end_name.Master turned from h all = master-kept lengths x t from h
 kept-at lengths x [] end_name.Slave turned from h all = cc
 kept-at lengths x (y ∷ t) end_name.Slave turned from h all =
@@ -160,5 +160,5 @@ kept-at lengths x (y ∷ t) end_name.Slave turned from h all =
     slave-kept lengths x y t from h y-from (is_from lengths t end_name.Master y (ap (same_end end_name.Master) y-from) all.0) (no_later lengths (y ∷ t) all)
 
 -- what is kept after one more frame that is as it must be
-pub kept_goes : (lengths : Lengths) (x : Noted) (t : List Noted) → IsInTurn lengths (before lengths t) x → AllInTurn lengths t → before lengths (x ∷ t) ≡ kept_from (piece_len lengths) (before lengths t) (turn t) (frame_of (length_of lengths (turn t)) x.frame)
+pub kept_goes : (lengths : Lengths) (x : Noted) (t : List Noted) → IsInTurn lengths (before lengths t) x → AllInTurn lengths t → before lengths (x ∷ t) ≡ kept_from (trace_piece_len lengths) (before lengths t) (turn t) (frame_of (length_of lengths (turn t)) x.frame)
 kept_goes lengths x t h all = kept-at lengths x t (turn t) refl (sym (same_end_is x.from (turn t) h.turn)) (from-turn lengths t x h) all

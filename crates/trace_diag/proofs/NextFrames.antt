@@ -1,6 +1,6 @@
 -- The frame that the end in turn sends after a trace: a Reset frame, or the next one of its session. It is as it must
 -- be, and has what the rows leave open by the settings.
-use Rattle.trace_diag.proofs.Common.{Both, Carries, Chain, Chained, Command, End, Frame, IsDown, IsUp, Lengths, MasterSettings, Noted, OfMaster, Partner, Replies, Spot, State, Turn, before, chain_of, command_byte, conn_after, connection_pieces, count_crcs, count_groups, count_in, first_conn, frame_len, frame_of, frames_from, front, front_long, goes_on, halves, is_length, is_reset_frame, length-replicate, length_of, newest_crc, newest_piece, padded, padded_twice, parameter_pieces, pay, payload_from, phase_due, phase_from, phase_of, phase_of_frame, phase_sent, piece, piece_asked, piece_fits, piece_place, piece_short, reset_crcs, reset_frame, reset_load, sealed_by, session_payload, session_pieces, slave_of, some_connection, turn, turned, whole, width}
+use Rattle.trace_diag.proofs.Common.{Both, Carries, Chain, Chained, Command, End, Frame, IsDown, IsUp, Lengths, MasterSettings, Noted, OfMaster, Partner, Replies, Spot, State, Turn, before, chain_of, command_byte, conn_after, connection_pieces, count_crcs, count_groups, count_in, first_conn, frame_len, frame_of, frames_from, front, front_long, phase_following, halves, is_length, is_reset_frame, length-replicate, length_of, newest_crc, newest_piece, padded, padded_twice, parameter_pieces, pay, payload_from, phase_due, phase_from, phase_of, phase_of_frame, phase_sent, piece, piece_asked, piece_fits, piece_place, piece_short, reset_crcs, reset_frame, reset_load, sealed_by, session_payload, session_pieces, slave_of, some_connection, turn, turned, whole, width}
 use Rattle.std.proofs.Common.{◌≡◌, ℕ, ◌<◌, ◌≤◌, List, [], ◌∷◌, length, take, replicate, None, IsTrue, refl, sym, ap, ap₂, subst, ◌∙◌, arith, rules}
 use Rattle.fsoe_base.specs.declared.command.Command.TheVariants as command
 use Rattle.fsoe_base.specs.declared.command.End.TheVariants as end_name
@@ -42,7 +42,7 @@ reset_is_next ms r t which due =
     }
 
 -- the phase after one of which as much has come
-goes-same : (p : State) (u v : List ℕ) → (CarriesOwn end_name.Master p → u ≡ v) → goes_on p u ≡ goes_on p v
+goes-same : (p : State) (u v : List ℕ) → (CarriesOwn end_name.Master p → u ≡ v) → phase_following p u ≡ phase_following p v
 goes-same p u v h = search rules
 
 carried-suits : (ms : MasterSettings) (id : ℕ) (c : Command) (a b d conn : ℕ) (load : List ℕ) → Carries ms id c a b d conn load → Suits ms c b conn load

@@ -1,6 +1,6 @@
 -- No row of the table applies to a frame exactly where its end has its turn, its length is right, its command is one of
 -- the phase, its connection id holds, no data byte is wrong, and its CRCs are those that are due.
-use Rattle.trace_diag.proofs.Common.{Before, End, Field, Frame, Lengths, Noted, command_of, conn_holds, crcs_due, eq-eqb, field_by, frame_field, frame_len, frame_of, is_of, length_of, piece_len, same_end, wrong_byte}
+use Rattle.trace_diag.proofs.Common.{Before, End, Field, Frame, Lengths, Noted, command_of, conn_holds, crcs_due, eq-eqb, field_by, frame_field, frame_len, frame_of, is_of, length_of, trace_piece_len, same_end, wrong_byte}
 use Rattle.std.proofs.Common.{◌≡◌, ℕ, length, Bool, true, not, Option, Some, None, if◌then◌else◌, arith, rules}
 use Rattle.trace_diag.proofs.NoneApplies.{none_differs, same_none}
 
@@ -15,7 +15,7 @@ pub record IsRight (c : ℕ) (k : Before) (which : End) (f : Frame) : Type 0 whe
 pub record IsInTurn (lengths : Lengths) (k : Before) (x : Noted) : Type 0 where
   pub turn : same_end x.from k.turn ≡ true
   pub long : length x.frame ≡ frame_len (length_of lengths x.from)
-  pub right : IsRight (piece_len lengths) k x.from (frame_of (length_of lengths x.from) x.frame)
+  pub right : IsRight (trace_piece_len lengths) k x.from (frame_of (length_of lengths x.from) x.frame)
 
 no-some : (t : Bool) (which : Field) (rest : Option Field) → (if not t then Some which else rest) ≡ None → (t ≡ true) × (rest ≡ None)
 no-some t which rest h = grind arith

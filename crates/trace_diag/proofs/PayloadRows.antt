@@ -1,5 +1,5 @@
 -- Where no row of the table applies to the frames of a trace, each byte of its payloads may stand where it stands.
-use Rattle.trace_diag.proofs.Common.{Before, Command, End, Frame, Lengths, Noted, State, before, cases_lt, command_in, command_of, first_failing, frame_at, frame_len, frame_of, get_or-append-add, get_or-take, get_or_append_left, is_length, is_of, length-append, length-take, length_of, parameter_holds, parameters_from, payload_from, payload_holds, phase_due, phase_of, phase_of_frame, piece_holds, piece_len, piece_place, same_end, turn, wrong_byte, wrong_in_piece}
+use Rattle.trace_diag.proofs.Common.{Before, Command, End, Frame, Lengths, Noted, State, before, cases_lt, command_in, command_of, first_failing, frame_at, frame_len, frame_of, get_or-append-add, get_or-take, get_or_append_left, is_length, is_of, length-append, length-take, length_of, parameter_holds, parameters_from, payload_from, payload_holds, phase_due, phase_of, phase_of_frame, piece_holds, trace_piece_len, piece_place, same_end, turn, wrong_byte, wrong_in_piece}
 use Rattle.std.proofs.Common.{◌≡◌, ℕ, ◌+◌, ◌-◌, ◌<◌, ◌≤◌, List, ◌++◌, length, take, Bool, true, Option, Some, None, IsTrue, sym, ap, ap₂, ◌∙◌, arith, inl, inr, rules}
 use Rattle.fsoe_base.specs.declared.command.End.TheVariants as end_name
 use Rattle.trace_diag.proofs.NoField.{IsInTurn, IsRight}
@@ -38,7 +38,7 @@ more_hold holds u load c before part i h =
 pub record IsFrom (lengths : Lengths) (t : List Noted) (which : End) (x : Noted) : Type 0 where
   pub turn_is : turn t ≡ which
   pub long : length x.frame ≡ frame_len (length_of lengths which)
-  pub right : IsRight (piece_len lengths) (before lengths t) which (frame_of (length_of lengths which) x.frame)
+  pub right : IsRight (trace_piece_len lengths) (before lengths t) which (frame_of (length_of lengths which) x.frame)
 
 pub same_end_is : (a b : End) → same_end a b ≡ true → b ≡ a
 same_end_is a b h = grind arith
@@ -70,15 +70,15 @@ own-piece c k which phase f h = grind arith
 in-piece : (c from : ℕ) (holds : ℕ → ℕ → Bool) (load : List ℕ) → first_failing (piece_holds c holds from) 0 load ≡ None → (j : ℕ) → j < c → j < length load → holds (from + j) (at load j) ≡ true
 in-piece c from holds load none j within there = search (rules, none_fails)
 
-pub own_bytes : (lengths : Lengths) (t : List Noted) (which : End) (phase : State) (x : Noted) → CarriesOwn which phase → IsFrom lengths t which x → phase_of_frame x.frame ≡ phase → (j : ℕ) → j < piece_len lengths → j < length (frame_of (length_of lengths which) x.frame).load
-    → payload_holds phase (frame_of (length_of lengths which) x.frame).conn (take 6 (parameters_from lengths t) ++ take (piece_len lengths) (frame_of (length_of lengths which) x.frame).load) (piece_place lengths t phase which + j) (at (frame_of (length_of lengths which) x.frame).load j) ≡ true
+pub own_bytes : (lengths : Lengths) (t : List Noted) (which : End) (phase : State) (x : Noted) → CarriesOwn which phase → IsFrom lengths t which x → phase_of_frame x.frame ≡ phase → (j : ℕ) → j < trace_piece_len lengths → j < length (frame_of (length_of lengths which) x.frame).load
+    → payload_holds phase (frame_of (length_of lengths which) x.frame).conn (take 6 (parameters_from lengths t) ++ take (trace_piece_len lengths) (frame_of (length_of lengths which) x.frame).load) (piece_place lengths t phase which + j) (at (frame_of (length_of lengths which) x.frame).load j) ≡ true
 own_bytes lengths t which phase x own h of-phase =
     let f : Frame = frame_of (length_of lengths which) x.frame in
-    let holds : ℕ → ℕ → Bool = payload_holds phase f.conn (take 6 (parameters_from lengths t) ++ take (piece_len lengths) f.load) in
+    let holds : ℕ → ℕ → Bool = payload_holds phase f.conn (take 6 (parameters_from lengths t) ++ take (trace_piece_len lengths) f.load) in
     let due : phase_due lengths t ≡ phase = due_is lengths t which x h ∙ of-phase in
-    in-piece (piece_len lengths) (piece_place lengths t phase which) holds f.load
-    (ap₂ (λ (p : State) (e : End). first_failing (piece_holds (piece_len lengths) holds (piece_place lengths t p e)) 0 f.load) (sym due) (sym h.turn_is)
-    ∙ (sym (own-piece (piece_len lengths) (before lengths t) which phase f own) ∙ (ap (λ (p : State). wrong_byte (piece_len lengths) (before lengths t) which p f) (sym due) ∙ h.right.bytes)))
+    in-piece (trace_piece_len lengths) (piece_place lengths t phase which) holds f.load
+    (ap₂ (λ (p : State) (e : End). first_failing (piece_holds (trace_piece_len lengths) holds (piece_place lengths t p e)) 0 f.load) (sym due) (sym h.turn_is)
+    ∙ (sym (own-piece (trace_piece_len lengths) (before lengths t) which phase f own) ∙ (ap (λ (p : State). wrong_byte (trace_piece_len lengths) (before lengths t) which p f) (sym due) ∙ h.right.bytes)))
 
 -- the next piece of the master stands where those end that came
 pub master_place : (lengths : Lengths) (t : List Noted) (phase : State) → CarriesOwn end_name.Master phase → piece_place lengths t phase end_name.Master ≡ length (payload_from lengths end_name.Master phase t)

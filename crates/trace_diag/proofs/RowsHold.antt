@@ -1,5 +1,5 @@
 -- The rows hold of all bytes of the payloads of a trace to which no row of the table applies.
-use Rattle.trace_diag.proofs.Common.{Chain, Difference, End, Field, Frame, Lengths, Noted, State, before, carried, conn_holds, conn_in, connection_holds, count_crcs, count_groups, crcs_due, eq-eqb, eqb-true, field_of, first_conn, first_difference, first_of_both, frame_len, frame_of, frames_from, groups, halves, id_holds, is_slave_conn, length-append, length-take, length_of, option_or, parameter_holds, payload_from, peer, phase_due, phase_of_frame, piece_len, piece_place, same_end, same_phase, same_Some, turn, whole}
+use Rattle.trace_diag.proofs.Common.{Chain, Difference, End, Field, Frame, Lengths, Noted, State, before, carried, conn_holds, conn_in, connection_holds, count_crcs, count_groups, crcs_due, eq-eqb, eqb-true, field_of, first_conn, first_difference, first_of_both, frame_len, frame_of, frames_from, groups, halves, id_holds, is_slave_conn, length-append, length-take, length_of, option_or, parameter_holds, payload_from, peer, phase_due, phase_of_frame, trace_piece_len, piece_place, same_end, same_phase, same_Some, turn, whole}
 use Rattle.std.proofs.Common.{◌≡◌, ◌==◌, ◌&&◌, ℕ, ◌+◌, ◌<◌, List, [], ◌∷◌, ◌++◌, length, take, drop, Bool, true, false, not, Option, Some, None, refl, sym, ap, ap₂, subst, ◌∙◌, arith, if◌then◌else◌, rules}
 use Rattle.fsoe_base.specs.declared.command.End.TheVariants as end_name
 use Rattle.fsoe_base.specs.declared.command.State.TheVariants as state
@@ -51,7 +51,7 @@ abbrev pub Even : Lengths → List Noted → End → Type 0
 Even lengths t end_name.Master = length (payload_from lengths end_name.Slave state.Session t) ≡ length (payload_from lengths end_name.Master state.Session t)
 Even lengths t end_name.Slave =
     (length (payload_from lengths end_name.Slave state.Session t) ≡ length (payload_from lengths end_name.Master state.Session (drop 1 t)))
-    × (length (payload_from lengths end_name.Master state.Session t) ≡ length (payload_from lengths end_name.Slave state.Session t) + (if same_phase state.Session (newest_phase t) then piece_len lengths else 0))
+    × (length (payload_from lengths end_name.Master state.Session t) ≡ length (payload_from lengths end_name.Slave state.Session t) + (if same_phase state.Session (newest_phase t) then trace_piece_len lengths else 0))
 
 -- what the rows say of the payloads
 pub record RowsHold (lengths : Lengths) (t : List Noted) : Type 0 where
@@ -70,7 +70,7 @@ own_place lengths t which phase turned own rows = search (rules, master_place)
 ids-more : (lengths : Lengths) (which : End) (x : Noted) (t : List Noted) → IsInTurn lengths (before lengths t) x → RowsHold lengths t → AllAt id_holds (payload_from lengths which state.Session t) → AllAt id_holds (payload_from lengths which state.Session (x ∷ t))
 ids-more lengths which x t h rows before =
     still_holds (λ u. AllAt id_holds u) lengths which state.Session x t before
-    (λ mine is. more_hold id_holds (payload_from lengths which state.Session t) load (piece_len lengths) before
+    (λ mine is. more_hold id_holds (payload_from lengths which state.Session t) load (trace_piece_len lengths) before
     (λ j within there.
     let from : IsFrom lengths t which x = is_from lengths t which x mine h in
     ap (λ (n : ℕ). id_holds (n + j) (at load j)) (sym (own_place lengths t which state.Session from.turn_is tt rows) ∙ ap (piece_place lengths t state.Session) from.turn_is)
@@ -84,7 +84,7 @@ parameters-more : (lengths : Lengths) (x : Noted) (t : List Noted) → IsInTurn 
     → AllAt (parameter_holds (payload_from lengths end_name.Master state.Parameter (x ∷ t))) (payload_from lengths end_name.Master state.Parameter (x ∷ t))
 parameters-more lengths x t h rows =
     still_holds (λ u. AllAt (parameter_holds u) u) lengths end_name.Master state.Parameter x t rows.parameters
-    (λ mine is. more_hold (parameter_holds (u ++ part)) u load (piece_len lengths)
+    (λ mine is. more_hold (parameter_holds (u ++ part)) u load (trace_piece_len lengths)
     (λ i within. parameter_same (u ++ part) u i (at u i) (λ k below six. at_front u part k (omega (arith, below, within))) ∙ rows.parameters i within)
     (λ j within there.
     parameter_same (u ++ part) (take 6 u ++ part) (length u + j) (at load j) (λ k below six. sym (six_enough u part k six))
@@ -97,7 +97,7 @@ parameters-more lengths x t h rows =
     load = (frame_of lengths.master x.frame).load
 
     part : List ℕ
-    part = take (piece_len lengths) load
+    part = take (trace_piece_len lengths) load
 
 first-some : (n : ℕ) → not (n == 0) ≡ true → 0 < n
 first-some n h = grind arith
@@ -130,10 +130,10 @@ connection-more lengths x t h rows = go (same_end end_name.Master x.from) refl
     first = first_conn lengths.master (frames_from end_name.Master t)
 
     -- a frame of Connection brings more bytes
-    brings : IsFrom lengths t end_name.Master x → same_phase state.Connection (phase_of_frame x.frame) ≡ true → ConnectionHolds (option_or first (Some f.conn)) (u ++ take (piece_len lengths) f.load)
+    brings : IsFrom lengths t end_name.Master x → same_phase state.Connection (phase_of_frame x.frame) ≡ true → ConnectionHolds (option_or first (Some f.conn)) (u ++ take (trace_piece_len lengths) f.load)
     brings from is =
-        subst (λ (o : Option ℕ). ConnectionHolds o (u ++ take (piece_len lengths) f.load)) (sym (conn-now first f.conn row)) (
-          λ conn e. subst (λ (n : ℕ). (0 < n) × AllAt (connection_holds n) (u ++ take (piece_len lengths) f.load)) (same_Some f.conn conn e) (both.0, more_hold (connection_holds f.conn) u f.load (piece_len lengths) both.1 (own_bytes lengths t end_name.Master state.Connection x tt from of-phase)),
+        subst (λ (o : Option ℕ). ConnectionHolds o (u ++ take (trace_piece_len lengths) f.load)) (sym (conn-now first f.conn row)) (
+          λ conn e. subst (λ (n : ℕ). (0 < n) × AllAt (connection_holds n) (u ++ take (trace_piece_len lengths) f.load)) (same_Some f.conn conn e) (both.0, more_hold (connection_holds f.conn) u f.load (trace_piece_len lengths) both.1 (own_bytes lengths t end_name.Master state.Connection x tt from of-phase)),
           λ e. absurd (cc e),
         )
       where
@@ -150,24 +150,24 @@ connection-more lengths x t h rows = go (same_end end_name.Master x.from) refl
         both : (0 < f.conn) × AllAt (connection_holds f.conn) u
         both = known first refl
 
-    by-phase : IsFrom lengths t end_name.Master x → (is : Bool) → same_phase state.Connection (phase_of_frame x.frame) ≡ is → ConnectionHolds (option_or first (if is then Some f.conn else None)) (if is then u ++ take (piece_len lengths) f.load else u)
+    by-phase : IsFrom lengths t end_name.Master x → (is : Bool) → same_phase state.Connection (phase_of_frame x.frame) ≡ is → ConnectionHolds (option_or first (if is then Some f.conn else None)) (if is then u ++ take (trace_piece_len lengths) f.load else u)
     by-phase from true is = brings from is
     by-phase from false is = kept lengths t rows
 
     go : (mine : Bool) → same_end end_name.Master x.from ≡ mine
         → ConnectionHolds (first_conn lengths.master (if mine then x.frame ∷ frames_from end_name.Master t else frames_from end_name.Master t))
-        (carried state.Connection (piece_len lengths) lengths.master (if mine then x.frame ∷ frames_from end_name.Master t else frames_from end_name.Master t))
+        (carried state.Connection (trace_piece_len lengths) lengths.master (if mine then x.frame ∷ frames_from end_name.Master t else frames_from end_name.Master t))
     go false mine = (rows.connection, rows.unconnected)
     go true mine =
-        subst (λ (o : Option ℕ). ConnectionHolds (option_or first o) (if same_phase state.Connection (phase_of_frame x.frame) then u ++ take (piece_len lengths) f.load else u)) (sym (conn-by-phase lengths.master x.frame))
+        subst (λ (o : Option ℕ). ConnectionHolds (option_or first o) (if same_phase state.Connection (phase_of_frame x.frame) then u ++ take (trace_piece_len lengths) f.load else u)) (sym (conn-by-phase lengths.master x.frame))
         (by-phase (is_from lengths t end_name.Master x mine h) (same_phase state.Connection (phase_of_frame x.frame)) refl)
 
 -- as many bytes as a piece has come with a frame of Session
 pub piece_long : (lengths : Lengths) (which : End) (x : Noted) (u : List ℕ) (is : Bool) → length (frame_of (length_of lengths which) x.frame).load ≡ length_of lengths which
-    → length (if is then u ++ take (piece_len lengths) (frame_of (length_of lengths which) x.frame).load else u) ≡ length u + (if is then piece_len lengths else 0)
+    → length (if is then u ++ take (trace_piece_len lengths) (frame_of (length_of lengths which) x.frame).load else u) ≡ length u + (if is then trace_piece_len lengths else 0)
 piece_long lengths which x u true long =
     let f : Frame = frame_of (length_of lengths which) x.frame in
-    omega (arith, length-append u (take (piece_len lengths) f.load), length-take (piece_len lengths) f.load, long, piece_fits lengths which)
+    omega (arith, length-append u (take (trace_piece_len lengths) f.load), length-take (trace_piece_len lengths) f.load, long, piece_fits lengths which)
 piece_long lengths which x u false long = omega arith
 
 even-more : (lengths : Lengths) (x : Noted) (t : List Noted) (at : End) → turn t ≡ at → x.from ≡ at → IsFrom lengths t at x → Even lengths t at → Even lengths (x ∷ t) (peer at)

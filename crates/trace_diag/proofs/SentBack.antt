@@ -1,6 +1,6 @@
 -- A frame to which no row of the table applies is the one that is sent next by ends with the settings that are read
 -- off.
-use Rattle.trace_diag.proofs.Common.{AreBytes, Before, Chain, Command, End, Frame, Lengths, MasterSettings, Noted, Partner, State, before, bytes_of, cases_lt, command_byte, common_steps, conn_holds, count_groups, crcs_due, eqb-true, ext_get_or, first_conn, first_differing, first_failing, frame_len, frame_of, frames_from, get_or-append-add, get_or-take, groups_long, has_command, is_data, is_data_frame, is_length, le-ltb, length-append, length-take, length_of, option_or, padded, payload_from, payload_holds, phase_due, phase_of, phase_of_frame, piece_holds, piece_len, same_end, whole, width, wrong_byte, wrong_in_piece}
+use Rattle.trace_diag.proofs.Common.{AreBytes, Before, Chain, Command, End, Frame, Lengths, MasterSettings, Noted, Partner, State, before, bytes_of, cases_lt, command_byte, common_steps, conn_holds, count_groups, crcs_due, eqb-true, ext_get_or, first_conn, first_differing, first_failing, frame_len, frame_of, frames_from, get_or-append-add, get_or-take, groups_long, has_command, is_data, is_data_frame, is_length, le-ltb, length-append, length-take, length_of, option_or, padded, payload_from, payload_holds, phase_due, phase_of, phase_of_frame, piece_holds, trace_piece_len, same_end, whole, width, wrong_byte, wrong_in_piece}
 use Rattle.std.proofs.Common.{◌≡◌, ◌==◌, ℕ, ◌+◌, ◌<◌, ◌≤◌, List, ◌∷◌, ◌++◌, length, take, replicate, Bool, true, Option, Some, None, IsTrue, refl, sym, ap, ap₂, subst, ◌∙◌, arith, inl, inr, if◌then◌else◌}
 use Rattle.fsoe_base.specs.declared.command.Command.TheVariants as command
 use Rattle.fsoe_base.specs.declared.command.End.TheVariants as end_name
@@ -95,7 +95,7 @@ same-next ms r k which c f g right next due is is' long own first offered = same
 
 -- a payload with one more frame of its phase
 payload-with : (lengths : Lengths) (which : End) (phase : State) (x : Noted) (t : List Noted) → same_end which x.from ≡ true → phase_of_frame x.frame ≡ phase
-    → payload_from lengths which phase (x ∷ t) ≡ payload_from lengths which phase t ++ take (piece_len lengths) (frame_of (length_of lengths which) x.frame).load
+    → payload_from lengths which phase (x ∷ t) ≡ payload_from lengths which phase t ++ take (trace_piece_len lengths) (frame_of (length_of lengths which) x.frame).load
 payload-with lengths which phase x t h k = grind arith
 
 -- the piece of the newest frame is that of the payload

@@ -1,5 +1,5 @@
 -- A frame that an end sends in its turn is as it must be, with the CRCs of its chain.
-use Rattle.trace_diag.proofs.Common.{Before, Command, End, Frame, Lengths, MasterSettings, Partner, Profile, State, all_zero, chain_at, command_byte, command_of, conn_after, conn_holds, connection_holds, connection_payload, crcs_due, eq-eqb, eqb-true, first_differing, first_failing, front, id_holds, is_of, is_reset, length_of, padded, parameter_holds, parameter_payload, pay, payload_holds, phase_of, piece, piece_holds, piece_len, piece_short, reset_crcs, same_phase, sealed_by, session_payload, some_width, take_padded, width, wrong_byte, wrong_in_echo, wrong_in_piece}
+use Rattle.trace_diag.proofs.Common.{Before, Command, End, Frame, Lengths, MasterSettings, Partner, Profile, State, all_zero, chain_at, command_byte, command_of, conn_after, conn_holds, connection_holds, connection_payload, crcs_due, eq-eqb, eqb-true, first_differing, first_failing, front, id_holds, is_of, is_reset, length_of, padded, parameter_holds, parameter_payload, pay, payload_holds, phase_of, piece, piece_holds, trace_piece_len, piece_short, reset_crcs, same_phase, sealed_by, session_payload, some_width, take_padded, width, wrong_byte, wrong_in_echo, wrong_in_piece}
 use Rattle.std.proofs.Common.{◌≡◌, ℕ, suc, ◌+◌, ◌*◌, ◌<◌, ◌≤◌, ◌==◌, List, [], ◌∷◌, ◌++◌, ◌&&◌, length, take, replicate, Bool, true, false, Option, None, refl, sym, ap, ap₂, subst, ◌∙◌, arith, rules}
 use Rattle.fsoe_base.specs.declared.command.Command.TheVariants as command
 use Rattle.fsoe_base.specs.declared.command.End.TheVariants as end_name
@@ -84,7 +84,7 @@ payload-row ms r end_name.Master state.Parameter conn u i own plain is came =
     ∙ parameter_row ms.watchdog ms.app u i ms.some_watchdog plain.most (λ j six upto. came refl j six upto ∙ ap (λ (p : Profile). at (parameter_payload ms.watchdog p ms.app) j) plain.one)
 payload-row ms r _ _ conn u i own plain is came = absurd own
 
-pub piece_fits : (lengths : Lengths) (which : End) → piece_len lengths ≤ length_of lengths which
+pub piece_fits : (lengths : Lengths) (which : End) → trace_piece_len lengths ≤ length_of lengths which
 piece_fits lengths which = grind arith
 
 own-right : (ms : MasterSettings) (r : Partner ms) (which : End) (phase : State) (k : Before) (f : Frame) → CarriesOwn which phase → IsPlain ms → (phase ≡ state.Connection → f.conn ≡ ms.conn) → HasPiece ms r which phase k f.load

@@ -1,5 +1,5 @@
 -- What an answer carries by the schedule and by the settings: the data that were put, and the slave's session id.
-use Rattle.trace_diag.proofs.Common.{Command, Deed, Entry, MasterSettings, Partner, Setup, begun, count_in, deed_in, frame_of, has_command, held, held_after, id_piece, is_data, is_data_frame, offer, offer_after, padded, partner, piece, piece_frame, piece_in, sealed, sealed_frame, sends, session_id, session_payload, since, since_on, slave_of, taken, width}
+use Rattle.trace_diag.proofs.Common.{Command, Deed, Entry, MasterSettings, Partner, Setup, begun, count_in, deed_in, frame_of, has_command, held, held_after, id_piece, is_data, is_data_frame, offer, offer_after, padded, partner, piece, piece_frame, piece_in, sealed_next, sealed_frame, sends, session_id, session_payload, since, since_on, slave_of, taken, width}
 use Rattle.std.proofs.Common.{◌≡◌, ℕ, List, ◌∷◌, length, replicate, Bool, true, false, Some, sym, ap, ap₂, ◌∙◌, if◌then◌else◌, rules}
 use Rattle.fsoe_base.specs.declared.command.Command.TheVariants as command
 use Rattle.fsoe_base.specs.declared.command.State.TheVariants as state
@@ -30,14 +30,14 @@ no-process e = cc
 
 pub carries_set : (s : Setup) (e : List Deed) (x : Entry) (c : Command) (load : List ℕ) → IsDelivery s e x → SendsAnswer s e x → IsSetFor s (Some c) load e → is_data c ≡ true → is_data_frame x.sent ≡ true → length load ≡ sends s → CarriesSet (sends s) x.sent c load
 carries_set s e x command.FailSafeData load d a set is-data sent long =
-    let is : x.sent ≡ sealed s (begun_with x e) command.FailSafeData (replicate (sends s) 0) = search (rules, sends, answer_data, still-held) in
+    let is : x.sent ≡ sealed_next s (begun_with x e) command.FailSafeData (replicate (sends s) 0) = search (rules, sends, answer_data, still-held) in
     record { has = ap (has_command command.FailSafeData) is; load_is = λ other. absurd (no-process other) }
 carries_set s e x command.ProcessData load d a set is-data sent long =
     let offered : offer s (begun_with x e) ≡ load = still-offered s e x d ∙ set.1 in
-    let is : x.sent ≡ sealed s (begun_with x e) command.ProcessData load =
+    let is : x.sent ≡ sealed_next s (begun_with x e) command.ProcessData load =
     a.is
     ∙ (answer_data s (begun_with x e) a.took_what (sym (ap is_data_frame a.is) ∙ sent)
-    ∙ ap₂ (λ (t : Bool) (load : List ℕ). if t then sealed s (begun_with x e) command.FailSafeData (replicate (sends s) 0) else sealed s (begun_with x e) command.ProcessData load) (still-held s e x d ∙ set.0) offered) in
+    ∙ ap₂ (λ (t : Bool) (load : List ℕ). if t then sealed_next s (begun_with x e) command.FailSafeData (replicate (sends s) 0) else sealed_next s (begun_with x e) command.ProcessData load) (still-held s e x d ∙ set.0) offered) in
     record {
       has = ap (has_command command.ProcessData) is;
       load_is = λ same. ap (λ (g : List ℕ). (frame_of (sends s) g).load) is ∙ (sealed_frame s (begun_with x e) command.ProcessData load long).carries;

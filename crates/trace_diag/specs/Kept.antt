@@ -2,7 +2,7 @@
 use Rattle.std.specs.Prelude.{ℕ, ◌+◌, nat_le, List, [], ◌++◌, take, Bool, false, ◌&&◌, Option, Some, if◌then◌else◌}
 use Rattle.std.specs.Option.{option_or}
 use Rattle.fsoe_base.specs.declared.command.End.{End}
-use Rattle.fsoe_base.specs.declared.command.End.TheVariants as end_name
+use Rattle.fsoe_base.specs.declared.command.End.TheVariants as side
 use Rattle.fsoe_base.specs.declared.command.State.{State}
 use Rattle.fsoe_base.specs.declared.command.State.TheVariants as state
 use Rattle.fsoe_frame.specs.Parts.{Frame}
@@ -52,8 +52,8 @@ piece_of _ part = []
 -- the chain with a frame of this end: a Reset frame ends the session
 abbrev pub chain_after : State → Chain → End → Frame → Chain
 chain_after state.Reset chain which f = fresh
-chain_after _ chain end_name.Master f = after_sent chain f
-chain_after _ chain end_name.Slave f = after_taken chain f
+chain_after _ chain side.Master f = after_sent chain f
+chain_after _ chain side.Slave f = after_taken chain f
 
 -- a frame with the CRCs that it must have
 abbrev pub due_made : Before → End → Frame → Frame
@@ -61,23 +61,23 @@ due_made k which f = record f { crcs = crcs_due k.due k.chain which f }
 
 -- after a frame of the end whose turn it is, which carries c bytes of a payload
 abbrev pub kept_from : ℕ → Before → End → Frame → Before
-kept_from c k end_name.Master f = record {
-  turn = end_name.Slave;
+kept_from c k side.Master f = record {
+  turn = side.Slave;
   due = k.due;
   place = k.place;
   conn = conn_with k.due k.conn f.conn;
   connection = connection_with k.due k.connection (take c f.load);
   parameters = parameters_with k.due k.parameters (take c f.load);
   piece = piece_of k.due (take c f.load);
-  chain = chain_after k.due k.chain end_name.Master f;
+  chain = chain_after k.due k.chain side.Master f;
 }
-kept_from c k end_name.Slave f = record {
-  turn = end_name.Master;
+kept_from c k side.Slave f = record {
+  turn = side.Master;
   due = phase_when k.due (k.place + c) k.parameters;
   place = place_when k.due (k.place + c) k.parameters;
   conn = k.conn;
   connection = k.connection;
   parameters = k.parameters;
   piece = [];
-  chain = chain_after k.due k.chain end_name.Slave f;
+  chain = chain_after k.due k.chain side.Slave f;
 }

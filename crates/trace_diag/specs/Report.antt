@@ -12,7 +12,7 @@ use Rattle.trace_diag.specs.Verdicts.{IsVerdict}
 use Rattle.trace_diag.specs.declared.field.Field.{Field}
 use Rattle.trace_diag.specs.declared.field.Field.TheVariants as field
 use Rattle.trace_diag.specs.declared.verdict.Verdict.{Verdict}
-use Rattle.trace_diag.specs.declared.verdict.Verdict.TheVariants as verdict
+use Rattle.trace_diag.specs.declared.verdict.Verdict.TheVariants as trace_verdict
 
 -- a number, and a minus where none is told
 abbrev pub told_text : Option ℕ → List ℕ
@@ -34,15 +34,15 @@ frames_line n = codes "frames " ++ decimal n ++ codes "\n"
 
 -- the lines of a verdict
 abbrev pub verdict_lines : Verdict → List ℕ
-verdict_lines (verdict.Conforms read) =
+verdict_lines (trace_verdict.Conforms read) =
     codes "read " ++ told_text read.conn ++ codes " " ++ told_text read.address ++ codes " " ++ told_text read.watchdog ++ codes " " ++ told_text read.app
     ++ codes "\nconforms\n"
-verdict_lines (verdict.Differs number which) = codes "frame " ++ decimal number ++ codes " " ++ field_text which ++ codes "\n"
+verdict_lines (trace_verdict.Differs number which) = codes "frame " ++ decimal number ++ codes " " ++ field_text which ++ codes "\n"
 
 -- how a run ends that was read up to its `end`: a trace that differs is other, and the place is the frame's number
 abbrev pub ended_by : Verdict → Ended
-ended_by (verdict.Conforms read) = record { status = status.Ok; place = 0 }
-ended_by (verdict.Differs number which) = record { status = status.Other; place = number }
+ended_by (trace_verdict.Conforms read) = record { status = status.Ok; place = 0 }
+ended_by (trace_verdict.Differs number which) = record { status = status.Other; place = number }
 
 -- the lengths are those that the header says
 pub record AreLengths (h : TraceHeading) (lengths : Lengths) : Type 0 where

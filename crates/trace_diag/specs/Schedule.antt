@@ -6,7 +6,7 @@ use Rattle.std.specs.Prelude.{ℕ, true, false, List, [], ◌∷◌, ◌++◌, r
 use Rattle.fsoe_base.specs.declared.command.Command.{Command}
 use Rattle.fsoe_base.specs.declared.command.Command.TheVariants as command
 use Rattle.fsoe_base.specs.declared.command.End.{End}
-use Rattle.fsoe_base.specs.declared.command.End.TheVariants as end_name
+use Rattle.fsoe_base.specs.declared.command.End.TheVariants as side
 use Rattle.fsoe_base.specs.declared.lengths.Lengths.{Lengths}
 use Rattle.fsoe_base.specs.LengthsOf.{length_of}
 use Rattle.fsoe_frame.specs.Parts.{frame_of}
@@ -27,7 +27,7 @@ answer_events at l f = set_for at l (command_in f) (frame_of l f).load ++ event.
 
 -- the events before the next frame of a trace is sent, where t are the frames before it
 abbrev pub events_before : Lengths → List Noted → List ℕ → List Event
-events_before lengths [] f = event.Tick end_name.Master ∷ []
+events_before lengths [] f = event.Tick side.Master ∷ []
 events_before lengths (x ∷ t) f = answer_events (turn (x ∷ t)) (length_of lengths (turn (x ∷ t))) f
 
 -- the schedule of a trace, whose events come in order

@@ -4,10 +4,10 @@
 -- is read off is this profile's own.
 use Rattle.std.specs.Prelude.{ℕ, ◌+◌, ◌*◌, nat_lt, List, length, take, drop, slice_index, Option, Some, None, unwrap_or, if◌then◌else◌}
 use Rattle.fsoe_base.specs.declared.command.End.{End}
-use Rattle.fsoe_base.specs.declared.command.End.TheVariants as end_name
+use Rattle.fsoe_base.specs.declared.command.End.TheVariants as side
 use Rattle.fsoe_base.specs.declared.command.State.TheVariants as state
 use Rattle.fsoe_base.specs.declared.lengths.Lengths.{Lengths}
-use Rattle.param_load.specs.declared.app_rule.AppRule.TheVariants as rule
+use Rattle.param_load.specs.declared.app_rule.AppRule.TheVariants as app_rule
 use Rattle.param_load.specs.declared.master_settings.MasterSettings.{MasterSettings}
 use Rattle.param_load.specs.declared.profile.Profile.TheVariants as profile
 use Rattle.param_load.specs.declared.slave_settings.SlaveSettings.{SlaveSettings}
@@ -28,14 +28,14 @@ word_or missing place bytes = byte_or 0 place bytes + 256 * byte_or missing (pla
 
 -- the payloads of the master's phases Connection and Parameter, as far as a trace reaches them
 abbrev pub connection_from : Lengths → List Noted → List ℕ
-connection_from lengths t = payload_from lengths end_name.Master state.Connection t
+connection_from lengths t = payload_from lengths side.Master state.Connection t
 
 abbrev pub parameters_from : Lengths → List Noted → List ℕ
-parameters_from lengths t = payload_from lengths end_name.Master state.Parameter t
+parameters_from lengths t = payload_from lengths side.Master state.Parameter t
 
 -- the connection id is the field of the master's first Connection frame, and 1 where there is none
 abbrev pub read_conn : Lengths → List Noted → ℕ
-read_conn lengths t = unwrap_or (first_conn lengths.master (frames_from end_name.Master t)) 1
+read_conn lengths t = unwrap_or (first_conn lengths.master (frames_from side.Master t)) 1
 
 -- the address of the slave, in the two bytes after those of the connection id
 abbrev pub read_address : Lengths → List Noted → ℕ
@@ -61,8 +61,8 @@ read_id lengths which t = word_or 0 0 (payload_from lengths which state.Session 
 -- watchdog and any application parameters of their number, and its limit before a watchdog comes is the longest. There
 -- are none where the connection id or the watchdog is 0, or the application parameters are more than settings may have
 pub record AreReadOff (lengths : Lengths) (t : List Noted) (ms : MasterSettings) (ss : SlaveSettings) : Type 0 where
-  pub master : IsMasterSetTo ms lengths (read_conn lengths t) (read_address lengths t) (read_watchdog lengths t) (read_app lengths t) (read_id lengths end_name.Master t) profile.One
-  pub slave : IsSlaveSetTo ss lengths (read_address lengths t) 65535 65535 (rule.Any (read_app_len lengths t)) (read_id lengths end_name.Slave t) profile.One
+  pub master : IsMasterSetTo ms lengths (read_conn lengths t) (read_address lengths t) (read_watchdog lengths t) (read_app lengths t) (read_id lengths side.Master t) profile.One
+  pub slave : IsSlaveSetTo ss lengths (read_address lengths t) 65535 65535 (app_rule.Any (read_app_len lengths t)) (read_id lengths side.Slave t) profile.One
 
 -- the number in the two bytes from a place on, where the trace reaches both
 abbrev pub word_if : ℕ → List ℕ → Option ℕ

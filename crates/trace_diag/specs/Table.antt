@@ -14,7 +14,7 @@ use Rattle.std.specs.Option.{option_or}
 use Rattle.fsoe_base.specs.declared.command.Command.{Command}
 use Rattle.fsoe_base.specs.declared.command.Command.TheVariants as command
 use Rattle.fsoe_base.specs.declared.command.End.{End}
-use Rattle.fsoe_base.specs.declared.command.End.TheVariants as end_name
+use Rattle.fsoe_base.specs.declared.command.End.TheVariants as side
 use Rattle.fsoe_base.specs.declared.command.State.{State}
 use Rattle.fsoe_base.specs.declared.command.State.TheVariants as state
 use Rattle.fsoe_base.specs.declared.lengths.Lengths.{Lengths}
@@ -31,7 +31,7 @@ use Rattle.end_model.specs.Phases.{phase_of, same_phase}
 use Rattle.end_model.specs.Verdict.{is_slave_conn}
 use Rattle.exchange_model.specs.Ends.{same_end}
 use Rattle.trace_diag.specs.Before.{Before, before, chain_at}
-use Rattle.trace_diag.specs.Trace.{Noted, piece_len}
+use Rattle.trace_diag.specs.Trace.{Noted, trace_piece_len}
 use Rattle.trace_diag.specs.declared.field.Field.{Field}
 use Rattle.trace_diag.specs.declared.field.Field.TheVariants as field
 
@@ -105,8 +105,8 @@ wrong_in_data f = if f.cmd == command_byte command.ProcessData then None else fi
 -- the first data byte that isn't as it must be: a slave repeats the master's piece in Connection and Parameter
 abbrev pub wrong_byte : ℕ → Before → End → State → Frame → Option ℕ
 wrong_byte c k which state.Data f = wrong_in_data f
-wrong_byte c k end_name.Slave state.Connection f = wrong_in_echo k f
-wrong_byte c k end_name.Slave state.Parameter f = wrong_in_echo k f
+wrong_byte c k side.Slave state.Connection f = wrong_in_echo k f
+wrong_byte c k side.Slave state.Parameter f = wrong_in_echo k f
 wrong_byte c k which phase f = wrong_in_piece c k phase f
 
 -- the CRCs that a frame of a phase must have, by its command, connection id and safe data: those of the next frame of
@@ -132,7 +132,7 @@ abbrev pub field_by : Lengths → Before → Noted → Option Field
 field_by lengths k x =
     if not (same_end x.from k.turn) then Some field.Turn
     else if not (length x.frame == frame_len (length_of lengths x.from)) then Some field.Length
-    else frame_field (piece_len lengths) k x.from (frame_of (length_of lengths x.from) x.frame)
+    else frame_field (trace_piece_len lengths) k x.from (frame_of (length_of lengths x.from) x.frame)
 
 -- the first row of the table that applies to a frame after these, if one does
 abbrev pub field_of : Lengths → List Noted → Noted → Option Field

@@ -2,7 +2,7 @@
 -- of them are newest first. That a trace is recorded so is this profile's own.
 use Rattle.std.specs.Prelude.{ℕ, min, List, [], ◌∷◌, ◌++◌, take, if◌then◌else◌}
 use Rattle.fsoe_base.specs.declared.command.End.{End}
-use Rattle.fsoe_base.specs.declared.command.End.TheVariants as end_name
+use Rattle.fsoe_base.specs.declared.command.End.TheVariants as side
 use Rattle.fsoe_base.specs.declared.command.State.{State}
 use Rattle.fsoe_base.specs.declared.lengths.Lengths.{Lengths}
 use Rattle.fsoe_base.specs.LengthsOf.{length_of}
@@ -18,12 +18,12 @@ frames_from which (x ∷ t) = if same_end which x.from then x.frame ∷ frames_f
 
 -- the end whose frame comes next: the master's first, and then each end's in turn
 abbrev pub turn : List Noted → End
-turn [] = end_name.Master
+turn [] = side.Master
 turn (x ∷ t) = peer (turn t)
 
 -- the bytes of a payload that one frame carries: the smaller of both lengths
-abbrev pub piece_len : Lengths → ℕ
-piece_len lengths = min lengths.master lengths.slave
+abbrev pub trace_piece_len : Lengths → ℕ
+trace_piece_len lengths = min lengths.master lengths.slave
 
 -- the first c data bytes of each of these frames that is of a phase, in order, where a frame has l data bytes
 abbrev pub carried : State → ℕ → ℕ → List (List ℕ) → List ℕ
@@ -33,4 +33,4 @@ carried phase c l (f ∷ frames) =
 
 -- the payload bytes of a phase that an end's frames carry
 abbrev pub payload_from : Lengths → End → State → List Noted → List ℕ
-payload_from lengths which phase t = carried phase (piece_len lengths) (length_of lengths which) (frames_from which t)
+payload_from lengths which phase t = carried phase (trace_piece_len lengths) (length_of lengths which) (frames_from which t)

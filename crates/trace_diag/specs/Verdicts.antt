@@ -9,7 +9,7 @@ use Rattle.trace_diag.specs.Trace.{Noted}
 use Rattle.trace_diag.specs.declared.field.Field.{Field}
 use Rattle.trace_diag.specs.declared.verdict.ReadOff.{ReadOff}
 use Rattle.trace_diag.specs.declared.verdict.Verdict.{Verdict}
-use Rattle.trace_diag.specs.declared.verdict.Verdict.TheVariants as verdict
+use Rattle.trace_diag.specs.declared.verdict.Verdict.TheVariants as trace_verdict
 
 -- a trace conforms, and this is told of its settings
 pub record IsConforming (lengths : Lengths) (t : List Noted) (read : ReadOff) : Type 0 where
@@ -30,5 +30,5 @@ pub record DiffersFirst (lengths : Lengths) (t : List Noted) (number : ℕ) (whi
   pub whole : Conforms lengths t → ⊥
 
 abbrev pub IsVerdict : Lengths → List Noted → Verdict → Type 0
-IsVerdict lengths t (verdict.Conforms read) = IsConforming lengths t read
-IsVerdict lengths t (verdict.Differs number which) = DiffersFirst lengths t number which
+IsVerdict lengths t (trace_verdict.Conforms read) = IsConforming lengths t read
+IsVerdict lengths t (trace_verdict.Differs number which) = DiffersFirst lengths t number which

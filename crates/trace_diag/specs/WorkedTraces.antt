@@ -2,9 +2,9 @@
 use Rattle.std.specs.Prelude.{◌≡◌, ℕ, refl, List, [], ◌∷◌, ◌++◌, ◌+◌, ◌-◌, true, codes, drop, take, length, reverse, Option, Some, None, false, Bool, ◌&&◌, is_some}
 use Rattle.std.specs.List.{list_all}
 use Rattle.hex.specs.Hex.{decode_of}
-use Rattle.fsoe_base.specs.declared.command.End.TheVariants as end_name
+use Rattle.fsoe_base.specs.declared.command.End.TheVariants as side
 use Rattle.fsoe_base.specs.declared.lengths.Lengths.{Lengths}
-use Rattle.param_load.specs.declared.app_rule.AppRule.TheVariants as rule
+use Rattle.param_load.specs.declared.app_rule.AppRule.TheVariants as app_rule
 use Rattle.black_channel.specs.Altered.{altered}
 use Rattle.end_model.specs.WorkedRuns.{two_and_two, master_values, slave_values, if_bytes}
 use Rattle.exchange_model.specs.Schedules.{hs, pm, rounds, tm}
@@ -22,11 +22,11 @@ use Rattle.trace_diag.specs.declared.verdict.ReadOff.{ReadOff}
 
 -- a frame of the master, in hexadecimal
 abbrev pub m : List ℕ → Noted
-m text = record { from = end_name.Master; frame = if_bytes (decode_of text) }
+m text = record { from = side.Master; frame = if_bytes (decode_of text) }
 
 -- a frame of the slave
 abbrev pub s : List ℕ → Noted
-s text = record { from = end_name.Slave; frame = if_bytes (decode_of text) }
+s text = record { from = side.Slave; frame = if_bytes (decode_of text) }
 
 -- a handshake and the first data of both ends, in order
 abbrev pub first_data : List Noted
@@ -81,7 +81,7 @@ abbrev pub padded_frames : List Noted
 padded_frames =
     sent_in
     (world (record master_values { lengths = four_and_six; app = 0x0A ∷ [] })
-    (record slave_values { lengths = four_and_six; rule = rule.Any 1; acceptable = refl })
+    (record slave_values { lengths = four_and_six; rule = app_rule.Any 1; acceptable = refl })
     (pm (codes "01020304") ∷ tm ∷ rounds 6))
 
 -- the row that applies to a frame after the first n of a handshake with data

@@ -2,7 +2,7 @@
 ghost use Rattle.std.specs.Prelude.{◌≡◌, ◌<◌, IfOk, MatchResult, OnErr, OnOk, Ok, Err};
 ghost use Rattle.schedule_file.specs.FieldsRead.{fields_after, Becomes};
 ghost use Rattle.schedule_file.specs.HeaderLine.{lengths_line};
-ghost use Rattle.trace_diag.specs.Lines.{heading_new, trace_heading_after, trace_is_whole};
+ghost use Rattle.trace_diag.specs.Lines.{trace_heading_new, trace_heading_after, trace_is_whole};
 ghost use Rattle.trace_diag.specs.LinesLeft.{trace_lines_left};
 ghost use Rattle.trace_diag.specs.Report.{AreLengths};
 
@@ -58,7 +58,7 @@ fn read_lengths(fields: Option<&[u8]>) -> Result<Lengths, LineCause>
 impl TraceHeader {
     /// A header of which no line is read.
     pub fn new() -> TraceHeader
-        ensures { result ≡ heading_new }
+        ensures { result ≡ trace_heading_new }
     {
         match Lengths::new(1, 1) {
             Ok(lengths) => TraceHeader {

@@ -11,7 +11,7 @@ ghost use Rattle.trace_diag.specs.Kept.{chain_after, connection_with, conn_with,
 ghost use Rattle.trace_diag.specs.Settings.{settings_by, word_if};
 ghost use Rattle.trace_diag.specs.Table.{crcs_due, field_by, first_differing, frame_field};
 ghost use Rattle.trace_diag.specs.Table as rows;
-ghost use Rattle.trace_diag.specs.Trace.{piece_len};
+ghost use Rattle.trace_diag.specs.Trace.{trace_piece_len};
 
 use crate::field::Field;
 use crate::rows::{conn_holds, is_of, number_at, wrong_crc, wrong_in_echo, wrong_in_piece};
@@ -119,7 +119,7 @@ impl Known {
         room: &mut Room,
     ) -> Option<Field>
         ensures field { result ≡ field_by lengths self.old (record { from = from; frame = frame.now }) }
-        ensures kept { result ≡ None → self.new ≡ kept_from (piece_len lengths) self.old from (frame_of (length_of lengths from) frame.now) }
+        ensures kept { result ≡ None → self.new ≡ kept_from (trace_piece_len lengths) self.old from (frame_of (length_of lengths from) frame.now) }
     {
         if !is_same(from, self.turn) {
             return Some(Field::Turn);

@@ -1,6 +1,6 @@
 //! Runs of a plant over channels that are handed in. Its application answers zeros.
 ghost use Rattle.std.specs.Prelude.{◌≡◌, None, codes};
-ghost use Rattle.black_channel.specs.Told.{Told};
+ghost use Rattle.black_channel.specs.Told.{ChannelTold};
 
 use black_channel::{Channel, ListChannel, Parcel, PerfectChannel, Place};
 use fb_net::{KindOf, Zeros};

@@ -1,5 +1,5 @@
 -- The schedule of number 0 is honest.
-use Rattle.duo_run.proofs.Common.{All-cons, All-nil, End, Entry, Event, HasNoReset, IsHonest, IsProperEvent, Serves, TakesDelivery, entries_of, entry_at, event_in_turn, honest_serves, if_on, in_turn, is_plain, keeps_time, list_all, made, made_master, made_slave, peer}
+use Rattle.duo_run.proofs.Common.{All-cons, All-nil, End, Entry, Event, HasNoReset, IsHonest, IsProperEvent, Serves, TakesDelivery, bulk_entries, entry_at, event_in_turn, honest_serves, if_on, in_turn, is_plain, keeps_time, list_all, made, made_master, made_slave, peer}
 use Rattle.std.proofs.Common.{◌≡◌, ℕ, zero, suc, List, [], ◌∷◌, ◌++◌, true, Some, None, All, refl, sym, ap, ap₂, subst, ◌∙◌, arith, rules}
 use Rattle.fsoe_base.specs.declared.command.End.TheVariants as end_name
 use Rattle.schedule_file.specs.declared.event.Event.TheVariants as event
@@ -60,7 +60,7 @@ honest : (n : ℕ) → IsHonest made_master made_slave (event.Tick end_name.Mast
 honest n = record { plain = plain end_name.Slave n; turns = turns end_name.Slave n; begun = refl; time = timely end_name.Slave n _ }
 
 -- before the first event nothing happened
-serves : (n : ℕ) → Serves made_master (made 0 n) (entries_of 0 n)
+serves : (n : ℕ) → Serves made_master (made 0 n) (bulk_entries 0 n)
 serves zero = record {
   whole = refl;
   no_other = refl;
@@ -72,5 +72,5 @@ serves zero = record {
 serves (suc n) = search (rules, honest_serves, events_of_zero, All-cons, proper, honest)
 
 -- number 0 serves
-pub zero_serves : (number events : ℕ) → number ≡ 0 → Serves made_master (made number events) (entries_of number events)
-zero_serves number events is = subst (λ (number : ℕ). Serves made_master (made number events) (entries_of number events)) (sym is) (serves events)
+pub zero_serves : (number events : ℕ) → number ≡ 0 → Serves made_master (made number events) (bulk_entries number events)
+zero_serves number events is = subst (λ (number : ℕ). Serves made_master (made number events) (bulk_entries number events)) (sym is) (serves events)

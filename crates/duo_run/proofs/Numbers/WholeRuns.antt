@@ -1,5 +1,5 @@
 -- No event of a number names a frame that wasn't sent, so each has its entry.
-use Rattle.duo_run.proofs.Common.{End, Entry, Event, Move, altered, altered_delivery, deeds, delivery, end_of_event, entries_of, entry_at, entry_on, event_at, event_by, frames_of, is_switch_on, load_of, made, made_master, made_slave, mask_of, move_from, next_entry, peer, place_of, setup_of, word_after, world_next}
+use Rattle.duo_run.proofs.Common.{End, Entry, Event, Move, altered, altered_delivery, deeds, delivery, end_of_event, bulk_entries, entry_at, entry_on, event_at, event_by, frames_of, is_switch_on, load_of, made, made_master, made_slave, mask_of, move_from, next_entry, peer, altered_place, setup_of, word_after, world_next}
 use Rattle.std.proofs.Common.{◌≡◌, ℕ, zero, suc, ◌-◌, ◌≤◌, ◌/◌, ◌%◌, ◌^◌, List, [], ◌∷◌, length, Bool, if◌then◌else◌, Some, refl, sym, ap, ◌∙◌, length-append, arith, rules}
 use Rattle.fsoe_base.specs.declared.command.End.TheVariants as end_name
 use Rattle.fsoe_crc.specs.Remainder.{computing}
@@ -53,8 +53,8 @@ word_goes w rest word two =
     (choose w _ _ _ (goes_by w (event.Tick end_name.Slave) move.Tick refl)
     (choose w _ _ _ (older_goes w end_name.Slave two)
     (choose w _ _ _ (older_goes w end_name.Master two)
-    (choose w _ _ _ (altered_goes w end_name.Slave (place_of word) (mask_of word) two)
-    (choose w _ _ _ (altered_goes w end_name.Master (place_of word) (mask_of word) two)
+    (choose w _ _ _ (altered_goes w end_name.Slave (altered_place word) (mask_of word) two)
+    (choose w _ _ _ (altered_goes w end_name.Master (altered_place word) (mask_of word) two)
     (choose w _ _ _ (goes_by w (event.Put end_name.Master (load_of word)) (move.Put (load_of word)) refl)
     (choose w _ _ _ (goes_by w (event.Put end_name.Slave (load_of word)) (move.Put (load_of word)) refl)
     (choose w _ _ _ (goes_by w (event.Hold end_name.Master (is_switch_on word)) (move.Hold (is_switch_on word)) refl)
@@ -70,27 +70,27 @@ later_goes number place w two =
     (word_goes w (word_after number (place - 5) % 64) (word_after number (place - 5)) two)
 
 -- the first four events, after which both ends sent two frames
-second_goes : (number : ℕ) → Goes (entries_of number 1) (event_at number 2)
+second_goes : (number : ℕ) → Goes (bulk_entries number 1) (event_at number 2)
 unfolding computing
-second_goes number = let one : length (frames_of end_name.Master (entries_of number 1)) ≡ 1 = refl in last_goes (entries_of number 1) end_name.Slave (omega (arith, one))
+second_goes number = let one : length (frames_of end_name.Master (bulk_entries number 1)) ≡ 1 = refl in last_goes (bulk_entries number 1) end_name.Slave (omega (arith, one))
 
-third_goes : (number : ℕ) → Goes (entries_of number 2) (event_at number 3)
+third_goes : (number : ℕ) → Goes (bulk_entries number 2) (event_at number 3)
 unfolding computing
-third_goes number = let one : length (frames_of end_name.Slave (entries_of number 2)) ≡ 1 = refl in last_goes (entries_of number 2) end_name.Master (omega (arith, one))
+third_goes number = let one : length (frames_of end_name.Slave (bulk_entries number 2)) ≡ 1 = refl in last_goes (bulk_entries number 2) end_name.Master (omega (arith, one))
 
-fourth_goes : (number : ℕ) → Goes (entries_of number 3) (event_at number 4)
+fourth_goes : (number : ℕ) → Goes (bulk_entries number 3) (event_at number 4)
 unfolding computing
-fourth_goes number = let two : length (frames_of end_name.Master (entries_of number 3)) ≡ 2 = refl in last_goes (entries_of number 3) end_name.Slave (omega (arith, two))
+fourth_goes number = let two : length (frames_of end_name.Master (bulk_entries number 3)) ≡ 2 = refl in last_goes (bulk_entries number 3) end_name.Slave (omega (arith, two))
 
-next_goes : (number count : ℕ) → (4 ≤ count → SentTwo (entries_of number count)) → Goes (entries_of number count) (event_at number (suc count))
+next_goes : (number count : ℕ) → (4 ≤ count → SentTwo (bulk_entries number count)) → Goes (bulk_entries number count) (event_at number (suc count))
 next_goes number zero two = goes_by [] (event.Tick end_name.Master) move.Tick refl
 next_goes number (suc zero) two = second_goes number
 next_goes number (suc (suc zero)) two = third_goes number
 next_goes number (suc (suc (suc zero))) two = fourth_goes number
 next_goes number (suc (suc (suc (suc count)))) two = later_goes number (suc (suc (suc (suc (suc count))))) _ (two (omega arith))
 
-two_more : (number count : ℕ) (x : Entry) → (4 ≤ count → SentTwo (entries_of number count)) → entries_of number (suc count) ≡ x ∷ entries_of number count
-    → 4 ≤ suc count → SentTwo (entries_of number (suc count))
+two_more : (number count : ℕ) (x : Entry) → (4 ≤ count → SentTwo (bulk_entries number count)) → bulk_entries number (suc count) ≡ x ∷ bulk_entries number count
+    → 4 ≤ suc count → SentTwo (bulk_entries number (suc count))
 two_more number count x h k l = search rules
 
 -- so many events are made
@@ -100,15 +100,15 @@ length-made number (suc count) = length-append (made number count) (event_at num
 
 -- the run is whole so far
 pub record Whole (number count : ℕ) : Type 0 where
-  pub each : length (entries_of number count) ≡ count
-  pub two : 4 ≤ count → SentTwo (entries_of number count)
+  pub each : length (bulk_entries number count) ≡ count
+  pub two : 4 ≤ count → SentTwo (bulk_entries number count)
 
 -- and goes on
-pub entry_goes : (number count : ℕ) → Whole number count → Goes (entries_of number count) (event_at number (suc count))
+pub entry_goes : (number count : ℕ) → Whole number count → Goes (bulk_entries number count) (event_at number (suc count))
 entry_goes number count whole = next_goes number count whole.two
 
-pub entries_more : (number count : ℕ) (x : Entry) → Whole number count → entry_at made_master made_slave (entries_of number count) (event_at number (suc count)) ≡ Some x
-    → entries_of number (suc count) ≡ x ∷ entries_of number count
+pub entries_more : (number count : ℕ) (x : Entry) → Whole number count → entry_at made_master made_slave (bulk_entries number count) (event_at number (suc count)) ≡ Some x
+    → bulk_entries number (suc count) ≡ x ∷ bulk_entries number count
 entries_more number count x whole next =
     world_next made_master made_slave (made number count) (event_at number (suc count)) x (whole.each ∙ sym (length-made number count)) next
 
@@ -116,6 +116,6 @@ pub is_whole : (number count : ℕ) → Whole number count
 is_whole number zero = record { each = refl; two = λ late. absurd (omega (arith, late)) }
 is_whole number (suc count) =
     let whole : Whole number count = is_whole number count in
-    let goes : Goes (entries_of number count) (event_at number (suc count)) = entry_goes number count whole in
-    let more : entries_of number (suc count) ≡ goes.entry ∷ entries_of number count = entries_more number count goes.entry whole goes.next in
+    let goes : Goes (bulk_entries number count) (event_at number (suc count)) = entry_goes number count whole in
+    let more : bulk_entries number (suc count) ≡ goes.entry ∷ bulk_entries number count = entries_more number count goes.entry whole goes.next in
     record { each = ap length more ∙ ap suc whole.each; two = two_more number count goes.entry whole.two more }

@@ -1,5 +1,5 @@
 -- An input has one report of both ends: its header says all that they are set to, and no more than they may be set to.
-use Rattle.duo_run.proofs.Common.{AreEntries, Ended, Entry, Event, Heading, IfSome, Input, IsMasterOf, IsSlaveOf, MasterSettings, None, Option, ReplayReports, SlaveSettings, Some, ended_at, entry_lines, gives_master, gives_slave, input_of, last_lines, one_master, one_slave, run_stop, world}
+use Rattle.duo_run.proofs.Common.{AreEntries, Ended, Entry, Event, Heading, IfSome, Input, IsMasterOf, IsSlaveOf, MasterSettings, None, Option, ReplayReports, SlaveSettings, Some, pair_ended_at, entry_lines, gives_master, gives_slave, input_of, last_lines, one_master, one_slave, run_stop, world}
 use Rattle.std.proofs.Common.{◌≡◌, ℕ, List, [], ◌++◌, refl, ap, ◌∙◌, sym}
 use Rattle.schedule_file.specs.declared.header_kind.HeaderKind.TheVariants as kind
 
@@ -21,4 +21,4 @@ some_replay bytes =
     let input : Input = input_of kind.Pair bytes in
     let run = some_entries input.heading input.events (gives_master kind.Pair bytes) (gives_slave kind.Pair bytes) in
     let w : List Entry = run.0 in
-    (entry_lines w ++ last_lines w (run_stop input w), ended_at w (run_stop input w), (w, run.1, refl, refl))
+    (entry_lines w ++ last_lines w (run_stop input w), pair_ended_at w (run_stop input w), (w, run.1, refl, refl))

@@ -1,5 +1,5 @@
 -- A pair does over its events what a world says, and reports it.
-use Rattle.duo_run.proofs.Common.{Advances, AreSetTo, AtEnd, Did, DuoStands, DuoView, End, Ended, EndsReport, EndsUnmet, EndsWhole, Entry, Event, Fits, Heading, Input, MasterSettings, MayCome, Misses, NextEntry, NoFrame, None, Option, Profile, Refused, ReplayReports, ReplayStands, ReportsSoFar, ShowsLast, SlaveSettings, Some, State, Stop, TakesEvent, codes, decimal, end_of_event, ended_at, ended_with, entry_at, entry_line, entry_lines, events_line, first_other, heading_profile, input_stopped, last_lines, length-append, length_of, length_push, lengths_of, number_of_first, other_line, own_length, pair_event_fits, profile_of, profiles_of, refused_line, replay_reporting, run_stop, schedule_format, steps_done, told_line, world, world_missed, world_next}
+use Rattle.duo_run.proofs.Common.{Advances, AreSetTo, AtEnd, Did, DuoStands, DuoView, End, Ended, EndsReport, EndsUnmet, EndsWhole, Entry, Event, Fits, Heading, Input, MasterSettings, MayCome, Misses, NextEntry, NoFrame, None, Option, Profile, Refused, ReplayReports, ReplayStands, ReportsSoFar, ShowsLast, SlaveSettings, Some, State, Stop, TakesEvent, codes, decimal, end_of_event, pair_ended_at, ended_with, entry_at, entry_line, entry_lines, events_line, first_other, heading_profile, input_stopped, last_lines, length-append, length_of, length_push, lengths_of, number_of_first, other_line, own_length, pair_event_fits, profile_of, profiles_of, refused_line, replay_reporting, run_stop, schedule_format, steps_done, told_line, world, world_missed, world_next}
 use Rattle.std.proofs.Common.{◌≡◌, ◌<◌, ℕ, ◌+◌, ◌^◌, true, List, [], ◌∷◌, ◌++◌, length, refl, arith, ap, ◌∙◌, sym, subst, append_assoc, rules}
 use Rattle.schedule_file.specs.declared.header_kind.HeaderKind.TheVariants as kind
 use Rattle.duo_run.proofs.Pair.EntryLines.{lines_begin}
@@ -69,13 +69,13 @@ stops_before : (input : Input) (w : List Entry) → (length w ≡ length input.e
 stops_before input w h = grind arith
 
 -- the lines so far begin the report, and with a last line they are that of an input that stops after them
-pair_stopped : (v : DuoView) (h : Heading) (n : ℕ) (log : List Event) (text : List ℕ) (stop : Stop) (k : ReplayStands v h log text) → ReplayReports (input_stopped h n log stop) (ended_at k.entries stop) (text ++ last_lines k.entries stop)
+pair_stopped : (v : DuoView) (h : Heading) (n : ℕ) (log : List Event) (text : List ℕ) (stop : Stop) (k : ReplayStands v h log text) → ReplayReports (input_stopped h n log stop) (pair_ended_at k.entries stop) (text ++ last_lines k.entries stop)
 pair_stopped v h n log text stop k =
     let stops : run_stop (input_stopped h n log stop) k.entries ≡ stop = stops_with (input_stopped h n log stop) k.entries k.whole in (
       k.entries,
       (k.ms, k.ss, k.set, k.is_world),
       ap (λ (z : List ℕ). z ++ last_lines k.entries stop) k.lines ∙ ap (λ (s : Stop). entry_lines k.entries ++ last_lines k.entries s) (sym stops),
-      ap (ended_at k.entries) (sym stops),
+      ap (pair_ended_at k.entries) (sym stops),
     )
 
 pub pair_so_far : (v : DuoView) (h : Heading) (log : List Event) (text : List ℕ) → ReplayStands v h log text → ReportsSoFar replay_reporting h log text
@@ -85,7 +85,7 @@ pair_so_far v h log text k = record {
       let stops : Stop = run_stop (input_stopped h n (log ++ more) stop) all in
       let begun = lines_begin k.ms k.ss log more (told_whole v h log text k) in (
         entry_lines all ++ last_lines all stops,
-        ended_at all stops,
+        pair_ended_at all stops,
         (all, (k.ms, k.ss, k.set, refl), refl, refl),
         (
           begun.0 ++ last_lines all stops,
@@ -113,7 +113,7 @@ pair_unsent v event misses h log text k = λ n more stop.
       w,
       (k.ms, k.ss, k.set, ends),
       ap (λ (z : List ℕ). z ++ refused_line number NoFrame) k.lines ∙ ap (λ (s : Stop). entry_lines w ++ last_lines w s) (sym stops),
-      ap (ended_at w) (sym stops),
+      ap (pair_ended_at w) (sym stops),
     )
 
 -- the line `end` comes

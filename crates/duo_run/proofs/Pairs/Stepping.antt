@@ -1,6 +1,6 @@
 -- Several pairs go on with the next event of all.
 use Rattle.duo_run.proofs.Common.{AllStandOver, AllZip-long, CanStep, DuoView, EndsUnmet, Entry, Event, IsPairOf, MayCome, Misses, NoFrame, None, NotesOthers, Option, Pair, PairsEvent, PairsHeading, PairsStand, Some, StandsOver, TellsNext, Ticks, append-nil, entries_by, entries_over, entry_after, eqb-false, eqb-true, event_lines, events_by, events_to, is_met, is_met_by, is_some, length-append, length-set, length_push, line_if, lines_of_events, numbered, one_line, pairs_format, pairs_of, pairs_reporting, same_Some, slice_get_within, steps_done, tick_lines, with_tick}
-use Rattle.duo_run.specs.PairsReport.{pair_line}
+use Rattle.duo_run.specs.PairsReport.{pair_entry_line}
 use Rattle.schedule_file.specs.PairsInput.{entries_of}
 use Rattle.std.proofs.Common.{◌≡◌, ◌≤◌, ◌<◌, ◌+◌, ◌*◌, ◌^◌, ℕ, suc, Bool, true, false, List, [], ◌∷◌, ◌++◌, length, slice_get, slice_set, refl, arith, ap, sym, subst, ◌∙◌, append_assoc, rules}
 use Rattle.std.specs.Prelude.{if◌then◌else◌, ◌==◌}
@@ -104,7 +104,7 @@ stand_one pairs past old new pair place own p after e p-at is new-at stand goes 
     (subst (λ (own : List Event). StandsOver q own v) (sym (append-nil (events_to k past))) (stand.each k q v q-at v-old))
 
 -- its line is that of the event
-one_lines : (pairs : List Pair) (past : List PairsEvent) (n k : ℕ) (own : Event) (p : Pair) (x : Entry) → numbered k pairs ≡ Some p → entry_after p (events_to k past) own ≡ Some x → event_lines n pairs past (common.One k own) ≡ pair_line n k x
+one_lines : (pairs : List Pair) (past : List PairsEvent) (n k : ℕ) (own : Event) (p : Pair) (x : Entry) → numbered k pairs ≡ Some p → entry_after p (events_to k past) own ≡ Some x → event_lines n pairs past (common.One k own) ≡ pair_entry_line n k x
 one_lines pairs past n k own p x at next = ap (one_line n k past own) at ∙ ap (line_if n k) next
 
 one_met : (pairs : List Pair) (past : List PairsEvent) (k : ℕ) (own : Event) (p : Pair) (next : Option Entry) → numbered k pairs ≡ Some p → entry_after p (events_to k past) own ≡ next → is_met pairs past (common.One k own) ≡ is_some next

@@ -1,5 +1,5 @@
 -- The frames that an end sends: how they begin, and what they carry.
-use Rattle.exchange_model.proofs.Common.{Command, Deed, IsRun, MasterSettings, OfMaster, OfSlave, Setup, SlaveSettings, Taking, answer_is, command_byte, command_in, command_of, conn_id, connection_payload, download_frame, frame_of, held, is_data, is_guarded, length-replicate, length-take, offer, offer_len, one_byte, padded, padded_len, pairs, parameter_payload, pay, phase_of, phase_of_frame, phase_of_known, piece, piece_len, pieces, read_back, received, sealed, sends, session_id, since, slave_answer, with_data, with_piece}
+use Rattle.exchange_model.proofs.Common.{Command, Deed, IsRun, MasterSettings, OfMaster, OfSlave, Setup, SlaveSettings, Taking, answer_is, command_byte, command_in, command_of, conn_id, connection_payload, download_frame, frame_of, held, is_data, is_guarded_command, length-replicate, length-take, offer, offer_len, one_byte, padded, padded_len, pairs, parameter_payload, pay, phase_of, phase_of_frame, phase_of_known, piece, piece_len, pieces, read_back, received, sealed_next, sends, session_id, since, slave_answer, with_data, with_piece}
 use Rattle.std.proofs.Common.{◌≡◌, ◌≢◌, ℕ, ◌≤◌, List, [], ◌∷◌, length, take, replicate, Bool, true, false, Some, ◌==◌, if◌then◌else◌, refl, sym, ap, subst, ◌∙◌, arith}
 use Rattle.fsoe_base.specs.declared.command.Command.TheVariants as command
 
@@ -40,8 +40,8 @@ pub phase_framed : (l : ℕ) (c : Command) (load f : List ℕ) → IsFrame l c l
 phase_framed l c load f h = phase_by f c (command_framed l c load f h)
 
 -- the next frame of a session
-pub sealed_frame : (s : Setup) (e : List Deed) (c : Command) (load : List ℕ) → length load ≡ sends s → IsFrame (sends s) c load (sealed s e c load)
-sealed_frame s e c load h = record { rest = _; is = refl; carries = ap (λ f. f.load) (read_back s (since e) (if is_guarded c then conn_id s e else 0) c load h) }
+pub sealed_frame : (s : Setup) (e : List Deed) (c : Command) (load : List ℕ) → length load ≡ sends s → IsFrame (sends s) c load (sealed_next s e c load)
+sealed_frame s e c load h = record { rest = _; is = refl; carries = ap (λ f. f.load) (read_back s (since e) (if is_guarded_command c then conn_id s e else 0) c load h) }
 
 pub piece_frame : (s : Setup) (e : List Deed) (c : Command) (p : List ℕ) → length p ≤ sends s → IsFrame (sends s) c (padded p (sends s)) (with_piece s e c p)
 piece_frame s e c p h = sealed_frame s e c (padded p (sends s)) (padded_len p (sends s) h)
@@ -59,7 +59,7 @@ pub data IsData (s : Setup) (e : List Deed) (f : List ℕ) : Type 0 where
   Offers : held e ≡ false → IsFrame (sends s) command.ProcessData (offer s e) f → IsData s e f
 
 data-head : (s : Setup) (e : List Deed) (h : Bool) → length (offer s e) ≡ sends s → held e ≡ h
-    → IsData s e (if h then sealed s e command.FailSafeData (replicate (sends s) 0) else sealed s e command.ProcessData (offer s e))
+    → IsData s e (if h then sealed_next s e command.FailSafeData (replicate (sends s) 0) else sealed_next s e command.ProcessData (offer s e))
 data-head s e true k h = Zeros h (sealed_frame s e command.FailSafeData (replicate (sends s) 0) (length-replicate (sends s) 0))
 data-head s e false k h = Offers h (sealed_frame s e command.ProcessData (offer s e) k)
 

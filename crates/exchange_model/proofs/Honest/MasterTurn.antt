@@ -1,5 +1,5 @@
 -- A master takes the answer that is on its way, and sends the next frame.
-use Rattle.exchange_model.proofs.Common.{Command, Deed, Frame, IsValid, MasterSettings, OfMaster, State, after_phase, answer, command_of, connection_payload, contents, count_in, download_frame, has_conn, held, id_sent, is_echo, is_reset, length-replicate, ltb-false, ltb-true, master_allows, nonce, offer, option_or, own, padded, padded_len, parameter_payload, phase_of, piece, pieces, pieces_for, received, seal, sealed, session_id, session_payload, since, with_data}
+use Rattle.exchange_model.proofs.Common.{Command, Deed, Frame, IsValid, MasterSettings, OfMaster, State, after_phase, answer, command_of, connection_payload, contents, count_in, download_frame, has_conn, held, id_sent, is_echo, is_reset, length-replicate, ltb-false, ltb-true, master_allows, nonce, offer, option_or, own, padded, padded_len, parameter_payload, phase_of, piece, pieces, pieces_for, received, seal, sealed_next, session_id, session_payload, since, with_data}
 use Rattle.std.proofs.Common.{◌≡◌, ℕ, suc, ◌+◌, ◌<◌, ◌≤◌, nat_lt, List, [], ◌∷◌, length, replicate, Bool, true, false, Some, None, if◌then◌else◌, refl, sym, ap, ap₂, subst, ◌∙◌, arith, unwrap_or, rules}
 use Rattle.fsoe_base.specs.declared.command.State.TheVariants as state
 use Rattle.fsoe_base.specs.declared.command.Command.TheVariants as command
@@ -72,7 +72,7 @@ data-next ms id e g c load p a b d m true long t t' h =
       in_session = refl;
       turn = t;
       long = length-replicate ms.lengths.master 0;
-      is = ap (λ (b : Bool). if b then sealed (OfMaster ms) (received g c load e) command.FailSafeData (replicate ms.lengths.master 0) else sealed (OfMaster ms) (received g c load e) command.ProcessData (offer (OfMaster ms) e)) h;
+      is = ap (λ (b : Bool). if b then sealed_next (OfMaster ms) (received g c load e) command.FailSafeData (replicate ms.lengths.master 0) else sealed_next (OfMaster ms) (received g c load e) command.ProcessData (offer (OfMaster ms) e)) h;
       carries = (refl, zeros_all ms.lengths.master);
     }
 data-next ms id e g c load p a b d m false long t t' h =

@@ -1,6 +1,6 @@
 -- A sealed frame on its way from one end to the other, whose chains agree. s sends it, r receives it, and u and v are
 -- the deeds of both in their sessions.
-use Rattle.exchange_model.proofs.Common.{Command, Deed, IsOtherThanNewest, NeighboursDiffer, Setup, command_byte, common_steps, count_crcs, count_groups, fits, frame_len, frame_of, groups, has_command, is_reset, kept, newest_crc, own, own_link, read_back, receives, seal, sends, taken, taken_link, takes_frame, with_crcs}
+use Rattle.exchange_model.proofs.Common.{Command, Deed, IsOtherThanNewest, NeighboursDiffer, Setup, command_byte, common_steps, count_crcs, count_groups, fits_session, frame_len, frame_of, groups, has_command, is_reset, kept, newest_crc, own, own_link, read_back, receives, seal, sends, taken, taken_link, takes_frame, with_crcs}
 use Rattle.std.proofs.Common.{◌≡◌, ◌≢◌, ℕ, ◌+◌, ◌*◌, List, [], ◌∷◌, length, true, false, Option, Some, None, refl, sym, ap, ap₂, subst, ◌∙◌, arith, rules}
 use Rattle.fsoe_base.specs.declared.command.Command.TheVariants as command
 use Rattle.seq_chain.specs.declared.link.Link.{Link}
@@ -47,7 +47,7 @@ abbrev pub OnItsWay : Setup → Setup → List Deed → List Deed → ℕ → Co
 OnItsWay s r u v conn c load f = IsBetween s r (chained s u) (chained r v) conn c load f
 
 -- the frame passes the test of its CRCs
-pub fits_on : (s r : Setup) (u v : List Deed) (conn : ℕ) (c : Command) (load f : List ℕ) → sends s ≡ receives r → OnItsWay s r u v conn c load f → fits r v (frame_of (receives r) f) ≡ true
+pub fits_on : (s r : Setup) (u v : List Deed) (conn : ℕ) (c : Command) (load f : List ℕ) → sends s ≡ receives r → OnItsWay s r u v conn c load f → fits_session r v (frame_of (receives r) f) ≡ true
 fits_on s r u v conn c load f h k = search rules
 
 -- the bytes of a frame

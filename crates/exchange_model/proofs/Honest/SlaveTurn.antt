@@ -1,6 +1,6 @@
 -- A slave takes the master's frame that is on its way, and answers it: the frame passes all tests, and what the slave
 -- took after it tells the answer that it seals.
-use Rattle.exchange_model.proofs.Common.{Command, Deed, Frame, IsValid, MasterSettings, OfMaster, State, all_zero, allows, answer, code, command_byte, command_of, common_steps, conn_id, connection_payload, contents, contents_fault, count_in, eq-eqb, frame_of, has_conn, held, id_len, id_piece, is_padded, is_reset, joined, length-replicate, number_at, offer, padded, parameter_payload, phase_of, piece, pieces_for, received, rule_len, seal, sealed, session_id, session_payload, since, slave_allows, taken, whole, with_data}
+use Rattle.exchange_model.proofs.Common.{Command, Deed, Frame, IsValid, MasterSettings, OfMaster, State, all_zero, allows, answer, code, command_byte, command_of, common_steps, conn_id, connection_payload, contents, contents_fault, count_in, eq-eqb, frame_of, has_conn, held, id_len, id_piece, is_padded, is_reset, joined, length-replicate, number_at, offer, padded, parameter_payload, phase_of, piece, pieces_for, received, rule_len, seal, sealed_next, session_id, session_payload, since, slave_allows, taken, whole, with_data}
 use Rattle.std.proofs.Common.{◌≡◌, ℕ, suc, ◌+◌, ◌*◌, ◌<◌, ◌≤◌, nat_le, List, ◌++◌, length, take, drop, true, false, not, Some, None, if◌then◌else◌, refl, sym, ap, ap₂, subst, ◌∙◌, arith, [], ◌∷◌, replicate, Bool, rules}
 use Rattle.std.proofs.lemmas.Bool.Decides.{nat_tests}
 use Rattle.fsoe_base.specs.declared.command.State.TheVariants as state
@@ -156,7 +156,7 @@ data-reply ms r id e f load c a b d true n p is conn long h =
       in_session = refl;
       same = sym p;
       long = length-replicate ms.lengths.slave 0;
-      is = is ∙ ap (λ (b : Bool). if b then sealed (slave_of ms r) (received f c load e) command.FailSafeData (replicate ms.lengths.slave 0) else sealed (slave_of ms r) (received f c load e) command.ProcessData (offer (slave_of ms r) e)) h;
+      is = is ∙ ap (λ (b : Bool). if b then sealed_next (slave_of ms r) (received f c load e) command.FailSafeData (replicate ms.lengths.slave 0) else sealed_next (slave_of ms r) (received f c load e) command.ProcessData (offer (slave_of ms r) e)) h;
       replies = (conn, zeros_all ms.lengths.slave);
     }
 data-reply ms r id e f load c a b d false n p is conn long h =

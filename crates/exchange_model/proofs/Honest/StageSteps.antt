@@ -1,6 +1,6 @@
 -- Each delivery of an honest run brings the next stage: of a Reset frame, and of a frame of a session, which its
 -- receiver answers.
-use Rattle.exchange_model.proofs.Common.{Command, Deed, End, Entry, Event, Frame, HasNoReset, IsNext, IsNextEntry, IsProper, IsRun, IsValid, IsWorld, Item, MasterSettings, NeighboursDiffer, OfMaster, Setup, State, TakesDataAfter, TakesDelivery, answer, answer_among, bytes_decides, data_taken, deeds, delivery, entry_at, entry_of, entry_on, exchanges, frame_of, has_bytes, has_command, id_len, is_guarded, is_other, is_reset, items, newest, number_if, offer_len, own, padded, phase_of, phase_sent, piece, received, reset_frame, same_phase, seal, sends, session_id, session_payload, setup_of, since, step}
+use Rattle.exchange_model.proofs.Common.{Command, Deed, End, Entry, Event, Frame, HasNoReset, IsNext, IsNextEntry, IsProper, IsRun, IsValid, IsWorld, Item, MasterSettings, NeighboursDiffer, OfMaster, Setup, State, TakesDataAfter, TakesDelivery, answer, answer_among, bytes_decides, data_taken, deeds, delivery, entry_at, entry_of, entry_on, exchanges, frame_of, has_bytes, has_command, id_len, is_guarded_command, is_other, is_reset, items, newest, number_if, offer_len, own, padded, phase_of, phase_sent, piece, received, reset_frame, same_phase, seal, sends, session_id, session_payload, setup_of, since, step}
 use Rattle.black_channel.specs.Altered.{back_th}
 use Rattle.std.proofs.Common.{◌≡◌, ℕ, suc, List, [], ◌∷◌, length, Bool, true, false, not, ◌&&◌, Some, None, if◌then◌else◌, refl, sym, ap, ◌∙◌, is_some, ◌≢◌, ◌+◌, ◌<◌, subst, arith, rules}
 use Rattle.fsoe_base.specs.declared.command.End.TheVariants as end_name
@@ -42,7 +42,7 @@ number-found : (f : List ℕ) (i : Item) → i.bytes ≡ f → number_if f (Some
 number-found f i h = ap (λ b. if b then Some i.number else None) ((bytes_decides i.bytes f).1 h)
 
 -- the number of the item that is taken: the newest of the peer, whatever its command
-pub taken_number : (mine theirs : List Item) (f : List ℕ) (c : Command) (h : NewestAnswers mine theirs f) → number_if f (if is_guarded c then answer_among mine (newest theirs) else newest mine) ≡ Some h.newest.item.number
+pub taken_number : (mine theirs : List Item) (f : List ℕ) (c : Command) (h : NewestAnswers mine theirs f) → number_if f (if is_guarded_command c then answer_among mine (newest theirs) else newest mine) ≡ Some h.newest.item.number
 taken_number mine theirs f c h = search rules
 
 pub none_other : (a b : Bool) (mine theirs : List Item) (f : List ℕ) → NewestAnswers mine theirs f → (a && b && not (has_bytes f (answer_among mine (newest theirs)))) ≡ false

@@ -1,5 +1,5 @@
 -- Each entry of a world that isn't other keeps what both ends' items say of one another.
-use Rattle.exchange_model.proofs.Common.{AfterConnection, AfterSession, Answers, Command, Deed, Did, End, Entry, Expires, IsInSession, IsNextEntry, IsReaction, IsRun, IsValid, IsWorld, Item, MasterFirstData, MasterGoesOn, MasterMoreData, MasterNextPhase, MasterSettings, MasterStarts, Move, NoOther, OfConnection, OfMaster, OfParameter, OfSession, OfSlave, PeerResets, Reaction, Refuses, ResetsItself, SameLengths, SendsAgain, Setup, SlaveSettings, State, Taking, answer_is, answer_sent, command_in, deed_in, deeds, entry_of, exchange_of, is_empty, is_guarded, is_other, item_of, items, items_of, newest, number_if, own, phase_of, phase_of_frame, phase_sent, piece_len, received, receives, reset_frame, sends, setup_of, since, slave_allows, state_of, takes_frame, uploaded}
+use Rattle.exchange_model.proofs.Common.{AfterConnection, AfterSession, Answers, Command, Deed, Did, End, Entry, Expires, IsInSession, IsNextEntry, IsReaction, IsRun, IsValid, IsWorld, Item, MasterFirstData, MasterGoesOn, MasterMoreData, MasterNextPhase, MasterSettings, MasterStarts, Move, NoOther, OfConnection, OfMaster, OfParameter, OfSession, OfSlave, PeerResets, Reaction, Refuses, ResetsItself, SameLengths, SendsAgain, Setup, SlaveSettings, State, Taking, answer_is, answer_sent, command_in, deed_in, deeds, entry_of, exchange_of, is_empty, is_guarded_command, is_other, item_of, items, items_of, newest, number_if, own, phase_of, phase_of_frame, phase_sent, piece_len, received, receives, reset_frame, sends, setup_of, since, slave_allows, state_of, takes_frame, uploaded}
 use Rattle.std.proofs.Common.{◌≡◌, ◌≢◌, ℕ, List, [], ◌∷◌, length, Bool, true, false, Option, Some, None, refl, sym, ap, subst, ◌∙◌, arith, rules}
 use Rattle.fsoe_base.specs.declared.command.End.TheVariants as end_name
 use Rattle.fsoe_base.specs.declared.command.State.TheVariants as state
@@ -44,7 +44,7 @@ newest-answered : (w : List Entry) (bytes : List ℕ) (n : ℕ) (o : Option ℕ)
 newest-answered w bytes n o h e = newest_is n bytes (items_of end_name.Slave (items w)) (numbered end_name.Slave w) (sym h ∙ e)
 
 -- a frame of the session id has no place to keep
-session-placed : (ms : MasterSettings) (ss : SlaveSettings) (w : List Entry) (bytes load : List ℕ) (c : Command) (f given : List ℕ) → IsFrame (sends (OfMaster ms)) command.Session given f → is_guarded c ≡ false
+session-placed : (ms : MasterSettings) (ss : SlaveSettings) (w : List Entry) (bytes load : List ℕ) (c : Command) (f given : List ℕ) → IsFrame (sends (OfMaster ms)) command.Session given f → is_guarded_command c ≡ false
     → PlacedIn ss w (item_of (of_master ms w (move.Deliver bytes) (takes_frame c load) f) w (items w))
 session-placed ms ss w bytes load c f given g u =
     let x : Entry = of_master ms w (move.Deliver bytes) (takes_frame c load) f in
@@ -79,7 +79,7 @@ connection-placed ms ss w bytes load f same r now head =
     (λ phase_in k. none-sent ms ss m phase_in same k sent phase)
 
 -- the item of a master that takes the awaited frame
-answer-placed : (ms : MasterSettings) (ss : SlaveSettings) (w : List Entry) (bytes load f : List ℕ) (c : Command) → is_guarded c ≡ true → is_other (items w) (of_master ms w (move.Deliver bytes) (takes_frame c load) f) ≡ false
+answer-placed : (ms : MasterSettings) (ss : SlaveSettings) (w : List Entry) (bytes load f : List ℕ) (c : Command) → is_guarded_command c ≡ true → is_other (items w) (of_master ms w (move.Deliver bytes) (takes_frame c load) f) ≡ false
     → command_in bytes ≡ Some c → PlacedIn ss w (item_of (of_master ms w (move.Deliver bytes) (takes_frame c load) f) w (items w))
 answer-placed ms ss w bytes load f c g o head =
     let x : Entry = of_master ms w (move.Deliver bytes) (takes_frame c load) f in
@@ -137,7 +137,7 @@ answer-phase ss e c f h = grind arith
 unloaded : (phase : State) (l c : ℕ) (bytes before : List ℕ) → is_loading phase ≡ true → phase_of_frame bytes ≡ state.Session → before ≡ [] → with_part phase l c bytes before ≡ []
 unloaded phase l c bytes before h k m = grind arith
 
-unguarded-is : (c : Command) → c ≢ command.Reset → is_guarded c ≡ false → c ≡ command.Session
+unguarded-is : (c : Command) → c ≢ command.Reset → is_guarded_command c ≡ false → c ≡ command.Session
 unguarded-is c h k = grind arith
 
 -- all that is known of a slave that takes a frame of a session and answers it
@@ -156,7 +156,7 @@ JointAfter ss w bytes load c f =
     Joint (receives (OfSlave ss)) (piece_len (OfSlave ss)) (state_of (OfSlave ss) (deed (move.Deliver bytes) (takes_frame c load) f ∷ deeds end_name.Slave w)) (λ phase. uploaded ss phase (deed (move.Deliver bytes) (takes_frame c load) f ∷ deeds end_name.Slave w))
     (item_of (of_slave ss w (move.Deliver bytes) (takes_frame c load) f) w (items w) ∷ items_of end_name.Slave (items w)) (items_of end_name.Master (items w))
 
-slave-guarded : (ms : MasterSettings) (ss : SlaveSettings) (w : List Entry) (bytes load : List ℕ) (c : Command) (f : List ℕ) → SlaveTakes ms ss w bytes load c f → is_guarded c ≡ true → JointAfter ss w bytes load c f
+slave-guarded : (ms : MasterSettings) (ss : SlaveSettings) (w : List Entry) (bytes load : List ℕ) (c : Command) (f : List ℕ) → SlaveTakes ms ss w bytes load c f → is_guarded_command c ≡ true → JointAfter ss w bytes load c f
 slave-guarded ms ss w bytes load c f t g =
     let x : Entry = of_slave ss w (move.Deliver bytes) (takes_frame c load) f in
     let head : command_in bytes ≡ Some c = head-in (OfSlave ss) (deeds end_name.Slave w) bytes load c t.valid in
@@ -184,7 +184,7 @@ slave-unguarded ms ss w bytes load c f t k =
     slave_before (receives (OfSlave ss)) (piece_len (OfSlave ss)) now _ before after s m (item_of x w (items w)) (t.answer_is ∙ sym t.state_is) (ap is_guarded_in (t.state_is ∙ ap phase_of k))
     (λ p q. t.uploads p q ∙ unloaded p _ _ bytes _ q phase (none_uploaded (receives (OfSlave ss)) (piece_len (OfSlave ss)) now before s m unguarded t.related.standing p q)) t.related
 
-slave-joint : (ms : MasterSettings) (ss : SlaveSettings) (w : List Entry) (bytes load : List ℕ) (c : Command) (f : List ℕ) (guarded : Bool) → SlaveTakes ms ss w bytes load c f → is_guarded c ≡ guarded → JointAfter ss w bytes load c f
+slave-joint : (ms : MasterSettings) (ss : SlaveSettings) (w : List Entry) (bytes load : List ℕ) (c : Command) (f : List ℕ) (guarded : Bool) → SlaveTakes ms ss w bytes load c f → is_guarded_command c ≡ guarded → JointAfter ss w bytes load c f
 slave-joint ms ss w bytes load c f true t g = slave-guarded ms ss w bytes load c f t g
 slave-joint ms ss w bytes load c f false t g = slave-unguarded ms ss w bytes load c f t (unguarded-is c t.in_session g)
 
@@ -196,7 +196,7 @@ slave-takes ms ss w bytes load c f r h n taking o =
     let sent : IsInSession f = x.in_session in
     let valid : IsValid (OfSlave ss) e bytes c load = x.valid in
     slave-grows ms ss w (move.Deliver bytes) (takes_frame c load) f sent.sent
-    (slave-joint ms ss w bytes load c f (is_guarded c) (record {
+    (slave-joint ms ss w bytes load c f (is_guarded_command c) (record {
       related = h;
       in_session = n;
       valid = valid;

@@ -1,4 +1,4 @@
-use Rattle.fb_net.proofs.Common.{NetCycle, stepped}
+use Rattle.fb_net.proofs.Common.{NetCycle, block_after}
 use Rattle.std.proofs.Common.{◌≡◌, ◌<◌, length, take, arith, rules}
 use Rattle.fb_net.proofs.Running.{blocks_all, ready_at, rest_after, same_at, value_is, values_more, blocks_more}
 use Rattle.fb_net.proofs.Looking.{can_run}
@@ -17,7 +17,7 @@ loop-i-preserved c =
     let b = c.index-blocks-i.result in
     let before = take c.loop-i.i c.loop-i.values in
     let value = value_is c.loop-i.values c.loop-i.i cycle b _ c.step_block.result (omega arith) c.index-blocks-i.is c.step_block.ensures.given in
-    let new : c.step_block.new.spec ≡ stepped before cycle b = cc in
+    let new : c.step_block.new.spec ≡ block_after before cycle b = cc in
     search (rules, rest_after, values_more, blocks_more)
 
 pub returns-clause-can_run : goal.returns-clause-can_run

@@ -1,6 +1,6 @@
 use Rattle.std.proofs.Common.{rules, subst, ap, ◌∙◌, ◌<◌, ◌^◌, List, ℕ}
 use Rattle.std.specs.Option.{option_or}
-use Rattle.black_channel.specs.Told.{Told, PullsParcel}
+use Rattle.black_channel.specs.Told.{ChannelTold, PullsParcel}
 use Rattle.black_channel.specs.Calls.{holding, parcel_of}
 use Rattle.black_channel.specs.Holds.{Chance}
 use Rattle.black_channel.proofs.Pulling.{chance_pulls, form_left}
@@ -16,5 +16,5 @@ returns-clause-pulls c =
     let gift = parcel_of c.give-place.result c.give-place.new.out in
     let noted = c.note.ensures ∙ ap (λ (f : List ℕ). option_or (parcel_of c.give-place.result f) c.self.inside.last) c.bytes.ensures.value in
     let fits : c.self.inside.empties < 2 ^ 64 = search rules in
-    subst (λ (old : Told). PullsParcel gift old (holding (Chance c.give-place.new.ring c.note.new.self c.give-place.new.words) c.empties_after-self-inside.result)) c.self.view_is
+    subst (λ (old : ChannelTold). PullsParcel gift old (holding (Chance c.give-place.new.ring c.note.new.self c.give-place.new.words) c.empties_after-self-inside.result)) c.self.view_is
     (chance_pulls _ _ _ _ _ _ _ _ _ _ fits c.empties_after-self-inside.ensures c.self.invariant c.give-place.ensures.gift c.give-place.ensures.holds noted)
