@@ -7,14 +7,17 @@
  *
  *     static gp_slave_memory memory;
  *     static gp_slave slave = GP_SLAVE_IN(&memory);
- *     static gp_frame out;
+ *     static gp_frame out, last;
  *     static gp_did did;
+ *     static gp_terms terms;
  *
  *     void follow(void) {                                   (after each step)
  *         uint8_t outputs[MASTER_LEN] = {0};
+ *         if (gp_slave_terms(&slave, &terms) == GP_OK && (terms.conn != CONNECTION || ..) &&
+ *             gp_slave_reset(&slave, &out, &did) != GP_OK) fail();
  *         if (gp_slave_outputs(&slave, outputs, sizeof outputs) != GP_OK) fail();
  *         apply(outputs);                                   (before anything that may take long)
- *         if (out.len != 0) send(out.bytes, out.len);
+ *         if (out.len != 0) send(last = out);
  *         if (did.reset != GP_NO_RESET && gp_slave_nonce(&slave, a fresh id) != GP_OK) fail();
  *     }
  *
@@ -29,10 +32,24 @@
  *             if (gp_slave_tick(&slave, &out, &did) != GP_OK) fail();
  *             follow();
  *         }
+ *         if (last.len != 0 && nothing was sent for 3 milliseconds) send(last);
  *     }
  *
- * fail() switches off and ends. The library never makes a session id: your program gives a fresh one before each
- * session. examples/drive.c and examples/controller.c are whole loops, with fresh ids, terms and counted resets.
+ * A master's loop is the same, with gp_master_accept and gp_master_reply if it decides in between. fail() switches off
+ * and ends. A slave takes any connection id: compare the terms. The library never makes a session id: your program
+ * gives a fresh one before each session. If it doesn't, nothing shows it: the old id comes again, and old frames may
+ * pass. Whole loops are examples/drive.c, controller.c; udp_drive.c, udp_controller.c over UDP; cyclic.c over an image.
+ *
+ * Frames
+ *     A frame of n safe data bytes has 2 * n + 3 bytes, or 6 if n is 1. Deliver it whole, without what the bus adds.
+ *     Both ends send their last frame again until a step gives the next, far more often than a watchdog expires. An end
+ *     drops the frame that it took last, so a lost frame is no stop. An older frame ends the session.
+ *     Datagrams (UDP) may overtake each other. Put a number before each frame that rises with each datagram, also with
+ *     copies and after a restart: a stored session id, then a count. Throw away a datagram whose number doesn't rise.
+ *     A stream (TCP) loses nothing, and doesn't say where a frame ends: count its bytes. After it broke, begin a new
+ *     one with the last frame, and throw away half a frame of the old one.
+ *     A cyclic image (EtherCAT): in each cycle deliver the bytes of the peer's slot, changed or not, if the bus says
+ *     that they came whole. Write `out` to your slot if its len isn't 0, and else leave what is there.
  *
  * Answers
  *     Each call returns a number of enum gp_answer, except gp_version, gp_.._size and gp_.._align. GP_OK says that the
@@ -47,7 +64,8 @@
  *        gp_.._init it may contain anything. From then on only these calls change the handle, and the memory as long as an
  *        end is there. The memory stays where it is until gp_.._end; the handle may be moved. Memory without an end may be
  *        used again or freed. So may the memory of an end that is not needed any more, also without gp_.._end: then set
- *        its handle anew before any other call.
+ *        its handle anew before any other call. A handle of zeros answers GP_NO_END, and lets gp_.._init write to null:
+ *        that is tried, but not proved.
  *     2. Each other pointer leads to an object of its type, or to as many bytes as the number beside it says. All of it has
  *        values, also what is only written to: `= {0}` and static storage give them. If that number is 0, the pointer is
  *        not followed; null there is tried, but not proved.
@@ -169,7 +187,7 @@ enum gp_code {
 enum gp_dropped {
     GP_NOT_DROPPED = 0,
     GP_DROPPED_LENGTH = 1,  /* its length is not that of the peer's frames */
-    GP_DROPPED_REPEAT = 2,  /* it equals the last frame taken */
+    GP_DROPPED_REPEAT = 2,  /* it equals the last frame taken: it was sent again, and all is well */
     GP_DROPPED_IN_RESET = 3 /* it fails a test in state GP_RESET */
 };
 
@@ -273,7 +291,7 @@ GP_CHECKED uint8_t gp_slave_init_ranges(gp_slave *slave, const gp_slave_settings
                                         const uint8_t *high, size_t high_len);
 
 /* Ends the use of the slave; the memory is yours again. If the peer is to know it, call gp_slave_reset before, and send
-   its frame. */
+   its frame, some times if frames get lost. */
 uint8_t gp_slave_end(gp_slave *slave);
 
 /* Delivers a frame of the master: any bytes, of any number. out is the frame to send, with len 0 if none is. */
@@ -330,7 +348,7 @@ size_t gp_master_align(void);
 GP_CHECKED uint8_t gp_master_init(gp_master *master, const gp_master_settings *set, const uint8_t *app, size_t app_len);
 
 /* Ends the use of the master; the memory is yours again. If the peer is to know it, call gp_master_reset before, and send
-   its frame. */
+   its frame, some times if frames get lost. */
 uint8_t gp_master_end(gp_master *master);
 
 /* Delivers a frame of the slave: any bytes, of any number. out is the frame to send, with len 0 if none is. */
@@ -361,6 +379,11 @@ GP_CHECKED uint8_t gp_master_state(gp_master *master, uint8_t *state);
 
 /* The data received from the slave (SafeInputs in ETG.5100), zeros as at a slave. outputs_len is slave_len. */
 GP_CHECKED uint8_t gp_master_outputs(gp_master *master, uint8_t *outputs, size_t outputs_len);
+
+/* The same data under the name that a controller's program has for them. */
+GP_CHECKED static inline uint8_t gp_master_inputs(gp_master *master, uint8_t *inputs, size_t inputs_len) {
+    return gp_master_outputs(master, inputs, inputs_len);
+}
 
 /* What was put last, zeros at first. offer_len is master_len. */
 GP_CHECKED uint8_t gp_master_offer(gp_master *master, uint8_t *offer, size_t offer_len);

@@ -4,7 +4,8 @@
  * However it ends, it sends a Reset frame, so that the drive doesn't run on until its watchdog expires.
  *
  * Replace what is under "The device". Here the bus is a list of a slave's answers, each of which comes a millisecond
- * after the frame that it answers; after the last one the slave is silent.
+ * after the frame that it answers; after the last one the slave is silent. Over a bus that loses frames send the last one
+ * again, as udp_controller.c does.
  */
 #include <gatepast.h>
 #include <stdio.h>
@@ -92,11 +93,11 @@ static uint16_t fresh_id(void) {
     return (uint16_t)(last + 1);
 }
 
-/* Enables the motor if the drive says in bit 7 that it is ready. The inputs (a master's outputs) are zeros in every state
-   but GP_DATA, so after a reset the first order is off. */
+/* Enables the motor if the drive says in bit 7 that it is ready. The inputs are zeros in every state but GP_DATA, so after a
+   reset the first order is off. */
 static void decide(void) {
     uint8_t inputs[SLAVE_LEN] = {0}, order[MASTER_LEN] = {0};
-    if (gp_master_outputs(&master, inputs, sizeof inputs) != GP_OK) stop("no inputs");
+    if (gp_master_inputs(&master, inputs, sizeof inputs) != GP_OK) stop("no inputs");
     if (inputs[0] & 0x80) order[0] = 1;
     if (gp_master_put(&master, order, sizeof order) != GP_OK) stop("the order is refused");
 }

@@ -3,7 +3,8 @@
  * by the outputs, and sends. If anything is wrong, the motor is off.
  *
  * Replace what is under "The device". Here the bus is a list of frames: a master brings the connection up, switches the
- * motor on, and then is silent until the watchdog expires.
+ * motor on, and then is silent until the watchdog expires. Over a bus that loses frames send the last one again, as
+ * udp_drive.c does.
  *
  * When data come again, the motor stays off until its bit was 0 and is 1 again, so a stuck bit starts nothing. The
  * acknowledgement by a person is up to the master's application.

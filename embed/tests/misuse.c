@@ -70,11 +70,22 @@ static void no_master(void) {
     ANSWERS(GP_NO_END, gp_master_nonce(&master, 1));
     ANSWERS(GP_NO_END, gp_master_state(&master, &flag));
     ANSWERS(GP_NO_END, gp_master_outputs(&master, data, 2));
+    ANSWERS(GP_NO_END, gp_master_inputs(&master, data, 2));
     ANSWERS(GP_NO_END, gp_master_offer(&master, data, 2));
     ANSWERS(GP_NO_END, gp_master_terms(&master, &terms));
     ANSWERS(GP_NO_END, gp_master_age(&master, &age));
     ANSWERS(GP_NO_END, gp_master_held(&master, &flag));
     MUST(out.len == 7 && did.took == 7 && terms.conn == 7 && flag == 7 && age == 7 && data[0] == 7);
+}
+
+/* The same at handles of zeros, as static storage gives them. */
+static void no_memory(void) {
+    slave = (gp_slave)GP_SLAVE_IN(NULL);
+    master = (gp_master)GP_MASTER_IN(NULL);
+    no_slave();
+    no_master();
+    slave = (gp_slave)GP_SLAVE_IN(&slave_memory);
+    master = (gp_master)GP_MASTER_IN(&master_memory);
 }
 
 static const gp_slave_settings good_slave = {
@@ -304,6 +315,7 @@ int main(void) {
     MUST(gp_slave_align() == _Alignof(gp_slave_memory) && gp_master_align() == _Alignof(gp_master_memory));
     no_slave();
     no_master();
+    no_memory();
     bad_settings();
     two_bad_settings();
     bad_calls_of_a_slave();

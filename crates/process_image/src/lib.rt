@@ -16,7 +16,9 @@
 //! }
 //! ```
 //!
-//! This has consequences that the program has to know:
+//! It is for trials of what changes in an image. A device that calls an end itself delivers the bytes of its slot in
+//! each cycle, changed or not: an end drops the frame that it took last, and so nothing waits for a change. `sample`
+//! has consequences that the program has to know:
 //!
 //! - Two equal frames one after the other are seen as one. A slave's Reset frame after a local reset has the same bytes
 //!   as its answer to the master's Reset(0). So the master doesn't see that answer. The master waits for ever: its next

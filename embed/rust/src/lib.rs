@@ -7,6 +7,11 @@
 //! allows, and a master that owes a frame sends it first. Your other duties are in `docs/duties.md`: send each step's
 //! frame, give a fresh id before each session, tick, apply the outputs. `examples/drive.rs` is a whole loop.
 //!
+//! Keep the last frame, and send it again until a step gives the next, but never an older one: an end drops the frame
+//! that it took last, so that a lost frame is no stop. Datagrams may overtake each other, and an older frame ends its
+//! session: number them, and throw away those whose number doesn't rise. Over a cyclic image deliver the bytes of the
+//! peer's slot in each cycle, changed or not, if they came whole, and leave yours as it is while a step has no frame.
+//!
 //! ```
 //! use core::num::NonZeroU16;
 //! use gatepast::{One, Rule, Slave, SlaveMemory, SlaveSettings, State};

@@ -175,6 +175,7 @@ impl<'m, P: Profile, const M: usize, const S: usize> Master<'m, P, M, S> {
 
     /// Returns the data received from the slave (SafeInputs in ETG.5100): those of the last frame taken. They are
     /// zeros in every state but Data, after a FailSafeData frame, and from the tick at which the watchdog expires.
+    #[doc(alias = "inputs")]
     pub fn outputs(&mut self) -> [u8; S] {
         let mut outputs = [0; S];
         // SAFETY: as in `deliver`.
@@ -244,7 +245,7 @@ pub struct Due<'a, 'm, P: Profile, const M: usize, const S: usize> {
 }
 
 impl<'a, 'm, P: Profile, const M: usize, const S: usize> Due<'a, 'm, P, M, S> {
-    /// Returns the frame to send, with what was put last.
+    /// Returns the frame to send, and to send again until there is the next one. It has what was put last.
     #[must_use = "this is the frame to send"]
     pub fn reply(self) -> &'a [u8] {
         let due = ManuallyDrop::new(self);

@@ -61,7 +61,7 @@ pub enum Cause {
 pub enum Dropped {
     /// Its length isn't that of the peer's frames.
     Length,
-    /// It equals the last frame taken.
+    /// It equals the last frame taken: it was sent again, and all is well.
     Repeat,
     /// It fails a test in state Reset.
     InReset,
@@ -159,7 +159,7 @@ pub(crate) fn state(number: u8) -> State {
 }
 
 impl<'a> Step<'a> {
-    /// The frame to send.
+    /// The frame to send, and to send again until a step has the next one.
     pub fn send(&self) -> Option<&'a [u8]> {
         (self.out.len != 0).then(|| bytes_of(self.out))
     }
