@@ -1,5 +1,5 @@
 //! The files of the system as a desk: the trusted edge.
-ghost use Rattle.std.specs.Prelude.{◌≡◌, ◌≢◌, ◌≤◌, ◌<◌, ℕ, List, None, false, [], ◌∷◌, ◌++◌, length, IfOk, IfSome, if◌then◌else◌};
+ghost use Rattle.std.specs.Prelude.{◌≡◌, ◌≢◌, ◌≤◌, ◌<◌, ℕ, List, None, false, [], ◌∷◌, ◌++◌, length, IfOk, IfSome, IsErr, if◌then◌else◌};
 ghost use Rattle.fsoe_io.specs.Desk.{failed_loads, has_failed};
 ghost use Rattle.fsoe_io.specs.Faults.{Rose};
 
@@ -37,14 +37,28 @@ fn read_within<S: Source>(alloc: Global, source: &mut S, limit: usize) -> Result
     }
 }
 
+/// The same of what was opened. `Failed` where it wasn't.
+fn read_opened<S: Source + Drop, E: Drop>(
+    alloc: Global,
+    opened: Result<S, E>,
+    limit: usize,
+) -> Result<Vec<u8>, LoadFault>
+    ensures failed { IsErr opened → result ≡ Err LoadFault.Failed }
+    ensures bytes { IfOk opened (λ source. IfOk result (λ text. IfSome (S.left source) (λ left. text.items ≡ left))) }
+    ensures within { IfOk result (λ text. length text.items ≤ limit) }
+    ensures too_long { IfOk opened (λ source. result ≡ Err LoadFault.TooLong → IfSome (S.left source) (λ left. limit < length left)) }
+{
+    match opened {
+        Ok(mut source) => read_within(alloc, &mut source, limit),
+        Err(_) => Err(LoadFault::Failed),
+    }
+}
+
 /// The bytes of a file, where they are at most `limit`.
 fn read_file<R: Files + AllocGlobal>(rt: &R, name: &str, limit: usize) -> Result<Vec<u8>, LoadFault>
     ensures within { IfOk result (λ text. length text.items ≤ limit) }
 {
-    match File::open(rt, name) {
-        Ok(file) => read_within(rt.alloc(), &mut StdSource::new(file), limit),
-        Err(_) => Err(LoadFault::Failed),
-    }
+    read_opened(rt.alloc(), File::open(rt, name).map(StdSource::new), limit)
 }
 
 /// The files of the system as a desk, each under its path. A load fails if the file doesn't exist or can't be read. The

@@ -1,19 +1,24 @@
 //! The arguments of a program.
+ghost use Rattle.std.specs.Prelude.{◌≡◌, drop};
+
 use std::rt::Env;
 use std::{env, io};
 
+/// All arguments but the first, which is the program's name.
+fn after_name(mut args: Vec<String>) -> Vec<String>
+    ensures { result.items ≡ drop 1 args.items }
+{
+    if !args.is_empty() {
+        let _name = args.remove(0);
+    }
+    args
+}
+
 /// The arguments after the program's name. An argument that isn't UTF-8 belongs to no command, so there are none then.
 pub fn words_of<R: Env + AllocGlobal>(rt: &R) -> io::Result<Vec<String>> {
-    let mut words = Vec::new(rt.alloc());
     match env::args(rt) {
-        Ok(mut args) => {
-            let _program = args.next();
-            for word in args {
-                words.push(word)?;
-            }
-        }
-        Err(e) if e.kind() == io::ErrorKind::InvalidData => {}
-        Err(e) => return Err(e),
+        Ok(args) => Ok(after_name(args.collect(rt.alloc())?)),
+        Err(e) if e.kind() == io::ErrorKind::InvalidData => Ok(Vec::new(rt.alloc())),
+        Err(e) => Err(e),
     }
-    Ok(words)
 }

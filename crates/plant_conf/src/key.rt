@@ -77,7 +77,7 @@ impl Key {
     pub fn word(self) -> &'static str
         ensures text { result.now ≡ key_word self.name self.table }
         ensures most { length result.now ≤ 13 }
-        ensures whole_table { self.name ≡ name.Whole → length result.now ≤ 10 }
+        ensures whole { self.name ≡ name.Whole → length result.now ≤ 10 }
     {
         match self.name {
             KeyName::Whole => match self.table {

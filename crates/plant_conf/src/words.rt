@@ -11,7 +11,10 @@ use fb_lib::BlockKind;
 use fb_net::Wire;
 use memchr::memchr;
 use param_load::{AppBytes, AppRule};
-use schedule_file::{find_word, read_bytes, read_number};
+use schedule_file::{find_word, read_number};
+
+/// The most bytes of application parameters.
+const MOST_APPLICATION: usize = 512;
 
 /// The kinds of blocks.
 const KINDS: [(&[u8], BlockKind); 10] = [
@@ -96,16 +99,15 @@ pub(crate) fn rule(text: &[u8], app: &AppBytes) -> Option<AppRule>
 }
 
 /// At most 512 bytes in hexadecimal, or none.
-#[tactic(auto, using(crate::proofs::Hex::hex_said, crate::proofs::Hex::unsaid))]
+#[tactic(auto, using(crate::proofs::Hex::too_long))]
 pub(crate) fn hex_bytes(text: &[u8]) -> Option<AppBytes>
     ensures { result ≡ at_most 512 (decode_of text.now) }
 {
-    let mut bytes = AppBytes::new();
-    if text.is_empty() {
-        return Some(bytes);
+    let len = text.len() / 2;
+    if len > MOST_APPLICATION {
+        return None;
     }
-    match read_bytes(text, &mut bytes) {
-        Ok(()) => Some(bytes),
-        Err(_) => None,
-    }
+    let mut bytes = AppBytes::zeros(len);
+    hex::decode_to_slice(text, bytes.bytes_mut()).ok()?;
+    Some(bytes)
 }

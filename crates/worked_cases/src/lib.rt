@@ -7,6 +7,8 @@ mod error_texts;
 #[cfg(test)]
 mod of_fsoe_crc;
 #[cfg(test)]
+mod of_fsoe_io;
+#[cfg(test)]
 mod of_multi_master;
 #[cfg(test)]
 mod of_param_load;
