@@ -5,8 +5,8 @@ use Rattle.std.specs.declared.option.Option.{Option}
 use Rattle.fsoe_io.specs.Faults.{Rose}
 use Rattle.rand_pcg.specs.Lcg.{Lcg}
 use Rattle.black_channel.specs.Holds.{Holds, IsRing, IsForm, oldest_taken, pulled, Chance}
-use Rattle.black_channel.specs.Told.{GrowsByGift, PullsParcel}
-use Rattle.black_channel.specs.Calls.{holding, parcel_of, empties_after}
+use Rattle.black_channel.specs.Told.{GrowsByGift, PullsParcel, parcel_of}
+use Rattle.black_channel.specs.Calls.{holding, empties_after}
 use Rattle.black_channel.specs.declared.channel.Parcel.{Parcel}
 use Rattle.black_channel.specs.declared.channel.Place.{Place}
 use Rattle.black_channel.proofs.Forms.{sound_taken, form_after}

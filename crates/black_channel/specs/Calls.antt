@@ -1,6 +1,5 @@
--- What a channel tells at first, and what a pull answers.
-use Rattle.std.specs.Prelude.{ℕ, ◌+◌, ◌-◌, ◌^◌, min, List, Option, Some, None, option_map}
-use Rattle.black_channel.specs.declared.channel.Parcel.{Parcel}
+-- What a channel tells at first, and how it counts pulls that gave nothing.
+use Rattle.std.specs.Prelude.{ℕ, ◌+◌, ◌-◌, ◌^◌, min, Option, Some, None}
 use Rattle.black_channel.specs.declared.channel.Place.{Place}
 use Rattle.black_channel.specs.Holds.{Holds}
 use Rattle.black_channel.specs.Told.{ChannelTold}
@@ -8,10 +7,6 @@ use Rattle.black_channel.specs.Told.{ChannelTold}
 -- a channel that tells what it holds and its count, and no parcels
 abbrev pub holding : Holds → ℕ → ChannelTold
 holding holds empties = record { holds = Some holds; empties = empties; pushed = None; given = None }
-
--- the parcel that a pull gives, by its answer and the frame that it wrote
-abbrev pub parcel_of : Option Place → List ℕ → Option Parcel
-parcel_of answer frame = option_map (λ place. record { to = place; frame = frame }) answer
 
 -- the number of pulls that gave nothing, which stays at 2^64 - 1, after one more pull
 abbrev pub empties_after : Option Place → ℕ → ℕ

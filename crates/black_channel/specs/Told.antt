@@ -3,6 +3,7 @@ use Rattle.std.specs.Prelude.{◌≡◌, ℕ, ◌≤◌, List, [], ◌∷◌, �
 use Rattle.fsoe_io.specs.Faults.{Rose}
 use Rattle.black_channel.specs.Holds.{Holds, IsForm, after_begin, pushed, pulled}
 use Rattle.black_channel.specs.declared.channel.Parcel.{Parcel}
+use Rattle.black_channel.specs.declared.channel.Place.{Place}
 
 -- what it holds, a count that rises where it gives nothing, and all parcels that were pushed and given, oldest first;
 -- each but the count may stay untold
@@ -46,3 +47,7 @@ pub record PullsParcel (parcel : Option Parcel) (old new : ChannelTold) : Type 0
   pub nothing : parcel ≡ None → Rose old.empties new.empties
   pub pushed : new.pushed ≡ old.pushed
   pub given : GrowsByGift parcel old.given new.given
+
+-- the parcel that a pull gives, by its answer and the frame that it wrote
+abbrev pub parcel_of : Option Place → List ℕ → Option Parcel
+parcel_of answer frame = option_map (λ place. record { to = place; frame = frame }) answer

@@ -1,7 +1,7 @@
 //! What every channel of a plant is.
 ghost use Rattle.std.specs.Prelude.{◌≡◌, ◌≤◌, ℕ, List, length};
-ghost use Rattle.black_channel.specs.Told.{ChannelTold, Begins, PushesParcel, PullsParcel};
-ghost use Rattle.black_channel.specs.Calls.{empties_after, parcel_of};
+ghost use Rattle.black_channel.specs.Told.{ChannelTold, Begins, PushesParcel, PullsParcel, parcel_of};
+ghost use Rattle.black_channel.specs.Calls.{empties_after};
 
 use fsoe_base::{End, FrameBuf, MOST_FRAME};
 

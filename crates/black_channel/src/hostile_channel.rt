@@ -2,8 +2,8 @@
 ghost use Rattle.std.specs.Prelude.{◌≡◌, ◌≤◌, ◌%◌, [], ◌∷◌, None, codes, length, List, IfOk};
 ghost use Rattle.std.specs.Option.{option_or};
 ghost use Rattle.black_channel.specs.Holds.{Chance, IsRing, seed_generator, given_by, pulled, turned_frame};
-ghost use Rattle.black_channel.specs.Told.{ChannelTold, Begins, PushesParcel, PullsParcel};
-ghost use Rattle.black_channel.specs.Calls.{empties_after, holding, parcel_of};
+ghost use Rattle.black_channel.specs.Told.{ChannelTold, Begins, PushesParcel, PullsParcel, parcel_of};
+ghost use Rattle.black_channel.specs.Calls.{empties_after, holding};
 ghost use Rattle.black_channel.specs.declared.channel.Parcel.{Parcel};
 
 use crate::altering::altered;

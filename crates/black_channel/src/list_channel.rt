@@ -1,8 +1,8 @@
 //! A channel that gives listed parcels.
 ghost use Rattle.std.specs.Prelude.{◌≡◌, ◌≤◌, codes, length, IfOk};
 ghost use Rattle.black_channel.specs.Listed.{ListView, listing, pushed_within, told_of};
-ghost use Rattle.black_channel.specs.Told.{ChannelTold, Begins, PushesParcel, PullsParcel};
-ghost use Rattle.black_channel.specs.Calls.{empties_after, parcel_of};
+ghost use Rattle.black_channel.specs.Told.{ChannelTold, Begins, PushesParcel, PullsParcel, parcel_of};
+ghost use Rattle.black_channel.specs.Calls.{empties_after};
 
 use crate::channel::{Channel, Parcel, Place, empties_after};
 use fsoe_base::{FrameBuf, MOST_FRAME, Memory};

@@ -1,7 +1,7 @@
 //! The parcels that are under way in a channel.
 ghost use Rattle.std.specs.Prelude.{◌≡◌, ◌≤◌, ◌<◌, ◌==◌, [], ◌++◌, length, take, drop, slice_get, IfOk};
 ghost use Rattle.black_channel.specs.Holds.{ring_with, oldest_taken};
-ghost use Rattle.black_channel.specs.Calls.{parcel_of};
+ghost use Rattle.black_channel.specs.Told.{parcel_of};
 
 use crate::channel::{Parcel, Place};
 use circular_buffer::HeapCircularBuffer;

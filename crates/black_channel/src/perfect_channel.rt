@@ -1,8 +1,8 @@
 //! A channel that keeps order.
 ghost use Rattle.std.specs.Prelude.{◌≡◌, ◌≤◌, [], codes, length, IfOk};
 ghost use Rattle.black_channel.specs.Holds.{Ring};
-ghost use Rattle.black_channel.specs.Told.{ChannelTold, Begins, PushesParcel, PullsParcel};
-ghost use Rattle.black_channel.specs.Calls.{empties_after, holding, parcel_of};
+ghost use Rattle.black_channel.specs.Told.{ChannelTold, Begins, PushesParcel, PullsParcel, parcel_of};
+ghost use Rattle.black_channel.specs.Calls.{empties_after, holding};
 
 use crate::channel::{Channel, Place, empties_after};
 use crate::parcel_ring::ParcelRing;

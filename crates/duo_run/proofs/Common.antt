@@ -25,7 +25,7 @@ pub use Rattle.exchange_model.specs.Fair.{Fair, data_taken}
 pub use Rattle.exchange_model.specs.Honest.{IsHonest, if_on, in_turn, is_plain, keeps_time}
 pub use Rattle.exchange_model.specs.Monitor.{NotesParts}
 pub use Rattle.exchange_model.specs.Other.{before_other, first_of_both, first_other}
-pub use Rattle.exchange_model.specs.Schedules.{IsNextEntry, IsProperEvent, IsWorld}
+pub use Rattle.exchange_model.specs.Worlds.{IsNextEntry, IsProperEvent, IsWorld}
 pub use Rattle.exchange_model.specs.Serving.{HasNoReset, Serves, TakesDelivery}
 pub use Rattle.exchange_model.specs.World.{SameLengths, altered_delivery, deed_in, deeds, delivery, end_of_event, entry_at, entry_on, frames_of, going_on, move_from, next_entry, setup_of, world, world_after}
 pub use Rattle.file_run.proofs.Lines.{by_line, lines_whole}

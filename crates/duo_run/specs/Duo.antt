@@ -13,7 +13,7 @@ use Rattle.black_channel.specs.Window.{WindowView, window_of}
 use Rattle.schedule_file.specs.declared.event.Event.{Event}
 use Rattle.schedule_file.specs.Header.{Heading}
 use Rattle.exchange_model.specs.World.{deeds, frames_of, end_of_event, entry_at, SameLengths, world}
-use Rattle.exchange_model.specs.Schedules.{IsWorld}
+use Rattle.exchange_model.specs.Worlds.{IsWorld}
 use Rattle.exchange_model.specs.Monitor as monitor
 use Rattle.exchange_model.specs.Monitor.{MonitorView}
 use Rattle.master_core.specs.MasterView.{MasterView}

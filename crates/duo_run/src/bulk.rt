@@ -2,7 +2,7 @@
 ghost use Rattle.std.specs.Prelude.{◌≡◌, ◌≤◌, ◌+◌, ◌++◌, length};
 ghost use Rattle.schedule_file.specs.Made.{made_master, made_slave};
 ghost use Rattle.exchange_model.specs.Other.{first_other};
-ghost use Rattle.exchange_model.specs.Schedules.{IsWorld};
+ghost use Rattle.exchange_model.specs.Worlds.{IsWorld};
 ghost use Rattle.file_run.specs.Report.{other_line};
 ghost use Rattle.duo_run.specs.Summary.{summary_of};
 ghost use Rattle.duo_run.specs.Bulk.{bulk_entries, ends_line, state_line, number_line, summary_lines, RanBulk};

@@ -27,7 +27,8 @@ pub use Rattle.exchange_model.specs.ListMonitor.{ListView, ListsEntry, answer_in
 pub use Rattle.exchange_model.specs.Monitor.{HasParts, MonitorView, NotesEntry, NotesParts, Side, is_answer, is_other_to, kept_of, next_number, next_sent, noted_next, number_taken, own_after, peer_after, sent_number, sent_of, side_of, view_of}
 pub use Rattle.exchange_model.specs.Offering.{WasOffered, ticks_of}
 pub use Rattle.exchange_model.specs.Other.{NoOther, before_other, first_of_both, first_other, is_other, item_number}
-pub use Rattle.exchange_model.specs.Schedules.{IsNextEntry, IsProperEvent, IsWorld, moves}
+pub use Rattle.exchange_model.specs.Schedules.{moves}
+pub use Rattle.exchange_model.specs.Worlds.{IsNextEntry, IsProperEvent, IsWorld}
 pub use Rattle.exchange_model.specs.Serving.{HasNoReset, InDataAfter, Serves, TakesDataAfter, TakesDelivery, deliveries_to, is_delivery, state_told}
 pub use Rattle.exchange_model.specs.World.{SameLengths, deed_in, deeds, delivery, end_of_event, entry_at, entry_on, frames_of, going_on, move_from, setup_of, world, world_after}
 pub use Rattle.exchange_model.specs.declared.side.Sent.{Sent}

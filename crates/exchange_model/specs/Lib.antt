@@ -1,5 +1,6 @@
 pub mod Ends
 pub mod World
+pub mod Worlds
 pub mod Items
 pub mod Other
 pub mod Fair

@@ -1,14 +1,11 @@
 -- The words of schedules and of reports, for worked runs of both ends.
-use Rattle.std.specs.Prelude.{ℕ, nat_eq, List, [], ◌∷◌, ◌++◌, codes, take, map, length, replicate, reverse, Bool, ◌≡◌, if◌then◌else◌}
+use Rattle.std.specs.Prelude.{ℕ, nat_eq, List, [], ◌∷◌, ◌++◌, codes, take, map, length, replicate, reverse, Bool, if◌then◌else◌}
 use Rattle.std.specs.Cmp.Lexicographic.{pointwise}
 use Rattle.std.specs.List.{flat_map}
 use Rattle.hex.specs.Hex.{decode_of}
 use Rattle.fsoe_base.specs.declared.command.End.TheVariants as side
 use Rattle.fsoe_base.specs.declared.command.End.{End}
 use Rattle.param_load.specs.declared.entry.Entry.{Entry}
-use Rattle.param_load.specs.declared.master_settings.MasterSettings.{MasterSettings}
-use Rattle.param_load.specs.declared.entry.Move.TheVariants as move
-use Rattle.param_load.specs.declared.slave_settings.SlaveSettings.{SlaveSettings}
 use Rattle.param_load.specs.declared.entry.Move.{Move}
 use Rattle.schedule_file.specs.PairEvent.{end_letter}
 use Rattle.schedule_file.specs.declared.event.Event.{Event}
@@ -16,11 +13,7 @@ use Rattle.schedule_file.specs.declared.event.Event.TheVariants as event
 use Rattle.entry_text.specs.EntryText.{entry_text}
 pub use Rattle.end_model.specs.WorkedRuns.{master_values}
 use Rattle.end_model.specs.WorkedRuns.{if_bytes, line}
-use Rattle.end_model.specs.Deed.{Deed}
-use Rattle.end_model.specs.Setup.{Setup}
-use Rattle.end_model.specs.Runs.{IsProper}
 use Rattle.exchange_model.specs.Ends.{same_end}
-use Rattle.exchange_model.specs.World.{deeds, next_entry, setup_of}
 
 -- the frame so many back of those of the slave comes to the master
 abbrev pub dm : ℕ → Event
@@ -102,19 +95,3 @@ begin_with texts wholes = pointwise begins texts wholes
 abbrev pub moves : End → List Entry → List Move
 moves which [] = []
 moves which (x ∷ w) = if same_end which x.end then moves which w ++ (x.what ∷ []) else moves which w
-
--- a put has its end's length, and a nonce is one that its end's profile allows
-abbrev pub IsProperEvent : MasterSettings → SlaveSettings → Event → Type 0
-IsProperEvent ms ss (event.Put at load) = IsProper (setup_of ms ss at) (move.Put load)
-IsProperEvent ms ss (event.Nonce at id) = IsProper (setup_of ms ss at) (move.Nonce id)
-IsProperEvent ms ss _ = Unit {0}
-
--- an entry is the next one of its end after these, at a proper event
-pub record IsNextEntry (s : Setup) (x : Entry) (e : List Deed) : Type 0 where
-  pub proper : IsProper s x.what
-  pub stepped : x ≡ next_entry s e x.what
-
--- each entry is the next one of its end after those before it, at a proper event
-abbrev pub IsWorld : MasterSettings → SlaveSettings → List Entry → Type 0
-IsWorld ms ss [] = Unit {0}
-IsWorld ms ss (x ∷ w) = IsNextEntry (setup_of ms ss x.end) x (deeds x.end w) × IsWorld ms ss w

@@ -3,9 +3,9 @@ pub use Rattle.file_run.specs.ByTitle.{ByTitle, IsTitled, first_line}
 pub use Rattle.file_run.specs.Ending.{AppendedPart, IsCutOff, LinesBefore, Writes}
 pub use Rattle.file_run.specs.Event.{FindsEvent, in_input, says_after, says_by, what_event}
 pub use Rattle.file_run.specs.Halt.{Blames, Goes, Halts, Stalls, TookOneAtMost}
-pub use Rattle.file_run.specs.Header.{Begins, HeaderSays, IsWholeHeader, most_lines}
+pub use Rattle.file_run.specs.Header.{Begins, HeaderSays, IsWholeHeader}
+pub use Rattle.file_run.specs.Machine.{most_lines, EndsReport, EndsStopped, EndsUnmet, StandsAsBefore, TakesEvent, input_headless, most_parts}
 pub use Rattle.file_run.specs.Left.{Done, HaltsHeader, IsBegun, IsHeaderCutOff, IsOneAhead, IsUnmet, LeavesAll, LeavesAs, LeavesUnbegun, MayFailIn, StopsAfter, line_after}
-pub use Rattle.file_run.specs.Machine.{EndsReport, EndsStopped, EndsUnmet, Keeps, TakesEvent, input_headless, most_parts}
 pub use Rattle.file_run.specs.NextLine.{FindsLine, IsLent}
 pub use Rattle.file_run.specs.Outside.{CountsFaults, Outside, Told}
 pub use Rattle.file_run.specs.Ran.{CameToEnd, EndsAs, EndsWhole, FailedWrite, MayWant, RanOver, ReadsWhole, ReportsReadLines, line_of_end}

@@ -1,5 +1,5 @@
 -- A run over the events of an input, whatever they do: what was read of it and what was written.
-use Rattle.file_run.proofs.Common.{Always, AtEnd, Begins, BeginsReport, Blames, CameToEnd, Consumes, Ended, EndsAs, EndsWhole, Err, FindsEvent, Grew, Halt, Halts, HaltsHeader, HasNoNewline, HasRead, IfSome, IfSome_then, InputCause, InputFormat, InputOf, IsFullness, IsHeaderCutOff, Keeps, LeavesUnbegun, MayWant, MemoryUse, NoLine, None, Option, OutputView, Outside, Passes, RanOver, Refusal, Refused, Reporting, ReportsReadLines, ReportsSoFar, Result, Running, Saying, SaysSo, Seen, Some, Stalls, Standing, Status, Stop, TakesEvent, TakesMemory, Writes, append-nil, halted_by, header_read, input_by, input_cause, input_headless, input_on, input_read, input_stopped, last_of, length-append, length_push, lines_of, more_on, most_parts, most_waiting, prepend_known, refused_at, refused_line, what_event}
+use Rattle.file_run.proofs.Common.{Always, AtEnd, Begins, BeginsReport, Blames, CameToEnd, Consumes, Ended, EndsAs, EndsWhole, Err, FindsEvent, Grew, Halt, Halts, HaltsHeader, HasNoNewline, HasRead, IfSome, IfSome_then, InputCause, InputFormat, InputOf, IsFullness, IsHeaderCutOff, StandsAsBefore, LeavesUnbegun, MayWant, MemoryUse, NoLine, None, Option, OutputView, Outside, Passes, RanOver, Refusal, Refused, Reporting, ReportsReadLines, ReportsSoFar, Result, Running, Saying, SaysSo, Seen, Some, Stalls, Standing, Status, Stop, TakesEvent, TakesMemory, Writes, append-nil, halted_by, header_read, input_by, input_cause, input_headless, input_on, input_read, input_stopped, last_of, length-append, length_push, lines_of, more_on, most_parts, most_waiting, prepend_known, refused_at, refused_line, what_event}
 use Rattle.std.proofs.Common.{◌≡◌, ℕ, ◌+◌, ◌*◌, ◌≤◌, Bool, List, [], ◌∷◌, ◌++◌, length, refl, arith, ap, ◌∙◌, sym, subst, rules}
 use Rattle.file_run.specs.declared.halt.Halt.TheVariants as halt
 use Rattle.file_run.proofs.Counted.{counted_halted, ran_by}
@@ -76,7 +76,7 @@ event_seen {H} {L} {E} {r} {stands} {says} {o} {held} {waiting} {events} {lines}
 
 -- the machine did it, and all its text was put
 pub running_event : {H L E : Type 0} (r : Reporting H L E) (old mid new : Standing H E) (says : Saying L) (o : Outside) (held : List ℕ) (w : Option (List ℕ)) (waiting now : OutputView) (events lines : ℕ) (event : E) (text : List ℕ) (parts : ℕ)
-    → HasRead r old says o held waiting events lines (Some event) → TakesEvent old mid event (events + 1) text → Keeps mid new → Passes waiting now o.sink.after w text now.bytes
+    → HasRead r old says o held waiting events lines (Some event) → TakesEvent old mid event (events + 1) text → StandsAsBefore mid new → Passes waiting now o.sink.after w text now.bytes
     → now.sent + length now.bytes ≤ waiting.sent + length waiting.bytes + 1024 + 1024 * parts → length now.bytes ≤ most_waiting → parts ≤ most_parts
     → Running r new says o.source.before (prepend_known held o.source.after) o.sink.before w now (events + 1) lines
 running_event r old mid new says o held w waiting now events lines event text parts k on keeps p size holds most =

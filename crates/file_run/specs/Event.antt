@@ -17,12 +17,7 @@ abbrev pub by_itself : {L E : Type 0} → (L → Option E) → Result L LineCaus
 by_itself event (Ok line) = Ok (event line)
 by_itself event (Err why) = Err (refusal.Line why)
 
--- what was read and written over `said`, or why nothing was
-abbrev pub what_says : {L C : Type 0} → Result (Unit {0}) C → L → Result L C
-what_says (Ok read) said = Ok said
-what_says (Err why) said = Err why
-
--- the same, of which the event alone is of interest
+-- the event of what was read, or why nothing was
 abbrev pub what_event : {L E C : Type 0} → (L → Option E) → Result (Unit {0}) C → L → Result (Option E) C
 what_event event (Ok read) said = Ok (event said)
 what_event event (Err why) said = Err why

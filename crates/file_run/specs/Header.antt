@@ -4,21 +4,10 @@ use Rattle.std.specs.Io.KnownBytes.{Consumes}
 use Rattle.schedule_file.specs.Input.{InputFormat, Stop, WholeHeaderOf, lines_of, header_read}
 use Rattle.schedule_file.specs.declared.line_cause.LineCause.{LineCause}
 use Rattle.file_run.specs.declared.halt.Halt.{Halt}
-use Rattle.file_run.specs.declared.stopped.Untaken.{Untaken}
-use Rattle.file_run.specs.declared.stopped.Untaken.TheVariants as untaken
 use Rattle.file_run.specs.Left.{HaltsHeader}
 use Rattle.file_run.specs.Reporting.{Reporting}
+use Rattle.file_run.specs.Machine.{most_lines}
 use Rattle.file_run.specs.WholeLines.{TookLines}
-
--- no header has more lines: one of 64 ends with 512 application bytes each has fewer
-abbrev pub most_lines : ℕ
-most_lines = 1048576
-
--- a header takes its next line as this says, and tells whether it is done; only where it takes memory may it want some
-abbrev pub TakesLine : {H : Type 0} → Bool → (H → Bool) → Result Bool Untaken → H → Result H LineCause → Type 0
-TakesLine takes is_whole (Ok done) new said = (said ≡ Ok new) × (done ≡ is_whole new)
-TakesLine takes is_whole (Err (untaken.Line why)) new said = said ≡ Err why
-TakesLine takes is_whole (Err untaken.Memory) new said = IsTrue takes
 
 -- the bytes that were taken say this of the header of an input, by what comes after them
 pub record HeaderSays {H L E : Type 0} (f : InputFormat H L E) (said : List ℕ → Result (WholeHeaderOf H) Stop) (old new : Option (List ℕ)) : Type 0 where

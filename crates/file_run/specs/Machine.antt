@@ -1,13 +1,27 @@
--- What a machine does that runs over the events of an input. H is what a header says, L what a line after it says, and
--- E an event.
-use Rattle.std.specs.Prelude.{◌≡◌, ℕ, ◌+◌, ◌≤◌, List, [], ◌∷◌, ◌++◌, length, Ok, Some, None}
+-- How the lines of an input are read, and what a machine does that runs over its events. H is what a header says, L what
+-- a line after it says, and E an event.
+use Rattle.std.specs.Prelude.{◌≡◌, ℕ, ◌+◌, ◌≤◌, List, [], ◌∷◌, ◌++◌, length, Bool, IsTrue, Result, Ok, Err, Some, None}
 use Rattle.schedule_file.specs.Input.{InputFormat, NoApp, AtEnd, NoFrame, InputOf, InputCause, Stop}
 use Rattle.schedule_file.specs.Limits.{max_events}
+use Rattle.schedule_file.specs.declared.line_cause.LineCause.{LineCause}
 use Rattle.file_run.specs.declared.stopped.Stopped.TheVariants as stopped
 use Rattle.file_run.specs.Report.{refused_line}
 use Rattle.file_run.specs.declared.stopped.Stopped.{Stopped}
 use Rattle.file_run.specs.Reporting.{Reporting, refused_at, Always, input_stopped}
+use Rattle.file_run.specs.declared.stopped.Untaken.{Untaken}
+use Rattle.file_run.specs.declared.stopped.Untaken.TheVariants as untaken
 use Rattle.fsoe_io.specs.declared.status.Ended.{Ended}
+
+-- a header takes its next line as this says, and tells whether it is done; only where it takes memory may it want some
+abbrev pub TakesLine : {H : Type 0} → Bool → (H → Bool) → Result Bool Untaken → H → Result H LineCause → Type 0
+TakesLine takes is_whole (Ok done) new said = (said ≡ Ok new) × (done ≡ is_whole new)
+TakesLine takes is_whole (Err (untaken.Line why)) new said = said ≡ Err why
+TakesLine takes is_whole (Err untaken.Memory) new said = IsTrue takes
+
+-- what was read and written over `said`, or why nothing was
+abbrev pub what_says : {L C : Type 0} → Result (Unit {0}) C → L → Result L C
+what_says (Ok read) said = Ok said
+what_says (Err why) said = Err why
 
 -- a line after a header says this event
 abbrev pub IsSaid : {H L E : Type 0} → InputFormat H L E → H → E → Type 0
@@ -23,6 +37,10 @@ pub record MayCome {H L E : Type 0} (old : H → List E → List ℕ → Type 0)
   pub number_is : number ≡ length log + 1
   pub few : number ≤ max_events
 
+-- no header has more lines: one of 64 ends with 512 application bytes each has fewer
+abbrev pub most_lines : ℕ
+most_lines = 1048576
+
 -- neither an event nor the end has more parts to write than this after the first part of its text
 abbrev pub most_parts : ℕ
 most_parts = 1048576
@@ -32,8 +50,8 @@ abbrev pub IsStanding : {H E : Type 0} → (H → List E → List ℕ → Type 0
 IsStanding {H} {E} stands = (h : H) × (log : List E) × (text : List ℕ) × stands h log text
 
 -- what a machine stood for it stands for still
-abbrev pub Keeps : {H E : Type 0} → (H → List E → List ℕ → Type 0) → (H → List E → List ℕ → Type 0) → Type 0
-Keeps {H} {E} old new = (h : H) (log : List E) (text : List ℕ) → old h log text → new h log text
+abbrev pub StandsAsBefore : {H E : Type 0} → (H → List E → List ℕ → Type 0) → (H → List E → List ℕ → Type 0) → Type 0
+StandsAsBefore {H} {E} old new = (h : H) (log : List E) (text : List ℕ) → old h log text → new h log text
 
 -- a machine that stood for some events stands, after the event of this number, for these and it, with this text more
 pub record TakesEvent {H E : Type 0} (old new : H → List E → List ℕ → Type 0) (event : E) (number : ℕ) (piece : List ℕ) : Type 0 where

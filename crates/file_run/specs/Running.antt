@@ -10,8 +10,7 @@ use Rattle.schedule_file.specs.Input.{InputCause, InputFormat, InputOf, lines_of
 use Rattle.schedule_file.specs.Limits.{max_events}
 use Rattle.schedule_file.specs.declared.line_cause.LineCause.{LineCause}
 use Rattle.file_run.specs.Event.{FindsEvent}
-use Rattle.file_run.specs.Header.{most_lines}
-use Rattle.file_run.specs.Machine.{most_parts}
+use Rattle.file_run.specs.Machine.{most_lines, most_parts}
 use Rattle.file_run.specs.Outside.{Outside}
 use Rattle.file_run.specs.Reporting.{Reporting}
 use Rattle.file_run.specs.WholeLines.{TookLines}

@@ -3,8 +3,7 @@ ghost use Rattle.std.specs.Prelude.{◌≡◌, ◌<◌, ◌≤◌, ℕ, Bool, Li
 ghost use Rattle.schedule_file.specs.Input.{InputFormat};
 ghost use Rattle.schedule_file.specs.declared.line_buf.TheConstants.{MAX_LINE};
 ghost use Rattle.schedule_file.specs.declared.line_cause.LineCause.{LineCause};
-ghost use Rattle.file_run.specs.Event.{what_says};
-ghost use Rattle.file_run.specs.Header.{TakesLine};
+ghost use Rattle.file_run.specs.Machine.{what_says, TakesLine};
 
 use crate::stopped::Untaken;
 use schedule_file::LineCause;

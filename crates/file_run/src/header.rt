@@ -3,7 +3,8 @@ ghost use Rattle.std.specs.Prelude.{◌≡◌, ◌≤◌, ℕ, List, Option, IsT
 ghost use Rattle.std.specs.Io.KnownBytes.{prepend_known};
 ghost use Rattle.fsoe_io.specs.Line.{IsLine, most_held};
 ghost use Rattle.file_run.specs.Halt.{Halts, Blames, Stalls};
-ghost use Rattle.file_run.specs.Header.{ReadsHeader, most_lines};
+ghost use Rattle.file_run.specs.Header.{ReadsHeader};
+ghost use Rattle.file_run.specs.Machine.{most_lines};
 ghost use Rattle.file_run.specs.NextLine.{IsLent};
 
 use crate::format::Format;

@@ -3,8 +3,7 @@ ghost use Rattle.std.specs.Prelude.{◌≡◌, ◌≢◌, ◌<◌, ◌≤◌, �
 ghost use Rattle.fsoe_io.specs.declared.status.Ended.{Ended};
 ghost use Rattle.schedule_file.specs.Input.{InputCause, Refused, input_read};
 ghost use Rattle.schedule_file.specs.declared.event.TheConstants.{MAX_EVENTS};
-ghost use Rattle.file_run.specs.Header.{most_lines};
-ghost use Rattle.file_run.specs.Machine.{IsStanding, Keeps, MayCome, TakesEvent, most_parts, EndsReport, EndsStopped, input_headless};
+ghost use Rattle.file_run.specs.Machine.{most_lines, IsStanding, StandsAsBefore, MayCome, TakesEvent, most_parts, EndsReport, EndsStopped, input_headless};
 ghost use Rattle.file_run.specs.Ran.{EndsWhole};
 ghost use Rattle.file_run.specs.Report.{refused_line};
 ghost use Rattle.file_run.specs.Reporting.{Reporting, ReportsSoFar, TakesMemory, refused_at};
@@ -85,14 +84,14 @@ pub trait Machine: Drop {
         ensures takes_event { OnOk result ((first : Self.Handed) → TakesEvent (stands first self.old handed.old) (stands first self.new handed.new) event.now number (text.new ++ waits self.new handed.new)) }
         ensures most { OnOk result (parts self.new handed.new ≤ most_parts) }
         ensures stopped { IfErr result (λ why. (first : Self.Handed) (h : Self.Format.Header) (log : List Self.Format.Event) (text : List ℕ) → stands first self.old handed.old h log text → EndsStopped (reporting first) h log text event.now why) }
-        ensures kept { OnErr result ((first : Self.Handed) → Keeps (stands first self.old handed.old) (stands first self.new handed.new)) };
+        ensures kept { OnErr result ((first : Self.Handed) → StandsAsBefore (stands first self.old handed.old) (stands first self.new handed.new)) };
 
     /// Writes the first part of the last lines, after `events` events, and returns how the run ends.
     fn close(&mut self, handed: &Self::Handed, events: u64, text: &mut LineText) -> Ended
         ensures closes { (first : Self.Handed) (h : Self.Format.Header) (log : List Self.Format.Event) (lines : List ℕ) → length log ≡ events → stands first self.old handed.now h log lines → closes first handed.now h log (lines ++ (text.new ++ waits self.new handed.now)) result }
         ensures ends { (first : Self.Handed) (h : Self.Format.Header) (log : List Self.Format.Event) (lines : List ℕ) → stands first self.old handed.now h log lines → EndsWhole (reporting first).judges result.status result.place }
         ensures most { parts self.new handed.now ≤ most_parts }
-        ensures kept { (first : Self.Handed) → Keeps (stands first self.old handed.now) (stands first self.new handed.now) };
+        ensures kept { (first : Self.Handed) → StandsAsBefore (stands first self.old handed.now) (stands first self.new handed.now) };
 
     /// Writes the next part of the pending text, and nothing only if none is pending.
     fn more(&mut self, handed: &Self::Handed, text: &mut LineText)
@@ -100,5 +99,5 @@ pub trait Machine: Drop {
         ensures part { waits self.old handed.now ≡ text.new ++ waits self.new handed.now }
         ensures some { text.new ≡ [] → waits self.old handed.now ≡ [] }
         ensures fewer { text.new ≢ [] → parts self.new handed.now < parts self.old handed.now }
-        ensures kept { (first : Self.Handed) → Keeps (stands first self.old handed.now) (stands first self.new handed.now) };
+        ensures kept { (first : Self.Handed) → StandsAsBefore (stands first self.old handed.now) (stands first self.new handed.now) };
 }

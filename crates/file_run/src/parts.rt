@@ -4,7 +4,7 @@ ghost use Rattle.fsoe_io.specs.Calls.{HasCause};
 ghost use Rattle.fsoe_io.specs.Output.{Puts};
 ghost use Rattle.fsoe_io.specs.Sink.{most_waiting};
 ghost use Rattle.file_run.specs.Ending.{Writes};
-ghost use Rattle.file_run.specs.Machine.{IsStanding, Keeps};
+ghost use Rattle.file_run.specs.Machine.{IsStanding, StandsAsBefore};
 ghost use Rattle.file_run.specs.Outside.{told};
 
 use crate::machine::Machine;
@@ -24,7 +24,7 @@ pub(crate) fn put_text<M: Machine, K: Sink>(
     ensures puts { Puts result output.old output.new (K.written sink.old) (K.written sink.new) (text.old ++ M.waits machine.old handed.now) }
     ensures count { OnOk result (output.new.sent + length output.new.bytes ≤ output.old.sent + length output.old.bytes + 1024 + 1024 * M.parts machine.old handed.now) }
     ensures most { OnOk result (length output.new.bytes ≤ most_waiting) }
-    ensures kept { (first : M.Handed) → Keeps (M.stands first machine.old handed.now) (M.stands first machine.new handed.now) }
+    ensures kept { (first : M.Handed) → StandsAsBefore (M.stands first machine.old handed.now) (M.stands first machine.new handed.now) }
     ensures cause { HasCause (K.faults sink.old) (K.faults sink.new) result }
 {
     loop {

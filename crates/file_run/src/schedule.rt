@@ -1,6 +1,6 @@
 //! How the lines of a schedule are parsed, of a node or of a pair.
 ghost use Rattle.std.specs.Prelude.{◌≡◌};
-ghost use Rattle.file_run.specs.Event.{what_says};
+ghost use Rattle.file_run.specs.Machine.{what_says};
 ghost use Rattle.file_run.specs.Schedule.{grammar_says};
 
 use crate::format::Format;

@@ -1,9 +1,11 @@
--- What a call of an end answers.
-use Rattle.std.specs.Prelude.{◌≡◌, ℕ, ◌≤◌, ◌<◌, List, [], length, take, MatchResult, IfOk, OnOk, OnErr}
+-- What a call of a source, a sink or a desk answers.
+use Rattle.std.specs.Prelude.{◌≡◌, ℕ, ◌≤◌, ◌<◌, Bool, true, false, List, [], length, take, Ok, Err, MatchResult, IfOk, OnOk, OnErr}
 use Rattle.std.specs.declared.option.Option.{Option}
 use Rattle.std.specs.declared.result.Result.{Result}
 use Rattle.fsoe_io.specs.Faults.{Rose}
 use Rattle.fsoe_io.specs.Sink.{Grew}
+use Rattle.fsoe_io.specs.declared.desk.LoadFault.{LoadFault}
+use Rattle.fsoe_io.specs.declared.desk.LoadFault.TheVariants.{Failed, TooLong, Memory}
 
 -- `Ok(n)` appends the first n bytes of the piece, and `Err` appends nothing
 abbrev pub WriteGrows : {E : Type 0} → Option (List ℕ) → Option (List ℕ) → Result ℕ E → List ℕ → Type 0
@@ -18,3 +20,10 @@ pub record HasCause {T E : Type 0} (before now : ℕ) (result : Result T E) : Ty
   pub later : before ≤ now
   pub failed : OnErr result (Rose before now)
   pub stayed : OnOk result (now ≡ before)
+
+-- whether a load failed
+abbrev pub has_failed : {T : Type 0} → Result T LoadFault → Bool
+has_failed (Ok text) = false
+has_failed (Err Failed) = true
+has_failed (Err TooLong) = false
+has_failed (Err Memory) = false

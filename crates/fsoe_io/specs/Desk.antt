@@ -1,10 +1,8 @@
 -- What desks hold and count.
-use Rattle.std.specs.Prelude.{ℕ, Bool, true, false, List, String, Vec, Result, Ok, Err, find, count_by, string_bytes, bytes_eq, option_map}
+use Rattle.std.specs.Prelude.{ℕ, List, String, Vec, find, count_by, string_bytes, bytes_eq, option_map}
 use Rattle.std.specs.declared.alloc.Global.{Global}
 use Rattle.std.specs.declared.option.Option.{Option}
 use Rattle.fsoe_io.specs.Planned.{Planned}
-use Rattle.fsoe_io.specs.declared.desk.LoadFault.{LoadFault}
-use Rattle.fsoe_io.specs.declared.desk.LoadFault.TheVariants.{Failed, TooLong, Memory}
 
 -- a text under its name
 pub record Named : Type 0 where
@@ -33,10 +31,3 @@ text_under files name = option_map (λ file. file.text) (find (λ file. bytes_eq
 -- how many loads of a name failed
 abbrev pub failed_loads : List (List ℕ) → List ℕ → ℕ
 failed_loads failed name = count_by (λ one. bytes_eq one name) failed
-
--- whether a load failed
-abbrev pub has_failed : {T : Type 0} → Result T LoadFault → Bool
-has_failed (Ok text) = false
-has_failed (Err Failed) = true
-has_failed (Err TooLong) = false
-has_failed (Err Memory) = false

@@ -2,7 +2,7 @@
 ghost use Rattle.std.specs.Prelude.{◌≡◌, ◌≢◌, ◌≤◌, ◌<◌, List, ℕ, false, length, IfOk, IfSome};
 ghost use Rattle.std.specs.declared.option.Option.{Option};
 ghost use Rattle.std.specs.Io.KnownBytes.{Keeps};
-ghost use Rattle.fsoe_io.specs.Desk.{has_failed};
+ghost use Rattle.fsoe_io.specs.Calls.{has_failed};
 ghost use Rattle.fsoe_io.specs.Faults.{Rose};
 
 /// Why a text wasn't loaded.

@@ -1,6 +1,7 @@
 //! The files of the system as a desk: the trusted edge.
 ghost use Rattle.std.specs.Prelude.{◌≡◌, ◌≢◌, ◌≤◌, ◌<◌, ℕ, List, None, false, [], ◌∷◌, ◌++◌, length, IfOk, IfSome, IsErr, if◌then◌else◌};
-ghost use Rattle.fsoe_io.specs.Desk.{failed_loads, has_failed};
+ghost use Rattle.fsoe_io.specs.Desk.{failed_loads};
+ghost use Rattle.fsoe_io.specs.Calls.{has_failed};
 ghost use Rattle.fsoe_io.specs.Faults.{Rose};
 
 use crate::desk::{Desk, LoadFault};

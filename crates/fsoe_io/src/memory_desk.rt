@@ -1,7 +1,8 @@
 //! Desks in memory.
 ghost use Rattle.std.specs.Io.KnownBytes.{Keeps};
 ghost use Rattle.std.specs.Prelude.{◌≡◌, ◌≢◌, ◌≤◌, ◌<◌, ◌+◌, ◌⊎◌, false, Some, List, ℕ, [], ◌∷◌, ◌++◌, if◌then◌else◌, length, map, IsSome, IsNone, IfOk, IfSome, option_map};
-ghost use Rattle.fsoe_io.specs.Desk.{named, text_under, failed_loads, has_failed};
+ghost use Rattle.fsoe_io.specs.Desk.{named, text_under, failed_loads};
+ghost use Rattle.fsoe_io.specs.Calls.{has_failed};
 ghost use Rattle.fsoe_io.specs.Faults.{Rose};
 ghost use Rattle.fsoe_io.specs.Planned.{is_next_listed, with_one_more};
 

@@ -1,7 +1,7 @@
 //! The run of a command.
 ghost use Rattle.std.specs.Prelude.{◌≡◌, ◌≢◌, ℕ, List, [], None, map, string_bytes};
 ghost use Rattle.file_run.specs.Outside as outside;
-ghost use Rattle.multi_master.specs.Standing.{app_view};
+ghost use Rattle.multi_master.specs.Calls.{app_view};
 ghost use Rattle.plant_file.specs.Handed.{handed};
 ghost use Rattle.fsoe_lab.specs.Command.{Runs, file_named, trial_said};
 

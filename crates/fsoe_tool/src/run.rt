@@ -1,7 +1,7 @@
 //! The run of a command.
 ghost use Rattle.std.specs.Prelude.{◌≡◌, ◌≢◌, ℕ, List, [], false, map, string_bytes};
 ghost use Rattle.file_run.specs.Outside as outside;
-ghost use Rattle.multi_master.specs.Standing.{app_view};
+ghost use Rattle.multi_master.specs.Calls.{app_view};
 ghost use Rattle.plant_file.specs.Handed.{handed};
 ghost use Rattle.fsoe_tool.specs.Command.{command_said, file_named};
 ghost use Rattle.fsoe_tool.specs.Running.{Runs, reads_input, runs_plant};

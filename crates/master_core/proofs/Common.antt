@@ -11,7 +11,8 @@ pub use Rattle.end_model.specs.Step.{code_sent, did_on}
 pub use Rattle.end_model.specs.Verdict.{unless}
 pub use Rattle.failsafe_io.specs.Offer.{OfferView, data_command, data_load}
 pub use Rattle.fsoe_base.specs.Did.{takes as accepts, resets, takes}
-pub use Rattle.master_core.specs.Calls.{Accept, Call, Called, Event, MadeAccept, MadeEvent, MadeReply, MadeSetting, Pending, Reply, Setting, deeds_of, delivery_after, left_by, pending, tells_due, with_reply}
+pub use Rattle.master_core.specs.Calls.{Accept, Call, Called, Event, MadeAccept, MadeEvent, MadeReply, MadeSetting, Pending, Reply, Setting, deeds_of, delivery_after, left_by, pending, with_reply}
+pub use Rattle.master_core.specs.Due.{tells_due}
 pub use Rattle.master_core.specs.Kit.{KitView, connection_download, parameter_download}
 pub use Rattle.master_core.specs.Master.{Accepted, Outcome, accepted, accepted_by, accepted_of, after, answered_by, at_limit, begins, drops, ends, first_master, makes_due, on_reset_view, on_session, refuses, replies, settles, tick_of}
 pub use Rattle.master_core.specs.MasterView.{MasterView}

@@ -1,5 +1,5 @@
 -- The calls of a master, a delivery in one call or in two, and the deeds that they make.
-use Rattle.std.specs.Prelude.{◌≡◌, ℕ, Bool, true, false, ◌||◌, List, [], ◌∷◌, Option, Some, None, is_some, if◌then◌else◌}
+use Rattle.std.specs.Prelude.{◌≡◌, ℕ, true, false, List, [], ◌∷◌, Option, Some, None, if◌then◌else◌}
 use Rattle.fsoe_base.specs.declared.did.Did.{Did}
 use Rattle.fsoe_base.specs.Did.{nothing}
 use Rattle.param_load.specs.declared.entry.Move.{Move}
@@ -12,6 +12,7 @@ use Rattle.master_core.specs.MasterView.{MasterView}
 use Rattle.master_core.specs.Now.{is_due}
 use Rattle.master_core.specs.Standing.{Follows, Answers}
 use Rattle.master_core.specs.Waiting.{Delivery, Accepts, Keeps, Replies}
+use Rattle.master_core.specs.Due.{tells_due}
 
 -- a call of a master, with what it told: `deliver`, `tick` or `reset` with its deed; `put`, `hold` or `nonce`; `accept`
 -- of these bytes; and `reply` with the frame that it wrote
@@ -36,10 +37,6 @@ pub record MadeSetting (old : MasterView) (event : Move) (new : MasterView) : Ty
   pub follows : Follows old event new
   pub keeps : Keeps old event new
   pub due : is_due new.state ≡ is_due old.state
-
--- whether `accept` told that a frame is due then: something was taken, or a session ended
-abbrev pub tells_due : Did → Bool
-tells_due did = is_some did.took || is_some did.reset
 
 -- what `accept` ensures: while no frame is due the bytes are accepted, and a frame is due then exactly where it told so
 pub record MadeAccept (old : MasterView) (bytes : List ℕ) (did : Did) (new : MasterView) : Type 0 where

@@ -1,4 +1,5 @@
 pub mod Calls
+pub mod Due
 pub mod Kit
 pub mod Master
 pub mod MasterView

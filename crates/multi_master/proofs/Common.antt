@@ -8,7 +8,7 @@ pub use Rattle.end_model.specs.Step.{run, step}
 pub use Rattle.failsafe_io.specs.Application.{Answer, GuardsBy}
 pub use Rattle.fsoe_base.specs.declared.did.Cause.{Cause}
 pub use Rattle.fsoe_base.specs.declared.did.Did.{Did}
-pub use Rattle.master_core.specs.Calls.{tells_due}
+pub use Rattle.master_core.specs.Due.{tells_due}
 pub use Rattle.master_core.specs.MasterView.{MasterView}
 pub use Rattle.master_core.specs.Waiting.{Accepts, Delivery, Replies, ShowsDue, Waits}
 pub use Rattle.multi_master.specs.Calls.{AppView, Call, ChangeApp, Deliver, IsSound, Meant, Nonce, Tick, after, all_tick, app_answer, changed_by, changed_from, numbered_connection, cycle_in, moved_at, event_on, meant, with_cycle}

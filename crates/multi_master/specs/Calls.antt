@@ -6,7 +6,7 @@ use Rattle.failsafe_io.specs.Application.{Answer, GuardsBy}
 use Rattle.param_load.specs.declared.entry.Move.{Move}
 use Rattle.param_load.specs.declared.entry.Move.TheVariants as move
 use Rattle.param_load.specs.declared.master_settings.MasterSettings.{MasterSettings}
-use Rattle.master_core.specs.Calls.{tells_due}
+use Rattle.master_core.specs.Due.{tells_due}
 use Rattle.multi_master.specs.Connection.{Connection, new_connection, next_deed, with_event, connection_outputs, offer_at, offer_len, is_offer, with_offers}
 
 -- how an application answers: by what it holds, whether the cycle is ticked, the inputs, and the lengths of the outputs
@@ -18,6 +18,10 @@ pub record AppView : Type 0 where
   pub rule : Rule
   pub holds : List ℕ
   pub guards : Bit → Bit → Bool
+
+-- what an application of this type means
+abbrev pub app_view : {A : Type 0} → (A → Rule) → (A → List ℕ) → (A → Bit → Bit → Bool) → A → AppView
+app_view rule holds guards a = record { rule = rule a; holds = holds a; guards = guards a }
 
 -- a call: a frame comes for a connection, all connections tick, a connection gets a session id, or another application
 -- runs from now on. Connections are numbered from 1

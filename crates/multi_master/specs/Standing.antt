@@ -12,7 +12,7 @@ use Rattle.master_core.specs.MasterView.{MasterView}
 use Rattle.master_core.specs.Now.{is_due}
 use Rattle.master_core.specs.Standing.{MasterIsAfter}
 use Rattle.multi_master.specs.Connection.{Connection, next_deed, connection_outputs}
-use Rattle.multi_master.specs.Calls.{Rule, AppView, Call, Deliver, Meant, IsSound, numbered_connection, cycle_in, meant, changed_by}
+use Rattle.multi_master.specs.Calls.{Rule, AppView, Call, Deliver, Meant, IsSound, numbered_connection, cycle_in, meant, changed_by, app_view}
 
 -- what a master of many connections is, with an application of any type: the masters in the order of the connections,
 -- the application that runs, the inputs that it reads in a cycle, and the connections whose offers the last call
@@ -29,10 +29,6 @@ pub record MultiView : Type 0 where
   pub app : AppView
   pub inputs : List (List ℕ)
   pub changed : List ℕ
-
--- what an application of this type means
-abbrev pub app_view : {A : Type 0} → (A → Rule) → (A → List ℕ) → (A → Bit → Bit → Bool) → A → AppView
-app_view rule holds guards a = record { rule = rule a; holds = holds a; guards = guards a }
 
 -- what contracts see, by the rule, what is held and the guards of an application of this type
 abbrev pub seen : {A : Type 0} → (A → Rule) → (A → List ℕ) → (A → Bit → Bit → Bool) → MultiValue A → MultiView

@@ -1,7 +1,8 @@
 //! All masters tick, and the results of a cycle are put.
 ghost use Rattle.std.specs.Prelude.{◌≡◌, ◌≤◌, false, length, map, All};
 ghost use Rattle.master_core.specs.Now.{is_due};
-ghost use Rattle.multi_master.specs.Standing.{app_view, due_in, own_len, settings_in, AreNumbers};
+ghost use Rattle.multi_master.specs.Standing.{due_in, own_len, settings_in, AreNumbers};
+ghost use Rattle.multi_master.specs.Calls.{app_view};
 ghost use Rattle.multi_master.specs.Puts.{PutsAnswer, PutsEach, RunsCycle, TicksOne, TicksEach};
 
 use crate::making::{Connections, MOST_LINKS};

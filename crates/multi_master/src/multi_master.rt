@@ -39,9 +39,9 @@ impl<A> Model for MultiMaster<A> {
 
 impl<A: Application> MultiMaster<A> {
     ghost use Rattle.multi_master.specs.Connection.{setup, connection_outputs, offer_at};
-    ghost use Rattle.multi_master.specs.Calls.{AppView, Deliver, Tick, Nonce, ChangeApp};
+    ghost use Rattle.multi_master.specs.Calls.{AppView, Deliver, Tick, Nonce, ChangeApp, app_view};
     ghost use Rattle.multi_master.specs.New.{first_fault};
-    ghost use Rattle.multi_master.specs.Standing.{app_view, seen, links, HasLink, StandsFor, Follows, AnswersFrame, AnswersTick, ShowsAt, ShowsApp, ShowsChanged, AreNumbers, settings_of};
+    ghost use Rattle.multi_master.specs.Standing.{seen, links, HasLink, StandsFor, Follows, AnswersFrame, AnswersTick, ShowsAt, ShowsApp, ShowsChanged, AreNumbers, settings_of};
 
     /// Creates the masters of connections with these settings, in this order, each in state Reset, and this
     /// application. No cycle is run: the offers are zeros until the first one. There may be no connection. The first

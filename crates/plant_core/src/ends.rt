@@ -96,7 +96,7 @@ fn slave_move(event: &PlantEvent) -> Option<(u16, Move)>
 }
 
 impl<A: Application> Ends<A> {
-    ghost use Rattle.multi_master.specs.Standing.{app_view};
+    ghost use Rattle.multi_master.specs.Calls.{app_view};
     ghost use Rattle.plant_model.specs.Acts.{Event, App};
     ghost use Rattle.plant_core.specs.Doing.{Delivers, IsReady, Pulls, DoesLine, sees};
     ghost use Rattle.plant_core.specs.Standing.{fixed_in, lengths_kept};

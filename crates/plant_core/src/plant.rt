@@ -48,7 +48,7 @@ impl<A> Model for Plant<A> {
 
 impl<A: Application> Plant<A> {
     ghost use Rattle.std.specs.Prelude.{[], map, IfOk, OnOk, OnErr, option_copied};
-    ghost use Rattle.multi_master.specs.Standing.{app_view};
+    ghost use Rattle.multi_master.specs.Calls.{app_view};
     ghost use Rattle.plant_model.specs.Acts.{Event, App, begins_with};
     ghost use Rattle.plant_core.specs.Making.{links_made};
     ghost use Rattle.plant_core.specs.Standing.{Starts, TellsStill, seen, fixed_in, kept_at, lengths_kept, HasLink, Follows, ShowsPair, TellsOther, IsAged, ShowsOn, ShowsWorst};
@@ -272,7 +272,7 @@ impl<A: Application> Plant<A> {
 
 impl<H: Application> Plant<KindOf<H>> {
     ghost use Rattle.std.specs.Prelude.{OnOk, OnErr, IfErr, None, string_bytes};
-    ghost use Rattle.multi_master.specs.Standing.{app_view};
+    ghost use Rattle.multi_master.specs.Calls.{app_view};
     ghost use Rattle.fb_net.specs.declared.kind_of.EntryOf.{EntryOf};
     ghost use Rattle.fb_net.specs.declared.kind_of.KindOf.TheVariants as kind;
     ghost use Rattle.file_run.specs.declared.stopped.Stopped.TheVariants as stopped;

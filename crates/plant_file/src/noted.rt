@@ -4,7 +4,7 @@ ghost use Rattle.fsoe_io.specs.Calls.{HasCause};
 ghost use Rattle.fsoe_io.specs.Output.{Puts};
 ghost use Rattle.file_run.specs.Ending.{Writes};
 ghost use Rattle.file_run.specs.Outside as outside;
-ghost use Rattle.multi_master.specs.Standing.{app_view};
+ghost use Rattle.multi_master.specs.Calls.{app_view};
 ghost use Rattle.plant_run.specs.Given.{terms_of};
 ghost use Rattle.plant_file.specs.JournalText.{journal_text};
 ghost use Rattle.plant_file.specs.Noted.{RanWanted};

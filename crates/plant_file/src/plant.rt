@@ -4,7 +4,7 @@ ghost use Rattle.fsoe_io.specs.declared.status.Status.TheVariants as status;
 ghost use Rattle.file_run.specs.Ending.{Writes};
 ghost use Rattle.file_run.specs.Outside as outside;
 ghost use Rattle.plant_setup.specs.ConfigLine.{config_line};
-ghost use Rattle.multi_master.specs.Standing.{app_view};
+ghost use Rattle.multi_master.specs.Calls.{app_view};
 ghost use Rattle.plant_file.specs.Handed.{handed};
 ghost use Rattle.plant_file.specs.Noted.{RanWanted};
 ghost use Rattle.plant_file.specs.Plant.{RanFile, RanSaid};

@@ -12,7 +12,7 @@ pub use Rattle.exchange_model.specs.Fair.{Fair, offers_bit, outputs_due, receive
 pub use Rattle.exchange_model.specs.Items.{FailSafe, Offered, Unset, next_offered, offered_put}
 pub use Rattle.exchange_model.specs.Offering.{WasOffered, ticks_of}
 pub use Rattle.exchange_model.specs.Other.{NoOther, before_other, first_of_both}
-pub use Rattle.exchange_model.specs.Schedules.{IsNextEntry, IsProperEvent, IsWorld}
+pub use Rattle.exchange_model.specs.Worlds.{IsNextEntry, IsProperEvent, IsWorld}
 pub use Rattle.exchange_model.specs.World.{SameLengths, deed_in, deeds, end_of_event, entry_at, entry_on, frames_of, going_on, move_from, next_entry, setup_of, world_after}
 pub use Rattle.failsafe_io.specs.Application.{Answer}
 pub use Rattle.failsafe_io.specs.Bits.{bit_at}

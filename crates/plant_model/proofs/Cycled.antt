@@ -4,7 +4,7 @@ use Rattle.std.proofs.Common.{◌≡◌, ℕ, zero, suc, ◌==◌, Bool, true, f
 use Rattle.fsoe_base.specs.declared.command.End.TheVariants as side
 use Rattle.param_load.specs.declared.entry.Move.TheVariants as move
 use Rattle.schedule_file.specs.declared.event.Event.TheVariants as at
-use Rattle.master_core.specs.Calls.{tells_due}
+use Rattle.master_core.specs.Due.{tells_due}
 use Rattle.multi_master.specs.Standing as multi
 use Rattle.plant_model.specs.declared.event.PlantEvent.TheVariants as event
 use Rattle.plant_model.specs.declared.journal.JournalStep.TheVariants as step

@@ -14,7 +14,7 @@ use Rattle.black_channel.specs.declared.channel.Parcel.{Parcel}
 use Rattle.plant_conf.specs.declared.conf.LinkConf.{LinkConf}
 use Rattle.fsoe_base.specs.declared.command.End.{End}
 use Rattle.fsoe_base.specs.declared.command.End.TheVariants as side
-use Rattle.master_core.specs.Calls.{tells_due}
+use Rattle.master_core.specs.Due.{tells_due}
 
 -- the master of each pair did what this connection of the master of many did
 abbrev pub MastersAgree : Beginning → List Act → Type 0

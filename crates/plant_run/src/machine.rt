@@ -3,7 +3,7 @@ ghost use Rattle.std.specs.Prelude.{false, ◌≡◌, ◌≤◌, ◌+◌, ◌++�
 ghost use Rattle.hex.specs.Hex.{encode_lower};
 ghost use Rattle.fsoe_base.specs.Command.{state_name};
 ghost use Rattle.fsoe_base.specs.declared.lengths.TheConstants.{MOST_DATA};
-ghost use Rattle.multi_master.specs.Standing.{app_view};
+ghost use Rattle.multi_master.specs.Calls.{app_view};
 ghost use Rattle.plant_model.specs.Pair.{is_tick_step};
 ghost use Rattle.plant_run.specs.Given.{named, terms_of};
 ghost use Rattle.plant_run.specs.Running.{RunCloses, RunStands, rest_in, rest_left};

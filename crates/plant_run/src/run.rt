@@ -1,6 +1,6 @@
 //! The run of a plant over the lines of its script.
 ghost use Rattle.std.specs.Prelude.{◌≡◌, []};
-ghost use Rattle.multi_master.specs.Standing.{app_view};
+ghost use Rattle.multi_master.specs.Calls.{app_view};
 ghost use Rattle.plant_run.specs.Given.{terms_of};
 ghost use Rattle.plant_run.specs.Ran.{RanPlant};
 ghost use Rattle.file_run.specs.Outside.{told};

@@ -1,9 +1,9 @@
 //! A channel with chosen rates.
 ghost use Rattle.std.specs.Prelude.{◌≡◌, ◌≤◌, [], codes, length, IfOk};
 ghost use Rattle.rand_pcg.specs.Pcg.{pcg32};
-ghost use Rattle.black_channel.specs.Calls.{empties_after, parcel_of};
+ghost use Rattle.black_channel.specs.Calls.{empties_after};
+ghost use Rattle.black_channel.specs.Told.{parcel_of, ChannelTold, Begins, PushesParcel, PullsParcel};
 ghost use Rattle.black_channel.specs.Holds.{seed_generator, turned_frame};
-ghost use Rattle.black_channel.specs.Told.{ChannelTold, Begins, PushesParcel, PullsParcel};
 ghost use Rattle.rate_channel.specs.Rated.{RateView, pulled, pushed, told_of};
 
 use black_channel::{Channel, PerfectChannel, Place, altered};

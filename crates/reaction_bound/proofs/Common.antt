@@ -8,7 +8,7 @@ pub use Rattle.exchange_model.specs.Honest.{is_tick}
 pub use Rattle.exchange_model.specs.Items.{Item, awaited, items, items_of}
 pub use Rattle.exchange_model.specs.Monitor.{HasParts, MonitorView, Side, heard_next, is_answer, next_number, next_sent, noted_next, sent_next, sent_number, side_of}
 pub use Rattle.exchange_model.specs.Other.{NoOther, first_of_both, is_other, item_number}
-pub use Rattle.exchange_model.specs.Schedules.{IsWorld}
+pub use Rattle.exchange_model.specs.Worlds.{IsWorld}
 pub use Rattle.exchange_model.specs.World.{SameLengths, deed_in, deeds, setup_of}
 pub use Rattle.fsoe_base.specs.Data.{is_data}
 pub use Rattle.fsoe_base.specs.declared.command.Command.{Command}

@@ -10,7 +10,7 @@ ghost use Rattle.fsoe_base.specs.Image.{bit_of};
 ghost use Rattle.exchange_model.specs.Ends.{of_end};
 ghost use Rattle.exchange_model.specs.Fair.{received_len, outputs_due};
 ghost use Rattle.exchange_model.specs.World.{setup_of, deeds, SameLengths};
-ghost use Rattle.exchange_model.specs.Schedules.{IsWorld};
+ghost use Rattle.exchange_model.specs.Worlds.{IsWorld};
 ghost use Rattle.exchange_model.specs.Other.{NoOther};
 ghost use Rattle.reaction_bound.specs.Age.{age_of, worst_of};
 ghost use Rattle.reaction_bound.specs.Reaction.{Quiet, Tick, broken_of};

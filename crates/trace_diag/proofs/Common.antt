@@ -24,7 +24,7 @@ pub use Rattle.exchange_model.proofs.Honest.Turns.{FirstConnection, FirstParamet
 pub use Rattle.exchange_model.proofs.Offering.Offered.{same_itself}
 pub use Rattle.exchange_model.proofs.Worlds.Longer.{world_on}
 pub use Rattle.exchange_model.specs.Ends.{peer, same_end}
-pub use Rattle.exchange_model.specs.Schedules.{IsProperEvent, IsWorld}
+pub use Rattle.exchange_model.specs.Worlds.{IsProperEvent, IsWorld}
 pub use Rattle.exchange_model.specs.Serving.{HasNoReset, TakesDelivery, deliveries_to, is_delivery}
 pub use Rattle.exchange_model.specs.World.{deed_in, deeds, delivery, end_of_event, entry_at, entry_on, frames_of, going_on, next_entry, setup_of, world, world_after}
 pub use Rattle.file_run.proofs.OnePart.{ends_one, takes_one}

@@ -1,6 +1,6 @@
 //! How the lines of a recorded trace are read.
 ghost use Rattle.std.specs.Prelude.{◌≡◌, ◌≤◌, length};
-ghost use Rattle.file_run.specs.Event.{what_says};
+ghost use Rattle.file_run.specs.Machine.{what_says};
 ghost use Rattle.schedule_file.specs.declared.line_buf.TheConstants.{MAX_LINE};
 ghost use Rattle.trace_diag.specs.Lines.{trace_line};
 

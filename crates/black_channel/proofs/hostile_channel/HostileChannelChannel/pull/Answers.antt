@@ -1,7 +1,7 @@
 use Rattle.std.proofs.Common.{rules, subst, ap, ◌∙◌, ◌<◌, ◌^◌, List, ℕ}
 use Rattle.std.specs.Option.{option_or}
-use Rattle.black_channel.specs.Told.{ChannelTold, PullsParcel}
-use Rattle.black_channel.specs.Calls.{holding, parcel_of}
+use Rattle.black_channel.specs.Told.{ChannelTold, PullsParcel, parcel_of}
+use Rattle.black_channel.specs.Calls.{holding}
 use Rattle.black_channel.specs.Holds.{Chance}
 use Rattle.black_channel.proofs.Pulling.{chance_pulls, form_left}
 use Rattle.black_channel.proofs.hostile_channel.HostileChannelChannel.pull.Goals as goal

@@ -1,7 +1,7 @@
 use Rattle.plant_run.proofs.Common.{err_from_is_err_and, link_lines}
 use Rattle.std.proofs.Common.{List, [], ℕ, ◌++◌, ap, ap₂, arith, refl, sym, ◌∙◌}
 use Rattle.fb_net.specs.contracts.kind_of.KindOfApplication.TheImpl.{ghosts, no_dict}
-use Rattle.multi_master.specs.Standing.{app_view}
+use Rattle.multi_master.specs.Calls.{app_view}
 use Rattle.plant_model.specs.declared.event.PlantLine.TheVariants as line
 use Rattle.plant_run.proofs.Hearing.{can_hear}
 use Rattle.plant_run.proofs.NextLine.{app_stopped, goes_on, says_app, step_fits}
