@@ -9,7 +9,7 @@ pub use Rattle.duo_run.specs.Duo.{Advances, CountsEntry, DuoStands, DuoView, IsD
 pub use Rattle.duo_run.specs.Pairs.{Pair, done_after, entries_over, entry_after, events_by, events_done, events_to, is_met, is_met_by, least, less_of, other_event, other_events, world_of}
 pub use Rattle.duo_run.specs.PairsReport.{ArePairs, IsPairOf, PairsInput, PairsReports, PairsRunFairly, RanPairs, closing_line, closing_lines, each_line, event_lines, line_if, lines_of_events, one_line, pairs_ended, pairs_last_lines, pairs_reporting, pairs_stop, tick_lines, with_tick}
 pub use Rattle.duo_run.specs.PairsStanding.{AllStandOver, CanStep, NotesOthers, PairsStand, StandsOver, TellsNext, Ticks, ToldNext}
-pub use Rattle.duo_run.specs.Replay.{AreEntries, AreSetTo, RanPair, ReplayReports, RunsFairly, ServesIfHonest, pair_ended_at, entry_line, entry_lines, last_lines, replay_reporting, run_stop, told_line}
+pub use Rattle.duo_run.specs.Replay.{AreEntries, AreSetTo, RanPair, ReplayReports, RunsFairly, ServesIfHonest, WithSettings, pair_ended_at, entry_line, entry_lines, last_lines, replay_reporting, run_stop, told_line}
 pub use Rattle.duo_run.specs.Summary.{summary_of}
 pub use Rattle.duo_run.specs.declared.summary.Summary.{Summary}
 pub use Rattle.end_model.specs.Deed.{Deed, is_empty}

@@ -1,5 +1,5 @@
 -- What a pair file is converted to: a file of several pairs, of which it is the only one.
-use Rattle.std.specs.Prelude.{◌≡◌, ℕ, ◌+◌, ◌-◌, ◌<◌, List, [], ◌∷◌, ◌++◌, codes, length, map, take, Result, Ok, Err, IfSome, IsSomeAnd, Some}
+use Rattle.std.specs.Prelude.{◌≡◌, ℕ, ◌+◌, ◌-◌, ◌<◌, List, [], ◌∷◌, ◌++◌, codes, length, map, take, Result, Ok, Err, IsSomeAnd, Some}
 use Rattle.std.specs.List.{flat_map}
 use Rattle.std.specs.declared.option.Option.{Option}
 use Rattle.std.specs.Io.KnownBytes.{Consumes, prepend_known}
@@ -17,7 +17,7 @@ use Rattle.schedule_file.specs.declared.pairs_line.PairsEvent.{PairsEvent}
 use Rattle.schedule_file.specs.declared.pairs_line.PairsEvent.TheVariants as pairs_event
 use Rattle.schedule_file.specs.declared.header_kind.HeaderKind.TheVariants as header_kind
 use Rattle.file_run.specs.Ending.{Appended, LinesBefore, ReadLines}
-use Rattle.file_run.specs.Outside.{CountsFaults, Outside, Wrote}
+use Rattle.file_run.specs.Outside.{CountsFaults, HadNoFault, Outside, Wrote}
 use Rattle.file_run.specs.Ran.{ReadsWhole}
 use Rattle.file_run.specs.Report.{refused_line}
 use Rattle.file_run.specs.Reporting.{IsPrefix, refused_at}
@@ -133,9 +133,9 @@ ConvertedAs status.Read ended o = ConvertRead ended.place o
 ConvertedAs status.Write ended o = ConvertWrite ended.place o
 ConvertedAs _ ended o = ⊥
 
--- an input was converted: how this ended; where neither count of faults rose, as the input stops; and what was counted
+-- an input was converted: how this ended, by its status; that the whole text was written, unless the source or the sink
+-- had a fault; and what was counted
 pub record RanConvert (ended : Ended) (o : Outside) : Type 0 where
   pub ends : ConvertedAs ended.status ended o
-  pub stops : (Rose o.source.faults_before o.source.faults_after → ⊥) → (Rose o.sink.faults_before o.sink.faults_after → ⊥)
-      → IfSome o.source.before (λ input. ended ≡ ended_at_stop (input_of header_kind.Pair input).stop)
+  pub completes : HadNoFault o.source → HadNoFault o.sink → WroteAll ended o
   pub faults : CountsFaults ended.status o

@@ -63,10 +63,15 @@ run_stop input w = stop_after input (length w)
 abbrev pub AreSetTo : Heading → MasterSettings → SlaveSettings → Type 0
 AreSetTo h ms ss = IsMasterOf h ms × IsSlaveOf h ss
 
--- the entries of both ends, set to what the header says, over these events; without a whole header there are none
+-- this holds of the settings of both ends that a header says: there are such settings, and a header says no others
+abbrev pub WithSettings : Heading → (MasterSettings → SlaveSettings → Type 0) → Type 0
+WithSettings h holds = (ms : MasterSettings) × (ss : SlaveSettings) × AreSetTo h ms ss × holds ms ss
+
+-- these are the entries of both ends over these events, with the settings that the header says; without a whole header
+-- there are none
 abbrev pub AreEntries : Option Heading → List Event → List Entry → Type 0
 AreEntries None events w = w ≡ []
-AreEntries (Some h) events w = (ms : MasterSettings) × (ss : SlaveSettings) × AreSetTo h ms ss × (w ≡ world ms ss events)
+AreEntries (Some h) events w = WithSettings h (λ ms ss. w ≡ world ms ss events)
 
 -- the whole report of both ends over an input, and how a run that writes it ends
 abbrev pub ReplayReports : Input → Ended → List ℕ → Type 0
@@ -79,13 +84,14 @@ ReplayReports input ended text =
 abbrev pub replay_reporting : Reporting Heading ScheduleLine Event
 replay_reporting = record { format = schedule_format header_kind.Pair; judges = true; memory = Never; reports = ReplayReports }
 
--- the entries over an input before the first other entry, all if there is none, are fair
+-- with the settings that the header of an input says, its entries before the first other entry, all if there is none,
+-- are fair
 abbrev pub RunsFairly : Input → Type 0
-RunsFairly input = IfSome input.heading (λ h. (ms : MasterSettings) (ss : SlaveSettings) → AreSetTo h ms ss → Fair ms.lengths (before_other (world ms ss input.events)))
+RunsFairly input = IfSome input.heading (λ h. WithSettings h (λ ms ss. Fair ms.lengths (before_other (world ms ss input.events))))
 
--- where the ends match and the events are honest, the entries over an input serve
+-- where these settings match and the events of the input are honest, its entries serve
 abbrev pub ServesIfHonest : Input → Type 0
-ServesIfHonest input = IfSome input.heading (λ h. (ms : MasterSettings) (ss : SlaveSettings) → AreSetTo h ms ss → Match ms ss → IsHonest ms ss input.events → Serves ms input.events (world ms ss input.events))
+ServesIfHonest input = IfSome input.heading (λ h. WithSettings h (λ ms ss. Match ms ss → IsHonest ms ss input.events → Serves ms input.events (world ms ss input.events)))
 
 -- both ends ran over an input; and, where its bytes are told, the law of the pair holds of their entries
 pub record RanPair (ended : Ended) (o : Outside) : Type 0 where

@@ -33,15 +33,15 @@ brought s (x ∷ e) = shown s x.did.took (brought s e)
 abbrev pub outputs : Setup → List Deed → List ℕ
 outputs s e = brought s (since e)
 
--- what a frame that was taken brings, n ticks later, where e are the deeds up to it
-abbrev pub held_up : Setup → List Deed → ℕ → Option Took → List ℕ → List ℕ
-held_up s e n None before = before
-held_up s e n (Some t) before = if is_process t.command && nat_lt n (terms s e).watchdog then t.load else zeros s
+-- what it brings still n ticks later, where e are the deeds up to it: data, while the ticks are fewer than the watchdog
+abbrev pub shown_after : Setup → ℕ → List Deed → Option Took → List ℕ → List ℕ
+shown_after s n e None before = before
+shown_after s n e (Some t) before = if is_process t.command && nat_lt n (terms s e).watchdog then t.load else zeros s
 
--- the outputs by looking back, n ticks later
+-- the outputs n ticks after these deeds: zeros after a reset, else what the last deed brings still
 abbrev pub out_after : Setup → ℕ → List Deed → List ℕ
 out_after s n [] = zeros s
-out_after s n (x ∷ e) = if is_some x.did.reset then zeros s else held_up s (x ∷ e) n x.did.took (out_after s (ticked x.what n) e)
+out_after s n (x ∷ e) = if is_some x.did.reset then zeros s else shown_after s n (x ∷ e) x.did.took (out_after s (ticked x.what n) e)
 
 -- the outputs by looking back, with no word of ages, states or limits: the load of the frame that was taken last where
 -- it was ProcessData, no reset came after it, and fewer ticks than the watchdog; else zeros

@@ -146,13 +146,18 @@ sent_on s e None (Some t) sent = answer s e t
 sent_on s e None None true = reset_frame 0 (sends s)
 sent_on s e None None false = []
 
--- a deed that has sent nothing yet
+-- a deed before its frame is sent
 abbrev pub begun : Move → Did → Deed
 begun event done = record { what = event; did = done; sent = [] }
 
--- the deed of an end that does this at an event
+-- the frame that a deed sends once it is begun. The deed is counted already, so that an answer goes by the frame that
+-- was taken just now
+abbrev pub sent_when_begun : Setup → List Deed → Move → Did → List ℕ
+sent_when_begun s e event done = sent_on s (begun event done ∷ e) done.reset done.took done.sent
+
+-- the deed of an end that does this at an event, with the frame that it sends
 abbrev pub deed_of : Setup → List Deed → Move → Did → Deed
-deed_of s e event done = record { what = event; did = done; sent = sent_on s (begun event done ∷ e) done.reset done.took done.sent }
+deed_of s e event done = record (begun event done) { sent = sent_when_begun s e event done }
 
 -- the next deed of an end
 abbrev pub step : Setup → List Deed → Move → Deed

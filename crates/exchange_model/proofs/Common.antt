@@ -10,7 +10,7 @@ pub use Rattle.end_model.specs.Chain.{fits_session, kept, newest_crc, own, own_l
 pub use Rattle.end_model.specs.Deed.{Deed, delivered, is_empty, ticked}
 pub use Rattle.end_model.specs.Entries.{entry_of}
 pub use Rattle.end_model.specs.Neighbours.{IsOtherThanNewest, NeighboursDiffer}
-pub use Rattle.end_model.specs.Outputs.{held_up, out, out_after, outputs, zeros}
+pub use Rattle.end_model.specs.Outputs.{shown_after, out, out_after, outputs, zeros}
 pub use Rattle.end_model.specs.Payloads.{conn_id, count_in, first_conn, id_sent, joined, nonce, pay, piece, pieces, pieces_for, session_id, terms, terms_in, uploaded, whole}
 pub use Rattle.end_model.specs.Phases.{command_in, has_command, is_data_frame, is_data_if, is_guarded_command, is_reset, phase_of, phase_of_frame, phase_of_known, same_phase}
 pub use Rattle.end_model.specs.Reactions.{AfterConnection, AfterSession, Answers, Expires, IsReaction, IsRead, IsResetFrame, IsValid, MasterFirstData, MasterGoesOn, MasterMoreData, MasterNextPhase, MasterStarts, OfConnection, OfParameter, OfSession, PeerResets, Reaction, Refuses, ResetsItself, SendsAgain, SlaveFirstData, SlaveGoesOn, SlaveMoreData, SlaveNextPhase, Taking, parts, received, with_answer}

@@ -1,5 +1,5 @@
 -- What the outside tells of a run.
-use Rattle.std.specs.Prelude.{◌≡◌, ◌≢◌, ◌≤◌, ℕ, List, IfSome}
+use Rattle.std.specs.Prelude.{◌≡◌, ◌≢◌, ◌≤◌, ◌-◌, ◌^◌, ℕ, List, IfSome}
 use Rattle.std.specs.declared.option.Option.{Option}
 use Rattle.fsoe_io.specs.Sink.{Grew}
 use Rattle.fsoe_io.specs.declared.status.Status.{Status}
@@ -15,6 +15,10 @@ pub record Told : Type 0 where
 -- what a source or a sink tells of its bytes and of its faults, as it is before a run and after it
 abbrev pub told : {A : Type 0} → (A → Option (List ℕ)) → (A → ℕ) → A → A → Told
 told bytes faults before after = record { before = bytes before; after = bytes after; faults_before = faults before; faults_after = faults after }
+
+-- nothing failed at it, as its count tells: the count stayed, and isn't 2^64 - 1, where a count of 64 bits always stays
+abbrev pub HadNoFault : Told → Type 0
+HadNoFault t = (t.faults_after ≡ t.faults_before) × (t.faults_after ≢ 2 ^ 64 - 1)
 
 -- a source tells the bytes that are to come from it, a sink those that were written to it
 pub record Outside : Type 0 where

@@ -1,5 +1,5 @@
--- How a run over an input ended, and what it wrote.
-use Rattle.std.specs.Prelude.{◌≡◌, ℕ, ◌+◌, ◌<◌, Bool, IsTrue, List, [], ◌++◌, length, IfSome, Some}
+-- How a run over an input ended, and what it wrote. H is what a header says, L what a line after it says, and E an event.
+use Rattle.std.specs.Prelude.{◌≡◌, ◌≢◌, ℕ, ◌+◌, ◌<◌, Bool, IsTrue, List, [], ◌++◌, length, IfSome, Some}
 use Rattle.std.specs.declared.option.Option.{Option}
 use Rattle.std.specs.Io.KnownBytes.{Consumes, prepend_known}
 use Rattle.fsoe_io.specs.Faults.{Rose}
@@ -9,7 +9,7 @@ use Rattle.fsoe_io.specs.declared.status.Status.{Status}
 use Rattle.fsoe_io.specs.declared.status.Status.TheVariants as status
 use Rattle.schedule_file.specs.Input.{InputFormat, InputOf, NoLine, Refused, input_read}
 use Rattle.file_run.specs.Ending.{Appended, LinesBefore, ReadLines}
-use Rattle.file_run.specs.Outside.{CountsFaults, Outside, Wrote}
+use Rattle.file_run.specs.Outside.{CountsFaults, HadNoFault, Outside, Wrote}
 use Rattle.file_run.specs.Report.{refused_line}
 use Rattle.fsoe_io.specs.Sink.{Grew}
 use Rattle.file_run.specs.Reporting.{Reporting, MemoryUse, Never, BeforeEvents, Always, BeginsReport, CutsReport, refused_at}
@@ -30,17 +30,21 @@ line_of_end input = input.lines + length input.events + 1
 abbrev pub ReadsWhole : {H L E : Type 0} → InputFormat H L E → Option (List ℕ) → Option (List ℕ) → Type 0
 ReadsWhole f old left = (lines : ℕ) × IfSome old (λ input. lines ≡ line_of_end (input_read f input)) × ReadsTo lines old left
 
+-- the whole report of the input was written, and the run ended as one that writes it does
+abbrev pub WroteReport : {H L E : Type 0} → Reporting H L E → Ended → Outside → Type 0
+WroteReport r ended o = Wrote o (λ input text. r.reports (input_read r.format input) ended text)
+
 -- the run came to the `end` of its input, read no further, and wrote its whole report
 pub record CameToEnd {H L E : Type 0} (r : Reporting H L E) (ended : Ended) (o : Outside) : Type 0 where
   pub ends : EndsWhole r.judges ended.status ended.place
   pub read : ReadsWhole r.format o.source.before o.source.after
-  pub wrote : Wrote o (λ input text. r.reports (input_read r.format input) ended text)
+  pub wrote : WroteReport r ended o
 
 -- a line is refused, whose number is the place, no more was read, and the whole report was written
 pub record CameToRefused {H L E : Type 0} (r : Reporting H L E) (ended : Ended) (o : Outside) : Type 0 where
   pub number : LinesBefore ended.place o.source.before
   pub read : ReadsUpTo ended.place o.source.before o.source.after
-  pub wrote : Wrote o (λ input text. r.reports (input_read r.format input) ended text)
+  pub wrote : WroteReport r ended o
 
 -- a text is the report of so many whole lines that were taken, without its last line, which says that no line comes
 -- after them
@@ -87,10 +91,9 @@ EndsAs r status.Write ended o = FailedWrite r ended.place o
 EndsAs r status.Memory ended o = HadNoMemory r ended o
 EndsAs r _ ended o = ⊥
 
--- a command ran over an input: how it ended; where neither count of faults rose and memory wasn't wanted, as the input
--- says; and what was counted
+-- a command ran over an input: how it ended, by its status; that it wrote the whole report of the input, unless the
+-- source or the sink had a fault or memory was wanted; and what was counted
 pub record RanOver {H L E : Type 0} (r : Reporting H L E) (ended : Ended) (o : Outside) : Type 0 where
   pub ends : EndsAs r ended.status ended o
-  pub stops : (Rose o.source.faults_before o.source.faults_after → ⊥) → (Rose o.sink.faults_before o.sink.faults_after → ⊥) → (ended.status ≡ status.Memory → ⊥)
-      → IfSome o.source.before (λ input. (report : List ℕ) × r.reports (input_read r.format input) ended report)
+  pub completes : HadNoFault o.source → HadNoFault o.sink → ended.status ≢ status.Memory → WroteReport r ended o
   pub faults : CountsFaults ended.status o

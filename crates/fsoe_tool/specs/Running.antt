@@ -16,6 +16,11 @@ use Rattle.plant_file.specs.Plant.{RanFile}
 use Rattle.plant_run.specs.Ran.{RanPlant}
 use Rattle.fsoe_tool.specs.declared.command.Command.{Command}
 use Rattle.fsoe_tool.specs.declared.command.Command.TheVariants as tool
+use Rattle.fsoe_tool.specs.declared.run.Outcome.{Outcome}
+
+-- how a run ended that left this
+abbrev pub ended_of : Outcome → Ended
+ended_of outcome = record { status = outcome.status; place = outcome.place }
 
 -- whether what the words name reads an input: all but the schedule of a number do
 abbrev pub reads_input : Option Command → Bool

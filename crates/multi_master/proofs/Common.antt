@@ -1,7 +1,7 @@
 -- The names that more than one file of these proofs cites, passed on from one place. Declares nothing.
 pub use Rattle.end_model.proofs.Runs.{deed, run_append, same_deed}
 pub use Rattle.end_model.specs.Deed.{Deed}
-pub use Rattle.end_model.specs.Outputs.{held_up, out, outputs, zeros}
+pub use Rattle.end_model.specs.Outputs.{out, outputs, shown_after, zeros}
 pub use Rattle.end_model.specs.Runs.{IsRun, events_of}
 pub use Rattle.end_model.specs.Setup.{Setup}
 pub use Rattle.end_model.specs.Step.{run, step}

@@ -1,5 +1,5 @@
 -- Events that leave offers and outputs as they are.
-use Rattle.multi_master.proofs.Common.{Cause, Deed, Did, IsRun, Move, Setup, deed, held_up, out, outputs, step, tells_due, zeros}
+use Rattle.multi_master.proofs.Common.{Cause, Deed, Did, IsRun, Move, Setup, deed, out, outputs, shown_after, step, tells_due, zeros}
 use Rattle.std.proofs.Common.{◌≡◌, ℕ, List, [], ◌∷◌, Option, None, is_some, false, ◌||◌, if◌then◌else◌, refl, sym, ◌∙◌, arith, rules}
 use Rattle.fsoe_base.specs.declared.did.Took.{Took}
 use Rattle.param_load.specs.declared.entry.Move.TheVariants as move
@@ -29,7 +29,7 @@ quiet_tick s e r h =
 
 -- a frame of which nothing is taken and which ends no session
 quiet-parts : (s : Setup) (e : List Deed) (x : Deed) (n : ℕ) (took : Option Took) (reset : Option Cause) (before : List ℕ) → (is_some took || is_some reset) ≡ false
-    → (if is_some reset then zeros s else held_up s (x ∷ e) n took before) ≡ before
+    → (if is_some reset then zeros s else shown_after s n (x ∷ e) took before) ≡ before
 quiet-parts s e x n took reset before h = grind arith
 
 pub quiet_frame : (s : Setup) (e : List Deed) (bytes : List ℕ) → tells_due (step s e (move.Deliver bytes)).did ≡ false

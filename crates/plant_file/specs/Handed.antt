@@ -14,6 +14,10 @@ pub record DeskTold : Type 0 where
   pub faults_before : ℕ
   pub faults_after : ℕ
 
+-- it, of this name, by the desk as it is before a run and after it
+abbrev pub desk_told : {D : Type 0} → (D → List ℕ → Option (List ℕ)) → (D → List ℕ → ℕ) → List ℕ → D → D → DeskTold
+desk_told holds faults name before after = record { text = holds before name; faults_before = faults before name; faults_after = faults after name }
+
 -- an application that is handed in, under its name
 abbrev pub entry_seen : {H : Type 0} → (H → AppView) → EntryOf H → Named
 entry_seen app_of entry = record { name = string_bytes entry.name; app = app_of entry.app }

@@ -53,16 +53,19 @@ lines_in (text ∷ next ∷ parts) = whole_line text ∷ lines_in (next ∷ part
 abbrev pub lines_of : List ℕ → List (Result (List ℕ) InputCause)
 lines_of bytes = lines_in (slice_split (λ b. b == 10) bytes)
 
--- how the lines of an input are read, where H is what a header says, L what a line after it says, and E an event: the
--- header of which no line is read; a header after its next line, or why that line is refused; whether a header is done;
--- what a line after it says, or why it is refused; the event of a line, where a line without one is the last; and
--- whether there may be no event after these
+-- how the lines of an input are read, where H is what a header says, L what a line after it says, and E an event
 pub record InputFormat (H L E : Type 0) : Type 0 where
+  -- the header of which no line is read
   pub start : H
+  -- a header after its next line, or why that line is refused
   pub header_line : H → List ℕ → Result H LineCause
+  -- whether a header is done
   pub is_whole : H → Bool
+  -- what a line after it says, or why that line is refused
   pub line : H → List ℕ → Result L LineCause
+  -- the event of such a line; the last line has none
   pub event : L → Option E
+  -- whether there may be no event after these
   pub is_full : H → List E → Bool
 
 -- a header that is done, the number of its lines, and the lines after it

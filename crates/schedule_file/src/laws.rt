@@ -15,7 +15,7 @@ ghost use Rattle.schedule_file.specs.declared.pairs_header.TheConstants.{MOST_PA
 ghost use Rattle.schedule_file.specs.declared.event.ScheduleLine.TheVariants.{Step};
 ghost use Rattle.schedule_file.specs.Event.{Fits, FitsEnd};
 ghost use Rattle.schedule_file.specs.EventText.{IsOfTypes, event_text};
-ghost use Rattle.schedule_file.specs.Header.{IsMasterOf, IsSlaveOf};
+ghost use Rattle.schedule_file.specs.Header.{Heading, IsMasterOf, IsSlaveOf};
 ghost use Rattle.schedule_file.specs.Input.{AtEnd, NoLine, NoNewline, Line, Refused, heading_profile, input_of, own_length};
 ghost use Rattle.schedule_file.specs.WorkedInputs.{input_with};
 ghost use Rattle.schedule_file.specs.declared.event.Event.TheVariants as event;
@@ -75,12 +75,14 @@ pub fn inputs_have_few_events()
     ensures { (kind : HeaderKind) (bytes : List ℕ) → length (input_of kind bytes).events ≤ max_events }
 {}
 
-/// The header of an input, where it is whole, gives settings of both ends; those of an end that it doesn't describe are
-/// such as no line says.
+/// The header of an input, where it is whole, gives settings of both ends, and gives no others; those of an end that it
+/// doesn't describe are such as no line says.
 #[tactic(auto, using(crate::proofs::Sound::gives_master, crate::proofs::Sound::gives_slave))]
 pub fn whole_headers_give_settings()
     ensures master { (kind : HeaderKind) (bytes : List ℕ) → IfSome (input_of kind bytes).heading (λ h. (settings : MasterSettings) × IsMasterOf h settings) }
     ensures slave { (kind : HeaderKind) (bytes : List ℕ) → IfSome (input_of kind bytes).heading (λ h. (settings : SlaveSettings) × IsSlaveOf h settings) }
+    ensures one_master { (h : Heading) (a b : MasterSettings) → IsMasterOf h a → IsMasterOf h b → a ≡ b }
+    ensures one_slave { (h : Heading) (a b : SlaveSettings) → IsSlaveOf h a → IsSlaveOf h b → a ≡ b }
 {}
 
 /// The events of an input with a complete header fit the ends that it describes. These are both ends of a pair, that of

@@ -1,6 +1,6 @@
 -- The frames of an input are bytes, so that what a run reports of it has the verdict on them.
 use Rattle.trace_diag.proofs.Common.{BeginsReport, CutsReport, Ended, EndsAs, RanOver, ReportsReadLines, input_read, judge_reporting, refused_at, trace_format}
-use Rattle.std.proofs.Common.{ℕ, ◌+◌, List, Option, Some, None, IfSome, arith}
+use Rattle.std.proofs.Common.{ℕ, ◌+◌, List, Option, arith}
 use Rattle.fsoe_io.specs.declared.status.Status.{Status}
 use Rattle.fsoe_io.specs.declared.status.Status.TheVariants as status
 use Rattle.file_run.specs.Outside.{Outside, Wrote}
@@ -15,10 +15,6 @@ begun bytes text h = (h.0, h.1, reported bytes h.1 h.0 h.2, h.3)
 
 cut : (bytes text : List ℕ) → CutsReport judge_reporting (input_read trace_format bytes) text → CutsReport diagnose_reporting (input_read trace_format bytes) text
 cut bytes text h = (h.0, h.1, reported bytes h.1 h.0 h.2, h.3, h.4)
-
-if-some : {A : Type 0} (o : Option A) (P Q : A → Type 0) → ((x : A) → P x → Q x) → IfSome o P → IfSome o Q
-if-some None P Q h k = tt
-if-some (Some x) P Q h k = h x k
 
 wrote : (o : Outside) (P Q : List ℕ → List ℕ → Type 0) → ((input text : List ℕ) → P input text → Q input text) → Wrote o P → Wrote o Q
 wrote o P Q h k = grind arith
@@ -46,6 +42,6 @@ ends-as _ ended o k = k
 pub ran : (ended : Ended) (o : Outside) → RanOver judge_reporting ended o → RanOver diagnose_reporting ended o
 ran ended o k = record {
   ends = ends-as ended.status ended o k.ends;
-  stops = λ read written memory. if-some o.source.before _ _ (λ input r. (r.0, reported input ended r.0 r.1)) (k.stops read written memory);
+  completes = λ source sink memory. wrote o _ _ (λ input. reported input ended) (k.completes source sink memory);
   faults = k.faults;
 }
