@@ -47,6 +47,6 @@ abbrev pub usage_line : List ℕ
 usage_line = codes "usage: fsoe_lab journal|rates <file> [<lose> <alter> <repeat> <late>]\n"
 
 -- what holds of the run of what the words name: a plant ran by the file; without one the usage line was written
-abbrev pub Runs : {C : Type 0} → Option Trial → Ended → Outside → DeskTold → Handed C → Type 0
+abbrev pub Runs : {C S : Type 0} → Option Trial → Ended → Outside → DeskTold → Handed C S → Type 0
 Runs None ended o desk h = WroteLine usage_line status.Usage ended o h
 Runs (Some trial) ended o desk h = RanFile (RanWanted trial.wanted) ended o desk h

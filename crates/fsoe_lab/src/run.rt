@@ -37,7 +37,8 @@ pub fn run<D: Desk, S: Source, K: Sink>(
         Runs (trial_said (map string_bytes words.now)) result
         (record { source = outside.told S.left S.faults source.old source.new; sink = outside.told K.written K.faults sink.old sink.new })
         (let file = file_named (map string_bytes words.now) in record { text = D.holds desk.old file; faults_before = D.faults desk.old file; faults_after = D.faults desk.new file })
-        (handed (app_view A.rule A.holds A.guards) C.name C.told apps.items channels.old.items channels.new.items journal.new) }
+        (handed (app_view A.rule A.holds A.guards) C.name C.told apps.items channels.old.items channels.new.items source.old source.new journal.new) }
+    ensures names_stay { let C = ⟦<Box<dyn Channel> as Channel>⟧ in map C.name channels.new.items ≡ map C.name channels.old.items }
     ensures unasked { trial_said (map string_bytes words.now) ≡ None → desk.new ≡ desk.old }
     ensures others { (other : List ℕ) → other ≢ file_named (map string_bytes words.now) → D.faults desk.new other ≡ D.faults desk.old other }
 {

@@ -44,7 +44,7 @@ pub record RanUsage (ended : Ended) (sink : Told) : Type 0 where
   pub later : sink.faults_before ≤ sink.faults_after
 
 -- what holds of the run of what the words name: of a command all that its own call says
-abbrev pub Runs : {C : Type 0} → Option Command → Ended → Outside → DeskTold → Handed C → Type 0
+abbrev pub Runs : {C S : Type 0} → Option Command → Ended → Outside → DeskTold → Handed C S → Type 0
 Runs None ended o desk h = RanUsage ended o.sink
 Runs (Some (tool.Node end)) ended o desk h = RanNode end ended o
 Runs (Some tool.Replay) ended o desk h = RanReplay ended o

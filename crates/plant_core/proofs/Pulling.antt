@@ -103,18 +103,16 @@ does_line : (old new : PlantView) (said : Said) (gifts : List (Option Parcel)) (
 does_line old new said gifts before after fits past g = record {
   fixed = g.fixed;
   follows = record {
-    plays = λ b done s.
-        let d = g.goes b done s.has_done in
-        let same = lengths_are (λ k. is_cut k done) (pairs_by old.journal) 1 b.links old.links s.has_done.links in
+    plays = λ b done h.
+        let d = g.goes b done h in
+        let same = lengths_are (λ k. is_cut k done) (pairs_by old.journal) 1 b.links old.links h.links in
         record {
           gifts = gifts;
-          stands = record {
-            may = record {
-              past = past done s.may.past;
-              fit = subst (All (SaidFits b.links)) (sym (line_said said gifts done))
-                  (All-append (SaidFits b.links) (said_in done) (said ∷ []) s.may.fit (All-cons (SaidFits b.links) said [] (fits b.links same) (All-nil (SaidFits b.links))));
-            };
-            has_done = subst (HasDone b new) (append_assoc (map PullFrom gifts) (Happen said ∷ []) done) d.has_done;
+          has_done = subst (HasDone b new) (append_assoc (map PullFrom gifts) (Happen said ∷ []) done) d.has_done;
+          may = λ m. record {
+            past = past done m.past;
+            fit = subst (All (SaidFits b.links)) (sym (line_said said gifts done))
+                (All-append (SaidFits b.links) (said_in done) (said ∷ []) m.fit (All-cons (SaidFits b.links) said [] (fits b.links same) (All-nil (SaidFits b.links))));
           };
           channel = d.channel;
         };

@@ -8,7 +8,7 @@ use Rattle.param_load.specs.declared.entry.Entry.{Entry}
 use Rattle.plant_conf.specs.declared.conf.LinkConf.{LinkConf}
 use Rattle.failsafe_io.specs.declared.bit.Bit.{Bit}
 use Rattle.exchange_model.specs.Monitor.{view_of}
-use Rattle.multi_master.specs.Calls.{Rule}
+use Rattle.multi_master.specs.Calls.{AppView, Rule}
 use Rattle.multi_master.specs.Standing.{MultiValue, MultiView, StandsFor}
 use Rattle.multi_master.specs.Standing as multi
 use Rattle.plant_model.specs.declared.journal.JournalStep.{JournalStep}
@@ -95,6 +95,10 @@ pub record HasDone (b : Beginning) (v : PlantView) (done : List Act) : Type 0 wh
   pub links : LinksAre b.links (λ k. is_cut k done) (pairs_by v.journal) v.links
   pub journal_is : v.journal ≡ journal b done
 
+-- a plant with this application hasn't begun: it has no connection, and did nothing
+pub record HasDoneNothing (app : AppView) (v : PlantView) : Type 0 where
+  pub done : (seed : ℕ) → HasDone (record { links = []; app = app; seed = seed }) v []
+
 -- a plant that began so has done these acts, and comes to the next line of its script
 pub record PlantStands (b : Beginning) (v : PlantView) (acts : List Act) : Type 0 where
   pub may : MayHaveDone b.links acts
@@ -105,15 +109,17 @@ pub record Starts (b : Beginning) (new : PlantView) (before after : ChannelTold)
   pub stands : PlantStands b new (Start ∷ [])
   pub channel : Trace (uses b (Start ∷ [])) before after
 
--- a plant goes on by the acts of one line, which says this, and its channel is used by them; the pulls gave `gifts`
+-- a plant goes on by the acts of one line, which says this, and its channel is used by them; the pulls gave `gifts`. A
+-- plant that came to this line comes to the next
 pub record Plays (b : Beginning) (acts : List Act) (said : Said) (new : PlantView) (before after : ChannelTold) : Type 0 where
   pub gifts : List (Option Parcel)
-  pub stands : PlantStands b new (with_line said gifts acts)
+  pub has_done : HasDone b new (with_line said gifts acts)
+  pub may : MayHaveDone b.links acts → MayHaveDone b.links (with_line said gifts acts)
   pub channel : Trace (uses_after b (with_line said gifts []) acts) before after
 
--- a plant that stood for some acts goes on by a line that says this
+-- a plant that has done some acts, or none, goes on by a line that says this
 pub record Follows (old : PlantView) (said : Said) (new : PlantView) (before after : ChannelTold) : Type 0 where
-  pub plays : (b : Beginning) (acts : List Act) → PlantStands b old acts → Plays b acts said new before after
+  pub plays : (b : Beginning) (acts : List Act) → HasDone b old acts → Plays b acts said new before after
 
 -- what is shown of a connection is this word of it and of the entries of its pair
 pub record ShowsPair {X : Type 0} (v : PlantView) (k : ℕ) (shown : X) (word : LinkConf → List Entry → X) : Type 0 where

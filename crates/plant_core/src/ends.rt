@@ -115,6 +115,7 @@ impl<A: Application> Ends<A> {
         requires ready { IsReady self.old steps.old }
         requires room { vec_len steps.old + 1 + vec_len self.old.links ≤ vec_capacity steps.old }
         ensures delivers { let seen = sees A.rule A.holds A.guards in Delivers (seen self.old steps.old) (record { to = to; frame = frame.now }) (seen self.new steps.new) (C.told channel.old) (C.told channel.new) }
+        ensures name_stays { C.name channel.new ≡ C.name channel.old }
         ensures ready { IsReady self.new steps.new }
         ensures count { vec_len self.new.links ≡ vec_len self.old.links }
         ensures few { vec_len steps.new ≤ vec_len steps.old + 1 + vec_len self.old.links }
@@ -161,6 +162,7 @@ impl<A: Application> Ends<A> {
         requires ready { IsReady self.old steps.old }
         requires room { vec_len steps.old + 64 * (vec_len self.old.links + 1) ≤ vec_capacity steps.old }
         ensures pulls { let seen = sees A.rule A.holds A.guards in Pulls 0 (seen self.old steps.old) (seen self.new steps.new) (C.told channel.old) (C.told channel.new) }
+        ensures name_stays { C.name channel.new ≡ C.name channel.old }
         ensures ready { IsReady self.new steps.new }
     {
         let mut frame = FrameBuf::new();
@@ -184,6 +186,7 @@ impl<A: Application> Ends<A> {
         requires ready { IsReady self.old steps.old }
         requires room { vec_len steps.old + room_for event.now (vec_len self.old.links) ≤ vec_capacity steps.old }
         ensures line { let seen = sees A.rule A.holds A.guards in DoesLine (seen self.old steps.old) (Event event.now) (seen self.new steps.new) (C.told channel.old) (C.told channel.new) }
+        ensures name_stays { C.name channel.new ≡ C.name channel.old }
         ensures ready { IsReady self.new steps.new }
     {
         note_event(event, steps);

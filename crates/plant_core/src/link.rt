@@ -112,7 +112,8 @@ impl Link {
     )
         requires few { self.old.monitor.noted + 1 < 2 ^ 64 }
         requires proper { MayMove self.old.slave.kit.settings what.now }
-        ensures { SlaveActs link what.now self.old self.new (C.told channel.old) (C.told channel.new) }
+        ensures acts { SlaveActs link what.now self.old self.new (C.told channel.old) (C.told channel.new) }
+        ensures name_stays { C.name channel.new ≡ C.name channel.old }
     {
         act(&mut self.slave, what, did, out);
         let watchdog = watchdog_in(self.slave.terms());
@@ -129,7 +130,8 @@ impl Link {
         out: &mut FrameBuf,
     )
         requires few { self.old.monitor.noted + 1 < 2 ^ 64 }
-        ensures { SlaveActs link (event.Deliver frame.now) self.old self.new (C.told channel.old) (C.told channel.new) }
+        ensures acts { SlaveActs link (event.Deliver frame.now) self.old self.new (C.told channel.old) (C.told channel.new) }
+        ensures name_stays { C.name channel.new ≡ C.name channel.old }
     {
         self.slave.deliver_into(frame, did, out);
         let watchdog = watchdog_in(self.slave.terms());
@@ -145,7 +147,8 @@ impl Link {
         out: &mut FrameBuf,
     )
         requires few { self.old.monitor.noted + 1 < 2 ^ 64 }
-        ensures { SlaveActs link event.Tick self.old self.new (C.told channel.old) (C.told channel.new) }
+        ensures acts { SlaveActs link event.Tick self.old self.new (C.told channel.old) (C.told channel.new) }
+        ensures name_stays { C.name channel.new ≡ C.name channel.old }
     {
         self.slave.tick_into(did, out);
         let watchdog = watchdog_in(self.slave.terms());
@@ -170,6 +173,7 @@ impl Link {
         requires few { self.old.monitor.noted + 1 < 2 ^ 64 }
         ensures noted { IsNoted at tick came.now did.now sent.now watchdog self.old self.new }
         ensures pushed { Trace (sent_uses (place_of link (peer at)) sent.now self.old.cut) (C.told channel.old) (C.told channel.new) }
+        ensures name_stays { C.name channel.new ≡ C.name channel.old }
     {
         self.watch.note_parts(at, tick, came, did, sent, watchdog);
         if !self.cut && !sent.is_empty() {

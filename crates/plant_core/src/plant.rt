@@ -51,7 +51,7 @@ impl<A: Application> Plant<A> {
     ghost use Rattle.multi_master.specs.Calls.{app_view};
     ghost use Rattle.plant_model.specs.Acts.{Event, App, begins_with};
     ghost use Rattle.plant_core.specs.Making.{links_made};
-    ghost use Rattle.plant_core.specs.Standing.{Starts, TellsStill, seen, fixed_in, kept_at, lengths_kept, HasLink, Follows, ShowsPair, TellsOther, IsAged, ShowsOn, ShowsWorst};
+    ghost use Rattle.plant_core.specs.Standing.{Starts, TellsStill, seen, fixed_in, kept_at, lengths_kept, HasDoneNothing, HasLink, Follows, ShowsPair, TellsOther, IsAged, ShowsOn, ShowsWorst};
     ghost use Rattle.plant_model.specs.Fits.{Fits, lengths_in};
 
     /// Creates a plant of this configuration's connections with this application, which begins. After `Memory` the
@@ -65,6 +65,7 @@ impl<A: Application> Plant<A> {
         ensures starts { IfOk result (λ plant. Starts (begins_with conf.now (app_view A.rule A.holds A.guards app)) (seen A.rule A.holds A.guards plant) (C.told channel.old) (C.told channel.new)) }
         ensures lengths { IfOk result (λ plant. lengths_kept plant.links ≡ map lengths_in conf.now.links) }
         ensures aged { IfOk result (λ plant. fixed_in plant.links ≡ fixed_in (links_made 1 conf.now.bounds conf.now.links)) }
+        ensures name_stays { C.name channel.new ≡ C.name channel.old }
         ensures kept { OnErr result (channel.new ≡ channel.old) }
     {
         let mut plant = Plant::unbegun(alloc, app);
@@ -72,10 +73,12 @@ impl<A: Application> Plant<A> {
         Ok(plant)
     }
 
-    /// Creates a plant that hasn't begun: it has no connection and an empty journal. Doesn't allocate.
+    /// Creates a plant that hasn't begun: it has no connection and an empty journal. A step before it begins is done as
+    /// by any plant without connections. Doesn't allocate.
     pub fn unbegun(alloc: Global, app: A) -> Plant<A>
         ensures app { result.master.app ≡ app }
         ensures journal { result.journal ≡ [] }
+        ensures nothing { HasDoneNothing (app_view A.rule A.holds A.guards app) (seen A.rule A.holds A.guards result) }
     {
         let ends = Ends {
             master: MultiMaster::unconnected(alloc, app),
@@ -103,6 +106,7 @@ impl<A: Application> Plant<A> {
         ensures starts { let seen = seen A.rule A.holds A.guards in OnOk result (Starts (begins_with conf.now (seen self.old).master.app) (seen self.new) (C.told channel.old) (C.told channel.new)) }
         ensures fixed { OnOk result (fixed_in self.new.links ≡ fixed_in (links_made 1 conf.now.bounds conf.now.links)) }
         ensures same_lengths { OnOk result (All HasSameLengths conf.now.links) }
+        ensures name_stays { C.name channel.new ≡ C.name channel.old }
         ensures kept { OnErr result (self.new ≡ self.old) }
         ensures unused { OnErr result (channel.new ≡ channel.old) }
     {
@@ -124,6 +128,7 @@ impl<A: Application> Plant<A> {
         requires fits { Fits (lengths_kept self.old.links) event.now }
         ensures follows { let seen = seen A.rule A.holds A.guards in OnOk result (Follows (seen self.old) (Event event.now) (seen self.new) (C.told channel.old) (C.told channel.new)) }
         ensures fixed { fixed_in self.new.links ≡ fixed_in self.old.links }
+        ensures name_stays { C.name channel.new ≡ C.name channel.old }
         ensures kept { OnErr result (self.new ≡ self.old) }
         ensures unused { OnErr result (channel.new ≡ channel.old) }
     {

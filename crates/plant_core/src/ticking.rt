@@ -14,6 +14,7 @@ pub(crate) fn tick_slaves<C: Channel>(links: &mut Vec<Link>, channel: &mut C)
     requires few { AreNoted (2 ^ 64 - 2) links.old.items }
     ensures acted { EachActs SlaveTicks 0 links.old.items links.new.items (C.told channel.old) (C.told channel.new) }
     ensures count { vec_len links.new ≡ vec_len links.old }
+    ensures name_stays { C.name channel.new ≡ C.name channel.old }
 {
     let mut did = Did::nothing();
     let mut out = FrameBuf::new();
@@ -36,6 +37,7 @@ pub(crate) fn masters_ticked<C: Channel>(
     requires outs { length outs.now ≡ vec_len links.old }
     ensures acted { EachActs (MasterTicked dids.now outs.now) 0 links.old.items links.new.items (C.told channel.old) (C.told channel.new) }
     ensures count { vec_len links.new ≡ vec_len links.old }
+    ensures name_stays { C.name channel.new ≡ C.name channel.old }
 {
     for i in 0..links.len() {
         let (did, out) = (&dids[i], &outs[i]);

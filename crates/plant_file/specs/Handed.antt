@@ -23,16 +23,26 @@ abbrev pub entry_seen : {H : Type 0} → (H → AppView) → EntryOf H → Named
 entry_seen app_of entry = record { name = string_bytes entry.name; app = app_of entry.app }
 
 -- the applications that are handed in, each under its name; the channels before and after a run, each with a name and
--- what it tells; and the journal that the run leaves
-pub record Handed (C : Type 0) : Type 0 where
+-- what it tells; the source of the script before and after it; and the journal that the run leaves
+pub record Handed (C S : Type 0) : Type 0 where
   pub apps : List Named
   pub name_of : C → List ℕ
   pub tells : C → ChannelTold
   pub channels_before : List C
   pub channels_after : List C
+  pub source_before : S
+  pub source_after : S
   pub journal : List JournalStep
 
 -- it, by what is known of each application and each channel
-abbrev pub handed : {H C : Type 0} → (H → AppView) → (C → List ℕ) → (C → ChannelTold) → List (EntryOf H) → List C → List C → List JournalStep → Handed C
-handed app_of name_of tells apps before after steps =
-    record { apps = map (entry_seen app_of) apps; name_of = name_of; tells = tells; channels_before = before; channels_after = after; journal = steps }
+abbrev pub handed : {H C S : Type 0} → (H → AppView) → (C → List ℕ) → (C → ChannelTold) → List (EntryOf H) → List C → List C → S → S → List JournalStep → Handed C S
+handed app_of name_of tells apps channels_before channels_after source_before source_after steps = record {
+  apps = map (entry_seen app_of) apps;
+  name_of = name_of;
+  tells = tells;
+  channels_before = channels_before;
+  channels_after = channels_after;
+  source_before = source_before;
+  source_after = source_after;
+  journal = steps;
+}

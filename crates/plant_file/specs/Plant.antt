@@ -32,22 +32,21 @@ use Rattle.plant_file.specs.Handed.{DeskTold, Handed}
 abbrev pub PlantRun : Type 1
 PlantRun = Terms → Ended → Outside → ChannelTold → ChannelTold → List JournalStep → Type 0
 
--- the script wasn't read, no channel was used, and the journal is empty
-pub record BeganNothing {C : Type 0} (o : Outside) (h : Handed C) : Type 0 where
-  pub left : o.source.after ≡ o.source.before
-  pub faults : o.source.faults_after ≡ o.source.faults_before
+-- the source wasn't asked, no channel was used, and the journal is empty
+pub record BeganNothing {C S : Type 0} (h : Handed C S) : Type 0 where
+  pub unread : h.source_after ≡ h.source_before
   pub channels : h.channels_after ≡ h.channels_before
   pub journal : h.journal ≡ []
 
 -- no plant ran: this line was written with this status, or a first part of it where a write failed
-pub record WroteLine {C : Type 0} (line : List ℕ) (why : Status) (ended : Ended) (o : Outside) (h : Handed C) : Type 0 where
-  pub nothing : BeganNothing o h
+pub record WroteLine {C S : Type 0} (line : List ℕ) (why : Status) (ended : Ended) (o : Outside) (h : Handed C S) : Type 0 where
+  pub nothing : BeganNothing h
   pub wrote : Writes 0 line (record { status = why; place = 0 }) ended o.sink
   pub later : o.sink.faults_before ≤ o.sink.faults_after
 
 -- no plant ran, for want of memory: nothing was written
-pub record NoMemoryForPlant {C : Type 0} (ended : Ended) (o : Outside) (h : Handed C) : Type 0 where
-  pub nothing : BeganNothing o h
+pub record NoMemoryForPlant {C S : Type 0} (ended : Ended) (o : Outside) (h : Handed C S) : Type 0 where
+  pub nothing : BeganNothing h
   pub ended_is : ended ≡ record { status = status.Memory; place = 0 }
   pub written : o.sink.after ≡ o.sink.before
   pub faults : o.sink.faults_after ≡ o.sink.faults_before
@@ -55,7 +54,7 @@ pub record NoMemoryForPlant {C : Type 0} (ended : Ended) (o : Outside) (h : Hand
 -- a plant with this configuration ran over its script: first with the net, or the first application of the name that
 -- the configuration has, and over the first channel of the name that it has. The other applications were left to the
 -- script, and the other channels alone. While the net runs, it answers by looking back over its cycles
-pub record RanSetUp {C : Type 0} (Ran : PlantRun) (conf : ConfView) (ended : Ended) (o : Outside) (h : Handed C) : Type 0 where
+pub record RanSetUp {C S : Type 0} (Ran : PlantRun) (conf : ConfView) (ended : Ended) (o : Outside) (h : Handed C S) : Type 0 where
   pub app : AppView
   pub spare : List Named
   pub chosen : IsChosen (λ named. named.name) conf.app h.apps spare (app ≡ net_app (net_of conf)) (λ named. app ≡ named.app)
@@ -69,7 +68,7 @@ pub record RanSetUp {C : Type 0} (Ran : PlantRun) (conf : ConfView) (ended : End
   pub by_net : (act : Act) (acts : List Act) → AnswersByNet (net_of conf) (begins_with conf app) act acts
 
 -- what comes of a configuration that has this first fault, or none
-abbrev pub RanUnless : {C : Type 0} → PlantRun → Option SetupFault → ConfView → Ended → Outside → Handed C → Type 0
+abbrev pub RanUnless : {C S : Type 0} → PlantRun → Option SetupFault → ConfView → Ended → Outside → Handed C S → Type 0
 RanUnless Ran (Some why) conf ended o h = WroteLine (config_line why) status.Config ended o h
 RanUnless Ran None conf ended o h = RanSetUp Ran conf ended o h
 
@@ -79,13 +78,13 @@ Says text (Ok conf) = Means text (Ok (conf_values conf))
 Says text (Err why) = why ≢ conf_fault.Memory → Means text (Err why)
 
 -- what comes of that
-abbrev pub RanSaid : {C : Type 0} → PlantRun → Result ConfView ConfFault → Ended → Outside → Handed C → Type 0
+abbrev pub RanSaid : {C S : Type 0} → PlantRun → Result ConfView ConfFault → Ended → Outside → Handed C S → Type 0
 RanSaid Ran (Ok conf) ended o h = RanUnless Ran (setup_fault conf (map (λ named. named.name) h.apps) (map h.name_of h.channels_before)) conf ended o h
 RanSaid Ran (Err conf_fault.Memory) ended o h = NoMemoryForPlant ended o h
 RanSaid Ran (Err why) ended o h = WroteLine (config_line (setup.Conf why)) status.Config ended o h
 
 -- what comes of a text
-abbrev pub RanText : {C : Type 0} → PlantRun → List ℕ → Ended → Outside → Handed C → Type 0
+abbrev pub RanText : {C S : Type 0} → PlantRun → List ℕ → Ended → Outside → Handed C S → Type 0
 RanText Ran text ended o h = (said : Result ConfView ConfFault) × Says text said × RanSaid Ran said ended o h
 
 -- the most bytes of a configuration
@@ -105,14 +104,14 @@ MayAnswer desk (Err load.TooLong) = IfSome desk.text (λ held. max_config < leng
 MayAnswer desk (Err load.Memory) = NoneFailed desk
 
 -- what comes of an answer
-abbrev pub RanAnswer : {C : Type 0} → PlantRun → Result (List ℕ) LoadFault → Ended → Outside → Handed C → Type 0
+abbrev pub RanAnswer : {C S : Type 0} → PlantRun → Result (List ℕ) LoadFault → Ended → Outside → Handed C S → Type 0
 RanAnswer Ran (Ok text) ended o h = RanText Ran text ended o h
 RanAnswer Ran (Err load.Failed) ended o h = WroteLine (codes "desk failed\n") status.Desk ended o h
 RanAnswer Ran (Err load.TooLong) ended o h = WroteLine (config_line setup.TooLong) status.Config ended o h
 RanAnswer Ran (Err load.Memory) ended o h = NoMemoryForPlant ended o h
 
 -- a plant was to be run by the configuration that a desk has, and this came of it
-pub record RanFile {C : Type 0} (Ran : PlantRun) (ended : Ended) (o : Outside) (desk : DeskTold) (h : Handed C) : Type 0 where
+pub record RanFile {C S : Type 0} (Ran : PlantRun) (ended : Ended) (o : Outside) (desk : DeskTold) (h : Handed C S) : Type 0 where
   pub answer : Result (List ℕ) LoadFault
   pub may : MayAnswer desk answer
   pub ran : RanAnswer Ran answer ended o h

@@ -93,7 +93,8 @@ pub(crate) fn run_wanted<H: Application, C: Channel, S: Source, K: Sink>(
     wanted: Wanted,
 ) -> Ended
     requires empty { journal.old ≡ [] }
-    ensures { let A = ⟦<KindOf<H> as Application>⟧ in RanWanted wanted (terms_of (app_view A.rule A.holds A.guards) conf.now app spare.items) result
+    ensures name_stays { C.name channel.new ≡ C.name channel.old }
+    ensures ran { let A = ⟦<KindOf<H> as Application>⟧ in RanWanted wanted (terms_of (app_view A.rule A.holds A.guards) conf.now app spare.items) result
         (record { source = outside.told S.left S.faults source.old source.new; sink = outside.told K.written K.faults sink.old sink.new })
         (C.told channel.old) (C.told channel.new) journal.new }
 {

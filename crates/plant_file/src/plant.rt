@@ -1,5 +1,5 @@
 //! The run of a plant by the configuration that a desk has.
-ghost use Rattle.std.specs.Prelude.{◌≡◌, ◌≢◌, ◌≤◌, ℕ, List, [], Ok};
+ghost use Rattle.std.specs.Prelude.{◌≡◌, ◌≢◌, ◌≤◌, ℕ, List, [], Ok, map};
 ghost use Rattle.fsoe_io.specs.declared.status.Status.TheVariants as status;
 ghost use Rattle.file_run.specs.Ending.{Writes};
 ghost use Rattle.file_run.specs.Outside as outside;
@@ -59,7 +59,8 @@ fn run_conf<S: Source, K: Sink>(
     ensures ran { let A = ⟦<Box<dyn Application> as Application>⟧ in let C = ⟦<Box<dyn Channel> as Channel>⟧ in
         RanSaid (RanWanted wanted) (Ok conf) result
         (record { source = outside.told S.left S.faults source.old source.new; sink = outside.told K.written K.faults sink.old sink.new })
-        (handed (app_view A.rule A.holds A.guards) C.name C.told apps.items channels.old.items channels.new.items journal.new) }
+        (handed (app_view A.rule A.holds A.guards) C.name C.told apps.items channels.old.items channels.new.items source.old source.new journal.new) }
+    ensures names_stay { let C = ⟦<Box<dyn Channel> as Channel>⟧ in map C.name channels.new.items ≡ map C.name channels.old.items }
 {
     match set_up(&mut conf, apps, channels.as_slice()) {
         Ok(setup) => {
@@ -80,7 +81,8 @@ fn run_conf<S: Source, K: Sink>(
     }
 }
 
-/// Runs a plant by the configuration that a desk has under this name.
+/// Runs a plant by the configuration that a desk has under this name. If no plant runs, the source is unchanged. After
+/// a run each channel has the name that it had.
 pub fn run_file<D: Desk, S: Source, K: Sink>(
     alloc: Global,
     file: &str,
@@ -97,7 +99,8 @@ pub fn run_file<D: Desk, S: Source, K: Sink>(
         RanFile (RanWanted wanted) result
         (record { source = outside.told S.left S.faults source.old source.new; sink = outside.told K.written K.faults sink.old sink.new })
         (record { text = D.holds desk.old file.now; faults_before = D.faults desk.old file.now; faults_after = D.faults desk.new file.now })
-        (handed (app_view A.rule A.holds A.guards) C.name C.told apps.items channels.old.items channels.new.items journal.new) }
+        (handed (app_view A.rule A.holds A.guards) C.name C.told apps.items channels.old.items channels.new.items source.old source.new journal.new) }
+    ensures names_stay { let C = ⟦<Box<dyn Channel> as Channel>⟧ in map C.name channels.new.items ≡ map C.name channels.old.items }
     ensures others { (other : List ℕ) → other ≢ file.now → D.faults desk.new other ≡ D.faults desk.old other }
 {
     match desk.load(file, MAX_CONFIG) {

@@ -1,5 +1,5 @@
 -- A plant that runs goes on by a line of its script.
-use Rattle.plant_run.proofs.Common.{Act, App, AppView, Beginning, BoundSpec, Ended, EndsStopped, EndsWhole, EntryOf, Fits, Follows, HearsOne, IfOk-at_ok, IsReportOf, IsSaid, IsTaken, JournalStep, KindOf, Lengths, LineFits, LinkConf, None, Option, Parcel, PlantLine, PlantView, Plays, RunCloses, RunStands, RunView, Said, ScriptHeading, Some, Start, Starts, Taken, TellsOther, Terms, ChannelTold, Watched, codes, common_steps, decimal, ended_with, fixed_in, happening, has_other, heard, heard_before, heard_of, is_tick_step, is_ticking, journal, length_push, lengths_in, lengths_kept, lengths_made, line_said, line_step, lines_by, link_lines, links_made, lowest_other, named, no_lines_by, offers, other_line, name_place, plant_reporting, report_text, said, said_in, said_with, script_format, string_bytes, plant_tick_lines, journal_ticks, ticks_text, trace_append, uses, watched_after, watched_by, with_line}
+use Rattle.plant_run.proofs.Common.{Act, App, AppView, Beginning, BoundSpec, Ended, EndsStopped, EndsWhole, EntryOf, Fits, Follows, HearsOne, IfOk-at_ok, IsReportOf, IsSaid, IsTaken, JournalStep, KindOf, Lengths, LineFits, LinkConf, None, Option, Parcel, PlantLine, PlantStands, PlantView, Plays, RunCloses, RunStands, RunView, Said, ScriptHeading, Some, Start, Starts, Taken, TellsOther, Terms, ChannelTold, Watched, codes, common_steps, decimal, ended_with, fixed_in, happening, has_other, heard, heard_before, heard_of, is_tick_step, is_ticking, journal, length_push, lengths_in, lengths_kept, lengths_made, line_said, line_step, lines_by, link_lines, links_made, lowest_other, named, no_lines_by, offers, other_line, name_place, plant_reporting, report_text, said, said_in, said_with, script_format, string_bytes, plant_tick_lines, journal_ticks, ticks_text, trace_append, uses, watched_after, watched_by, with_line}
 use Rattle.std.proofs.Common.{◌≡◌, ℕ, ◌+◌, ◌≤◌, Bool, true, false, cond, suc, List, [], ◌∷◌, ◌++◌, length, map, All, if◌then◌else◌, refl, sym, ap, ap₂, subst, ◌∙◌, append_assoc, arith, rules}
 use Rattle.std.specs.Prelude.{◌⊎◌}
 use Rattle.std.specs.List.{AllZip}
@@ -49,14 +49,15 @@ pub goes_on : {t : Terms} {before : ChannelTold} {old new : RunView} {count now 
     → ((more : List PlantLine) → said old.left (says ∷ more) ≡ one ∷ said new.left more) → now ≡ count + one_if (is_tick_step (line_step one)) → piece ≡ written_at one now t.begins.links new.plant.journal
     → RunStands t before new now h (log ++ event ∷ []) (text ++ piece)
 goes_on {t} {before} {old} {new} {count} {now} {h} {log} {text} {piece} {event} {says} {one} is k follows same hears goes counts written =
-    let p = follows.plays t.begins k.acts k.stands in
+    let p = follows.plays t.begins k.acts k.stands.has_done in
     let acts : List Act = with_line one p.gifts k.acts in
-    let grew : After one old.plant.journal new.plant.journal = rw (k.stands.has_done.journal_is, p.stands.has_done.journal_is) (after_line t.begins one p.gifts k.acts) in
+    let stands : PlantStands t.begins new.plant acts = record { may = p.may k.stands.may; has_done = p.has_done } in
+    let grew : After one old.plant.journal new.plant.journal = rw (k.stands.has_done.journal_is, p.has_done.journal_is) (after_line t.begins one p.gifts k.acts) in
     let counted : now ≡ journal_ticks new.plant.journal = let more = ticks_after one old.plant.journal new.plant.journal grew in omega (arith, more, k.counted, counts) in
     let in_line = line_said one p.gifts k.acts in
     record {
       acts = acts;
-      stands = p.stands;
+      stands = stands;
       whole = omega (arith, k.whole, length_push log event, ap (length {A = Said}) in_line, length_push (said_in k.acts) one);
       says = λ more.
           ap (said t.spare) (append_assoc log (event ∷ []) more)
@@ -67,7 +68,7 @@ goes_on {t} {before} {old} {new} {count} {now} {h} {log} {text} {piece} {event} 
           ∙ ap (λ (z : List Said). z ++ said new.left more) (sym in_line);
       channel = used t.begins k.acts one new.plant before old.told new.told k.channel p;
       watched_are =
-          all_heard t.begins acts new.plant (is_tick_step (line_step one)) (λ bound. heard_of t.begins bound k.acts) t.bounds new.watched p.stands (rw k.watched_are at hears)
+          all_heard t.begins acts new.plant (is_tick_step (line_step one)) (λ bound. heard_of t.begins bound k.acts) t.bounds new.watched stands (rw k.watched_are at hears)
           ∙ line_heard t.begins one p.gifts k.acts acts t.bounds;
       fixed = same ∙ k.fixed;
       same_lengths = k.same_lengths;

@@ -124,7 +124,7 @@ impl<'a, 'o, H: Application, C: Channel> Machine for Telling<'a, 'o, H, C> {
     ghost reporting = { λ given. let K = ⟦<KindOf<H> as Application>⟧ in plant_reporting (terms_of (app_view K.rule K.holds K.guards) given.conf.now given.plant.now.master.app given.spare.now.items) };
 
     ghost stands = { λ first v now h log text. let K = ⟦<KindOf<H> as Application>⟧ in let view = app_view K.rule K.holds K.guards in
-        ((now.channel.ghost_name ≡ first.channel.ghost_name) × (now.plant.ghost_name ≡ first.plant.ghost_name)) × (now.conf ≡ first.conf)
+        ((now.channel.ghost_name ≡ first.channel.ghost_name) × (now.plant.ghost_name ≡ first.plant.ghost_name) × (C.name now.channel.now ≡ C.name first.channel.now)) × (now.conf ≡ first.conf)
         × RunStands (terms_of view first.conf.now first.plant.now.master.app first.spare.now.items) (C.told first.channel.now) (record { plant = seen K.rule K.holds K.guards now.plant.now; watched = now.watched.now.items; left = map (named view) now.spare.now.items; told = C.told now.channel.now }) v.ticks h log text };
 
     ghost waits = { λ v now. rest_in v.rest now.conf.now now.plant.now.journal now.watched.now.items };

@@ -24,6 +24,7 @@ fn run_given<'a, 'o, H: Application, C: Channel, S: Source, K: Sink>(
     requires { given.old.plant.now.journal ≡ [] }
     ensures channel_stays { given.new.channel.ghost_name ≡ given.old.channel.ghost_name }
     ensures plant_stays { given.new.plant.ghost_name ≡ given.old.plant.ghost_name }
+    ensures name_stays { C.name given.new.channel.now ≡ C.name given.old.channel.now }
     ensures ran { let A = ⟦<KindOf<H> as Application>⟧ in RanPlant (terms_of (app_view A.rule A.holds A.guards) given.old.conf.now given.old.plant.now.master.app given.old.spare.now.items) result (record {
       source = told S.left S.faults source.old source.new;
       sink = told K.written K.faults sink.old sink.new;
@@ -60,7 +61,8 @@ pub fn run_plant<H: Application, C: Channel, S: Source, K: Sink>(
     journal: &mut Journal,
 ) -> Ended
     requires empty { journal.old ≡ [] }
-    ensures { let A = ⟦<KindOf<H> as Application>⟧ in RanPlant (terms_of (app_view A.rule A.holds A.guards) conf.now app spare.items) result (record {
+    ensures name_stays { C.name channel.new ≡ C.name channel.old }
+    ensures ran { let A = ⟦<KindOf<H> as Application>⟧ in RanPlant (terms_of (app_view A.rule A.holds A.guards) conf.now app spare.items) result (record {
       source = told S.left S.faults source.old source.new;
       sink = told K.written K.faults sink.old sink.new;
     }) (C.told channel.old) (C.told channel.new) journal.new }

@@ -1,5 +1,5 @@
 use Rattle.plant_core.proofs.Common.{slice_get_read}
-use Rattle.std.proofs.Common.{◌≡◌, ◌+◌, suc, refl, arith}
+use Rattle.std.proofs.Common.{◌≡◌, ◌+◌, suc, refl, arith, ◌∙◌}
 use Rattle.plant_core.proofs.Acting.{each_more, next_few}
 use Rattle.plant_core.proofs.ticking.masters_ticked.Goals as goal
 
@@ -15,5 +15,6 @@ loop-i-preserved g c =
     record {
       acted = each_more _ c.loop-i.i _ _ _ _ _ _ _ c.loop-i.invariant.acted (omega arith) c.index_mut.ensures.value
           (record { did = c.index-dids-i.result; sent = c.index-outs-i.result; did_at = did_at; sent_at = sent_at; noted = c.acted.ensures.noted; pushed = rw number at c.acted.ensures.pushed });
+      named = c.acted.ensures.name_stays ∙ c.loop-i.invariant.named;
       count = c.loop-i.invariant.count;
     }

@@ -1,4 +1,4 @@
-use Rattle.std.proofs.Common.{◌≡◌, ◌+◌, suc, arith}
+use Rattle.std.proofs.Common.{◌≡◌, ◌+◌, suc, arith, ◌∙◌}
 use Rattle.plant_core.proofs.Acting.{each_more, next_few}
 use Rattle.plant_core.proofs.ticking.tick_slaves.Goals as goal
 
@@ -9,4 +9,4 @@ tick-requires g c =
 pub loop-i-preserved : goal.loop-i-preserved
 loop-i-preserved g c =
     let number : c.loop-i.i + 1 ≡ suc c.loop-i.i = omega arith in
-    record { acted = each_more _ c.loop-i.i _ _ _ _ _ _ _ c.loop-i.invariant.acted (omega arith) c.index_mut.ensures.value (rw number at c.tick.ensures); count = c.loop-i.invariant.count }
+    record { acted = each_more _ c.loop-i.i _ _ _ _ _ _ _ c.loop-i.invariant.acted (omega arith) c.index_mut.ensures.value (rw number at c.tick.ensures.acts); named = c.tick.ensures.name_stays ∙ c.loop-i.invariant.named; count = c.loop-i.invariant.count }

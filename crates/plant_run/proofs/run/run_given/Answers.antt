@@ -8,6 +8,9 @@ returns-clause-channel_stays g c = left_so _ _ _ _ _ _ c.run_over.ensures.leaves
 pub returns-clause-plant_stays : goal.returns-clause-plant_stays
 returns-clause-plant_stays g c = left_so _ _ _ _ _ _ c.run_over.ensures.leaves (λ same. ap (λ given. given.plant.ghost_name) same) (λ h log text stands. stands.1.0.1)
 
+pub returns-clause-name_stays : goal.returns-clause-name_stays
+returns-clause-name_stays g c = left_so _ _ _ _ _ _ c.run_over.ensures.leaves (λ same. ap (λ given. g.C.Channel.name given.channel.now) same) (λ h log text stands. stands.1.0.2)
+
 pub returns-clause-ran : goal.returns-clause-ran
 returns-clause-ran g c =
     ran_plant _ c.run_over.ensures.ran c.run_over.ensures.leaves

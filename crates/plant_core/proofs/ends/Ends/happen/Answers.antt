@@ -22,8 +22,9 @@ returns-in-Some g c =
     let at = slave_at links.items _ _ _ _ c.args.event.now c.in-Some.what (sym c.slave_move.ensures ∙ c.in-Some.is) c.requires.fits links.ok.0 c.from.ensures c.index_mut.ensures.value in
     record {
       line = event_line _ _ _ _ _ c.requires.fits at.1.other
-          (slave_goes _ _ _ _ c.in-Some.link c.in-Some.what _ _ _ at.1.act (record { place = _; was = _; is = _; placed = at.0; acts = c.happen.ensures; master = refl; links = refl; journal = c.note_event.ensures.noted }) (λ b us t. t));
-      ready = one_noted _ _ links.items _ _ _ _ _ _ _ c.requires.ready refl at.0.at (omega (arith, c.happen.ensures.notes.noted)) c.note_event.ensures.count;
+          (slave_goes _ _ _ _ c.in-Some.link c.in-Some.what _ _ _ at.1.act (record { place = _; was = _; is = _; placed = at.0; acts = c.happen.ensures.acts; master = refl; links = refl; journal = c.note_event.ensures.noted }) (λ b us t. t));
+      name_stays = c.happen.ensures.name_stays;
+      ready = one_noted _ _ links.items _ _ _ _ _ _ _ c.requires.ready refl at.0.at (omega (arith, c.happen.ensures.acts.notes.noted)) c.note_event.ensures.count;
     }
 
 pub masters_ticked-requires : goal.masters_ticked-requires
@@ -95,6 +96,7 @@ returns-in-Nonce-default-Master-default g c =
     let journal = rw is at c.note_event.ensures.noted in
     record {
       line = rw is (event_line _ _ _ _ _ (rw is at c.requires.fits) refl (master_nonce _ _ at.link at.id _ _ _ _ p c.note_setting.ensures c.nonce.ensures.follows refl journal));
+      name_stays = refl;
       ready = one_noted _ _ links.items _ _ _ _ _ _ _ c.requires.ready c.nonce.ensures.settings p.at (omega (arith, c.note_setting.ensures.notes.noted)) c.note_event.ensures.count;
     }
 
@@ -111,5 +113,6 @@ returns-in-Cut g c =
     let journal = rw c.in-Cut.is at c.note_event.ensures.noted in
     record {
       line = rw c.in-Cut.is (event_line _ _ _ _ _ (rw c.in-Cut.is at c.requires.fits) refl (cut_event _ _ c.in-Cut.link _ c.in-Cut.cut _ _ _ p c.set_cut.ensures refl refl journal));
+      name_stays = refl;
       ready = one_noted _ _ links.items _ _ _ _ _ _ _ c.requires.ready refl p.at (omega (arith, ap (λ (l : LinkView). l.monitor.noted) c.set_cut.ensures)) c.note_event.ensures.count;
     }

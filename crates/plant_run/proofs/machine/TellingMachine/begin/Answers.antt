@@ -8,7 +8,7 @@ hear-requires g c = fresh_rooms _ _ _ c.in_ok-watched.ensures
 
 pub returns-clause-stands : goal.returns-clause-stands
 returns-clause-stands g c = (
-  (refl, refl),
+  (refl, refl, c.in_ok-begin.ensures.name_stays),
   refl,
   begun c.in_ok-begin.ensures.starts c.in_ok-begin.ensures.fixed (rw (c.links.ensures.value, c.bounds.ensures.value) at c.in_ok-watched.ensures) c.hear.ensures c.in_ok-begin.ensures.same_lengths c.requires.kind (λ more. refl),
 )

@@ -21,7 +21,7 @@ returns-then-tick-clause-takes_event g c =
     let ticks = rw c.is_tick-tick.ensures at c.if-tick.true in
     λ first. record {
       takes = λ h log text number stands. (
-        stands.0,
+        (stands.0.0, stands.0.1, c.step.ensures.name_stays ∙ stands.0.2),
         stands.1,
         goes_on c.in-Step.is stands.2 c.in-Ok.ensures.follows c.step.ensures.fixed (rw c.is_tick-tick.ensures at c.hear.ensures) (λ more. refl) (rw ticks refl)
             (rw ticks (ap₂ (λ text links. text ++ link_lines 1 links c.step.new.self.journal) c.write_count.ensures.text (ap (λ conf. conf.now.links) stands.1))),
@@ -33,7 +33,7 @@ returns-else-tick-clause-takes_event g c =
     let quiet = rw c.is_tick-tick.ensures at c.if-tick.false in
     λ first. record {
       takes = λ h log text number stands. (
-        stands.0,
+        (stands.0.0, stands.0.1, c.step.ensures.name_stays ∙ stands.0.2),
         stands.1,
         goes_on c.in-Step.is stands.2 c.in-Ok.ensures.follows c.step.ensures.fixed (rw c.is_tick-tick.ensures at c.hear.ensures) (λ more. refl) (rw quiet (omega arith))
             (rw quiet (ap (λ (z : List ℕ). z ++ []) c.clear.ensures)),
