@@ -6,11 +6,12 @@
 mod command;
 mod run;
 
-use black_channel::{Channel, HostileChannel, PerfectChannel};
+use black_channel::{HostileChannel, PerfectChannel};
 use command::trial_said;
-use fb_net::{AppEntry, Mirror, Zeros};
+use fb_net::{Mirror, Zeros};
 use fsoe_base::Memory;
 use fsoe_io::{FileDesk, Status, StdSink, StdSource, words_of};
+use plant_file::{apps_by_name, channels_by_name};
 use plant_run::Journal;
 use rate_channel::{RateChannel, Rates};
 use run::run;
@@ -21,24 +22,12 @@ use std::process::ExitCode;
 fn run_program(rt: HostRuntime) -> Option<Status> {
     let alloc = rt.alloc();
     let words = words_of(&rt).ok()?;
-    let mut apps = Vec::new(alloc);
-    apps.push(AppEntry {
-        name: "zeros".to_string(alloc).ok()?,
-        app: Box::new(alloc, Zeros).ok()?,
-    })
-    .ok()?;
-    apps.push(AppEntry {
-        name: "mirror".to_string(alloc).ok()?,
-        app: Box::new(alloc, Mirror).ok()?,
-    })
-    .ok()?;
-    let mut channels: Vec<Box<dyn Channel>> = Vec::new(alloc);
-    channels
-        .push(Box::new(alloc, PerfectChannel::new(alloc).ok()?).ok()?)
-        .ok()?;
-    channels
-        .push(Box::new(alloc, HostileChannel::new(alloc).ok()?).ok()?)
-        .ok()?;
+    let zeros = Box::new(alloc, Zeros).ok()?;
+    let mirror = Box::new(alloc, Mirror).ok()?;
+    let apps = apps_by_name(alloc, zeros, mirror).ok()?;
+    let perfect = Box::new(alloc, PerfectChannel::new(alloc).ok()?).ok()?;
+    let hostile = Box::new(alloc, HostileChannel::new(alloc).ok()?).ok()?;
+    let mut channels = channels_by_name(alloc, perfect, hostile).ok()?;
     let rates = trial_said(words.as_slice()).map_or(Rates::default(), |trial| trial.rates);
     channels
         .push(Box::new(alloc, RateChannel::new(alloc, rates).ok()?).ok()?)

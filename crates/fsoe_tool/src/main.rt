@@ -2,45 +2,39 @@
 //! over standard input, standard output and files, and exits with the status of the command.
 #![tactic(auto)]
 
+ghost use Rattle.std.specs.Prelude.{◌≡◌, ◌⊎◌, IfSome, None, map, string_bytes};
+ghost use Rattle.fsoe_io.specs.declared.status.Status.TheVariants.{Usage, Write};
+ghost use Rattle.fsoe_tool.specs.Command.{command_said};
+
 mod command;
 mod run;
 
-use black_channel::{Channel, HostileChannel, PerfectChannel};
-use fb_net::{AppEntry, Mirror, Zeros};
+use black_channel::{HostileChannel, PerfectChannel};
+use fb_net::{Mirror, Zeros};
 use fsoe_base::Memory;
 use fsoe_io::{FileDesk, Status, StdSink, StdSource, words_of};
+use plant_file::{apps_by_name, channels_by_name};
 use run::run;
 use std::process::ExitCode;
 
-/// Runs the command of the program's arguments, with the applications and the channels that the program has for plants.
-/// None if there is no memory for these.
-fn run_program(rt: HostRuntime) -> Option<Status> {
+/// Runs the command of all these words, with the applications and the channels that the program has for plants. None if
+/// there is no memory for these.
+fn run_program(rt: HostRuntime, words: &[String]) -> Option<Status>
+    ensures usage { command_said (map string_bytes words.now) ≡ None → IfSome result (λ s. (s ≡ Usage) ⊎ (s ≡ Write)) }
+{
     let alloc = rt.alloc();
-    let words = words_of(&rt).ok()?;
-    let mut apps = Vec::new(alloc);
-    apps.push(AppEntry {
-        name: "zeros".to_string(alloc).ok()?,
-        app: Box::new(alloc, Zeros).ok()?,
-    })
-    .ok()?;
-    apps.push(AppEntry {
-        name: "mirror".to_string(alloc).ok()?,
-        app: Box::new(alloc, Mirror).ok()?,
-    })
-    .ok()?;
-    let mut channels: Vec<Box<dyn Channel>> = Vec::new(alloc);
-    channels
-        .push(Box::new(alloc, PerfectChannel::new(alloc).ok()?).ok()?)
-        .ok()?;
-    channels
-        .push(Box::new(alloc, HostileChannel::new(alloc).ok()?).ok()?)
-        .ok()?;
+    let zeros = Box::new(alloc, Zeros).ok()?;
+    let mirror = Box::new(alloc, Mirror).ok()?;
+    let apps = apps_by_name(alloc, zeros, mirror).ok()?;
+    let perfect = Box::new(alloc, PerfectChannel::new(alloc).ok()?).ok()?;
+    let hostile = Box::new(alloc, HostileChannel::new(alloc).ok()?).ok()?;
+    let mut channels = channels_by_name(alloc, perfect, hostile).ok()?;
     let mut desk = FileDesk::new(rt);
     let mut source = StdSource::new(rt.stdin());
     let mut sink = StdSink::new(rt.stdout());
     let outcome = run(
         alloc,
-        words.as_slice(),
+        words,
         &mut desk,
         &mut source,
         &mut sink,
@@ -51,6 +45,9 @@ fn run_program(rt: HostRuntime) -> Option<Status> {
 }
 
 fn main(rt: HostRuntime) -> ExitCode {
-    let status = run_program(rt).unwrap_or(Status::Memory);
-    ExitCode::from(status.number())
+    let status = match words_of(&rt) {
+        Ok(words) => run_program(rt, words.as_slice()),
+        Err(_) => None,
+    };
+    ExitCode::from(status.unwrap_or(Status::Memory).number())
 }

@@ -36,13 +36,13 @@ pub record Handed (C S : Type 0) : Type 0 where
 
 -- it, by what is known of each application and each channel
 abbrev pub handed : {H C S : Type 0} → (H → AppView) → (C → List ℕ) → (C → ChannelTold) → List (EntryOf H) → List C → List C → S → S → List JournalStep → Handed C S
-handed app_of name_of tells apps channels_before channels_after source_before source_after steps = record {
+handed app_of name_of tells apps before after read left steps = record {
   apps = map (entry_seen app_of) apps;
   name_of = name_of;
   tells = tells;
-  channels_before = channels_before;
-  channels_after = channels_after;
-  source_before = source_before;
-  source_after = source_after;
+  channels_before = before;
+  channels_after = after;
+  source_before = read;
+  source_after = left;
   journal = steps;
 }

@@ -1,3 +1,4 @@
+pub mod ByName
 pub mod Handed
 pub mod JournalText
 pub mod Noted

@@ -22,10 +22,12 @@
 //! ```
 #![tactic(auto)]
 
+mod by_name;
 mod journal_line;
 pub mod laws;
 mod noted;
 mod plant;
 
+pub use by_name::{apps_by_name, channels_by_name};
 pub use noted::Wanted;
 pub use plant::run_file;
