@@ -10,6 +10,7 @@ pub mod master;
 mod master_place;
 mod master_room;
 pub mod master_shown;
+pub mod names;
 pub mod numbers;
 pub mod settings;
 pub mod slave;

@@ -1,5 +1,6 @@
 //! What errors say, as no contract speaks of texts for people.
 
+use duo_run::StepFault;
 use fsoe_base::BadLength;
 use multi_master::NewFault;
 use param_load::BadSetting;
@@ -27,22 +28,23 @@ fn settings_name_the_number(rt: HostRuntime) -> Result<(), Fail> {
 }
 
 #[test]
-fn faults_name_connections_and_slots(rt: HostRuntime) -> Result<(), Fail> {
+fn faults_name_connections_slots_and_frames(rt: HostRuntime) -> Result<(), Fail> {
     let said = format!(in rt.alloc();
-        "{}; {}; {}; {}; {}; {}; {}",
+        "{}; {}; {}; {}; {}; {}; {}; {}",
         NewFault::TooMany,
         NewFault::SameConn { a: 3, b: 5 },
         NewFault::Memory,
         SlotFault::TooMany,
         SlotFault::Bounds { slot: 7 },
         SlotFault::Overlap { a: 2, b: 9 },
-        SlotFault::Memory
+        SlotFault::Memory,
+        StepFault::NoSuchFrame
     )?;
     assert_eq!(rt;
         said.as_str(),
         "there are more than 64 connections; connections 3 and 5 have the same connection id; there was no memory; \
          there are more than 64 slots; a frame of slot 7 doesn't lie inside its image; \
-         slots 2 and 9 share a byte of one image; there was no memory"
+         slots 2 and 9 share a byte of one image; there was no memory; the peer didn't send so many frames"
     );
     Ok(())
 }

@@ -131,18 +131,18 @@ extern "C" {
     pub fn gp_slave_deliver(
         slave: *mut Handle,
         frame: *const u8,
-        len: usize,
+        frame_len: usize,
         out: *mut Frame,
         did: *mut Did,
     ) -> u8;
     pub fn gp_slave_tick(slave: *mut Handle, out: *mut Frame, did: *mut Did) -> u8;
     pub fn gp_slave_reset(slave: *mut Handle, out: *mut Frame, did: *mut Did) -> u8;
-    pub fn gp_slave_put(slave: *mut Handle, load: *const u8, len: usize) -> u8;
+    pub fn gp_slave_put(slave: *mut Handle, load: *const u8, load_len: usize) -> u8;
     pub fn gp_slave_hold(slave: *mut Handle, failsafe: bool) -> u8;
     pub fn gp_slave_nonce(slave: *mut Handle, id: u32) -> u8;
     pub fn gp_slave_state(slave: *mut Handle, state: *mut u8) -> u8;
-    pub fn gp_slave_outputs(slave: *mut Handle, outputs: *mut u8, len: usize) -> u8;
-    pub fn gp_slave_offer(slave: *mut Handle, offer: *mut u8, len: usize) -> u8;
+    pub fn gp_slave_outputs(slave: *mut Handle, outputs: *mut u8, outputs_len: usize) -> u8;
+    pub fn gp_slave_offer(slave: *mut Handle, offer: *mut u8, offer_len: usize) -> u8;
     pub fn gp_slave_terms(slave: *mut Handle, terms: *mut Terms) -> u8;
     pub fn gp_slave_age(slave: *mut Handle, age: *mut u16) -> u8;
     pub fn gp_slave_held(slave: *mut Handle, held: *mut u8) -> u8;
@@ -159,22 +159,26 @@ extern "C" {
     pub fn gp_master_deliver(
         master: *mut Handle,
         frame: *const u8,
-        len: usize,
+        frame_len: usize,
         out: *mut Frame,
         did: *mut Did,
     ) -> u8;
-    pub fn gp_master_accept(master: *mut Handle, frame: *const u8, len: usize, did: *mut Did)
-        -> u8;
+    pub fn gp_master_accept(
+        master: *mut Handle,
+        frame: *const u8,
+        frame_len: usize,
+        did: *mut Did,
+    ) -> u8;
     pub fn gp_master_due(master: *mut Handle, due: *mut u8) -> u8;
     pub fn gp_master_reply(master: *mut Handle, out: *mut Frame) -> u8;
     pub fn gp_master_tick(master: *mut Handle, out: *mut Frame, did: *mut Did) -> u8;
     pub fn gp_master_reset(master: *mut Handle, out: *mut Frame, did: *mut Did) -> u8;
-    pub fn gp_master_put(master: *mut Handle, load: *const u8, len: usize) -> u8;
+    pub fn gp_master_put(master: *mut Handle, load: *const u8, load_len: usize) -> u8;
     pub fn gp_master_hold(master: *mut Handle, failsafe: bool) -> u8;
     pub fn gp_master_nonce(master: *mut Handle, id: u32) -> u8;
     pub fn gp_master_state(master: *mut Handle, state: *mut u8) -> u8;
-    pub fn gp_master_outputs(master: *mut Handle, outputs: *mut u8, len: usize) -> u8;
-    pub fn gp_master_offer(master: *mut Handle, offer: *mut u8, len: usize) -> u8;
+    pub fn gp_master_outputs(master: *mut Handle, outputs: *mut u8, outputs_len: usize) -> u8;
+    pub fn gp_master_offer(master: *mut Handle, offer: *mut u8, offer_len: usize) -> u8;
     pub fn gp_master_terms(master: *mut Handle, terms: *mut Terms) -> u8;
     pub fn gp_master_age(master: *mut Handle, age: *mut u16) -> u8;
     pub fn gp_master_held(master: *mut Handle, held: *mut u8) -> u8;
