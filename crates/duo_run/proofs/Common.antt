@@ -9,7 +9,7 @@ pub use Rattle.duo_run.specs.Duo.{Advances, CountsEntry, DuoStands, DuoView, IsD
 pub use Rattle.duo_run.specs.Pairs.{Pair, done_after, entries_over, entry_after, events_by, events_done, events_to, is_met, is_met_by, least, less_of, other_event, other_events, world_of}
 pub use Rattle.duo_run.specs.PairsReport.{ArePairs, IsPairOf, PairsInput, PairsReports, PairsRunFairly, RanPairs, closing_line, closing_lines, each_line, event_lines, line_if, lines_of_events, one_line, pairs_ended, pairs_last_lines, pairs_reporting, pairs_stop, tick_lines, with_tick}
 pub use Rattle.duo_run.specs.PairsStanding.{AllStandOver, CanStep, NotesOthers, PairsStand, StandsOver, TellsNext, Ticks, ToldNext}
-pub use Rattle.duo_run.specs.Replay.{AreEntries, AreSetTo, RanPair, ReplayReports, RunsFairly, ServesIfHonest, WithSettings, pair_ended_at, entry_line, entry_lines, last_lines, replay_reporting, run_stop, told_line}
+pub use Rattle.duo_run.specs.Replay.{AreEntries, AreSetTo, RanPair, ReplayReports, RunsFairly, ServesIfHonest, ServesIfSteady, WithSettings, pair_ended_at, entry_line, entry_lines, last_lines, replay_reporting, run_stop, told_line}
 pub use Rattle.duo_run.specs.Summary.{summary_of}
 pub use Rattle.duo_run.specs.declared.summary.Summary.{Summary}
 pub use Rattle.end_model.specs.Deed.{Deed, is_empty}
@@ -17,16 +17,16 @@ pub use Rattle.end_model.specs.Runs.{IsProper, IsRun}
 pub use Rattle.end_model.specs.Setup.{OfMaster, OfSlave, Setup}
 pub use Rattle.end_model.specs.Step.{step}
 pub use Rattle.exchange_model.proofs.Fairness.Headline.{fair_before, fair_world}
-pub use Rattle.exchange_model.proofs.Honest.ServingRuns.{honest_fair, honest_serves}
+pub use Rattle.exchange_model.proofs.Honest.ServingRuns.{honest_fair, honest_serves, steady_fair, steady_serves}
 pub use Rattle.exchange_model.proofs.Worlds.Longer.{world_missed, world_next, world_on}
 pub use Rattle.exchange_model.proofs.Worlds.Others.{before_is_clean, before_is_world, number_of_first}
 pub use Rattle.exchange_model.specs.Ends.{peer}
 pub use Rattle.exchange_model.specs.Fair.{Fair, data_taken}
-pub use Rattle.exchange_model.specs.Honest.{IsHonest, if_on, in_turn, is_plain, keeps_time}
+pub use Rattle.exchange_model.specs.Honest.{IsHonest, if_on, in_turn, is_plain, keeps_time, slave_first}
 pub use Rattle.exchange_model.specs.Monitor.{NotesParts}
 pub use Rattle.exchange_model.specs.Other.{before_other, first_of_both, first_other}
 pub use Rattle.exchange_model.specs.Worlds.{IsNextEntry, IsProperEvent, IsWorld}
-pub use Rattle.exchange_model.specs.Serving.{HasNoReset, Serves, TakesDelivery}
+pub use Rattle.exchange_model.specs.Serving.{HasNoReset, Serves, ServesSteadily, TakesDelivery}
 pub use Rattle.exchange_model.specs.World.{SameLengths, altered_delivery, deed_in, deeds, delivery, end_of_event, entry_at, entry_on, frames_of, going_on, move_from, next_entry, setup_of, world, world_after}
 pub use Rattle.file_run.proofs.Lines.{by_line, lines_whole}
 pub use Rattle.file_run.proofs.Sending.{Sent, cut_part, grew_written, piece_part, rose_since, sent_flushed, sent_none, sent_piece, text_part}

@@ -22,9 +22,9 @@ use Rattle.file_run.specs.Ran.{RanOver}
 use Rattle.file_run.specs.Report.{ended_with, events_line, other_line, refused_line}
 use Rattle.file_run.specs.Reporting.{Reporting, Never}
 use Rattle.exchange_model.specs.Fair.{Fair}
-use Rattle.exchange_model.specs.Honest.{Match, IsHonest}
+use Rattle.exchange_model.specs.Honest.{Match, IsHonest, IsSteady}
 use Rattle.exchange_model.specs.Other.{before_other, first_other}
-use Rattle.exchange_model.specs.Serving.{Serves}
+use Rattle.exchange_model.specs.Serving.{Serves, ServesSteadily}
 use Rattle.exchange_model.specs.World.{world}
 
 -- the end of the line of an entry with these parts: the letter of its end, and what every report writes of an entry
@@ -93,8 +93,13 @@ RunsFairly input = IfSome input.heading (λ h. WithSettings h (λ ms ss. Fair ms
 abbrev pub ServesIfHonest : Input → Type 0
 ServesIfHonest input = IfSome input.heading (λ h. WithSettings h (λ ms ss. Match ms ss → IsHonest ms ss input.events → Serves ms input.events (world ms ss input.events)))
 
+-- where these settings match and the events of the input are steady, its entries serve steadily
+abbrev pub ServesIfSteady : Input → Type 0
+ServesIfSteady input = IfSome input.heading (λ h. WithSettings h (λ ms ss. Match ms ss → IsSteady ms ss input.events → ServesSteadily ms input.events (world ms ss input.events)))
+
 -- both ends ran over an input; and, where its bytes are told, the law of the pair holds of their entries
 pub record RanPair (ended : Ended) (o : Outside) : Type 0 where
   pub run : RanOver replay_reporting ended o
   pub fair : IfSome o.source.before (λ input. RunsFairly (input_of header_kind.Pair input))
   pub serves : IfSome o.source.before (λ input. ServesIfHonest (input_of header_kind.Pair input))
+  pub serves_steadily : IfSome o.source.before (λ input. ServesIfSteady (input_of header_kind.Pair input))

@@ -25,9 +25,9 @@ ghost use Rattle.end_model.specs.Runs.{entries};
 ghost use Rattle.end_model.specs.Step.{run};
 ghost use Rattle.exchange_model.specs.Ends.{of_end};
 ghost use Rattle.exchange_model.specs.Fair.{Fair};
-ghost use Rattle.exchange_model.specs.Honest.{Match, IsHonest};
+ghost use Rattle.exchange_model.specs.Honest.{Match, IsSteady, IsHonest};
 ghost use Rattle.exchange_model.specs.Other.{before_other};
-ghost use Rattle.exchange_model.specs.Serving.{Serves};
+ghost use Rattle.exchange_model.specs.Serving.{Serves, ServesSteadily};
 ghost use Rattle.exchange_model.specs.World.{setup_of, world, SameLengths};
 ghost use Rattle.exchange_model.specs.Schedules.{moves};
 ghost use Rattle.exchange_model.specs.Worlds.{IsProperEvent};
@@ -47,6 +47,13 @@ pub fn steps()
 /// The entries of a pair before the first `other` entry, all if there is none, are fair.
 pub fn fair()
     ensures { (ms : MasterSettings) (ss : SlaveSettings) (v : DuoView) (w : List Entry) → SameLengths ms ss → DuoStands ms ss v w → Fair ms.lengths (before_other w) }
+{}
+
+/// Over a steady schedule of proper events between matching ends a new pair refuses no event, and its entries fulfil
+/// `ServesSteadily` and `Fair`.
+pub fn steady()
+    ensures serves { (ms : MasterSettings) (ss : SlaveSettings) (first last : DuoView) (events : List Event) (w : List Entry) → Match ms ss → All (IsProperEvent ms ss) events → IsSteady ms ss events → DuoStands ms ss first [] → Ran first events [] last w → ServesSteadily ms events w }
+    ensures fair { (ms : MasterSettings) (ss : SlaveSettings) (first last : DuoView) (events : List Event) (w : List Entry) → Match ms ss → All (IsProperEvent ms ss) events → IsSteady ms ss events → DuoStands ms ss first [] → Ran first events [] last w → Fair ms.lengths w }
 {}
 
 /// Over an honest schedule of proper events between matching ends a new pair refuses no event, and its entries fulfil

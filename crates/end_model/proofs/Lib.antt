@@ -19,6 +19,7 @@ pub mod GoesOn
 pub mod SealedFrames
 pub mod Neighbours
 pub mod Repeats
+pub mod Again
 pub mod WholeUploads
 pub mod CrcTest
 pub mod IdFront

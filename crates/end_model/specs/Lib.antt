@@ -1,3 +1,4 @@
+pub mod Again
 pub mod Chain
 pub mod Codes
 pub mod Deed

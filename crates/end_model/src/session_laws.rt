@@ -20,6 +20,7 @@ ghost use Rattle.end_model.specs.Readiness.{state_of};
 ghost use Rattle.end_model.specs.Verdict.{Valid, verdict};
 ghost use Rattle.end_model.specs.Step.{step};
 ghost use Rattle.end_model.specs.Runs.{IsRun};
+ghost use Rattle.end_model.specs.Again.{LeavesEnd, once_more};
 ghost use Rattle.end_model.specs.FreshIds.{DifferInFront, NotByStep, EndsByCrcs};
 ghost use Rattle.end_model.specs.WorkedRuns.{IdsByStep};
 
@@ -35,6 +36,14 @@ pub fn consecutive()
 pub fn no_repeat()
     ensures never_taken { (s : Setup) (e : List Deed) (bytes : List ℕ) → kept (since e) ≡ Some bytes → (step s e (move.Deliver bytes)).did.took ≡ None }
     ensures dropped { (s : Setup) (e : List Deed) (bytes : List ℕ) → length bytes ≡ frame_len (receives s) → kept (since e) ≡ Some bytes → (step s e (move.Deliver bytes)).did ≡ dropped why.Repeat }
+{}
+
+/// Bytes that came twice to an end with nothing in between leave it as it is when they come again, in every state and
+/// whatever they are: its state, its outputs and its age stay. It sends nothing then, with one exception: a slave in
+/// state Reset takes a Reset frame each time that it comes, and answers it with the same Reset frame. So an end may be
+/// handed the bytes of an image in every cycle.
+pub fn again()
+    ensures { (s : Setup) (e : List Deed) (bytes : List ℕ) → IsRun s e → LeavesEnd s (step s (once_more s bytes (once_more s bytes e)) (move.Deliver bytes)) (once_more s bytes (once_more s bytes e)) }
 {}
 
 /// What a fresh session id excludes at a slave. Let two of its sessions have begun with the same Session frame, and

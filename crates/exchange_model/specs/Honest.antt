@@ -1,5 +1,5 @@
--- Honest schedules, under which a connection of matching ends comes to state Data and stays there, and after how many
--- exchanges. The word is this profile's own.
+-- Steady and honest schedules, under which a connection of matching ends comes to state Data and stays there, and after
+-- how many exchanges. The words are this profile's own.
 use Rattle.std.specs.Prelude.{ℕ, ◌+◌, ◌≡◌, ◌≤◌, ◌==◌, IsTrue, List, [], ◌∷◌, length, Bool, true, false, ◌&&◌, ◌||◌, not, Option, Some, None, if◌then◌else◌}
 use Rattle.std.specs.List.{list_all}
 use Rattle.fsoe_base.specs.declared.command.End.{End}
@@ -39,7 +39,7 @@ exchanges ms =
     let v : ℕ = id_len ms.profile in
     1 + pieces_for v c + pieces_for 4 c + pieces_for (v + 4 + length ms.app) c
 
--- whether an event may stand in an honest schedule: a delivery of the peer's last frame, a tick, a put, a hold or a
+-- whether an event may stand in a steady schedule: a delivery of the peer's last frame, a tick, a put, a hold or a
 -- nonce
 abbrev pub is_plain : Event → Bool
 is_plain (event.Deliver to back) = back == 1
@@ -60,6 +60,12 @@ ticks_first [] = false
 ticks_first (event.Deliver to back ∷ events) = false
 ticks_first (event.Tick side.Master ∷ events) = true
 ticks_first (_ ∷ events) = ticks_first events
+
+-- whether the first delivery is to the slave: before it the slave sends nothing
+abbrev pub slave_first : List Event → Bool
+slave_first [] = true
+slave_first (event.Deliver to back ∷ events) = same_end to side.Slave
+slave_first (_ ∷ events) = slave_first events
 
 -- whether an event is a tick
 abbrev pub is_tick : Move → Bool
@@ -96,16 +102,21 @@ abbrev pub if_on : List Entry → Option Entry → (List Entry → Bool) → Boo
 if_on w None rest = true
 if_on w (Some x) rest = rest (x ∷ w)
 
--- whether the ticks of a schedule are honest, where w are the entries before
+-- whether the ticks of a schedule keep within the limits, where w are the entries before
 abbrev pub keeps_time : MasterSettings → SlaveSettings → List Event → List Entry → Bool
 keeps_time ms ss [] w = true
 keeps_time ms ss (event ∷ events) w = may_happen ms ss w event && if_on w (entry_at ms ss w event) (keeps_time ms ss events)
 
--- an honest schedule delivers the peer's last frames unaltered, to the slave and to the master in turn, the slave
--- first; the master's first tick comes before them, no later tick of the master and none of a slave outside state Reset
--- reaches its limit, and all else is puts, holds and nonces
-pub record IsHonest (ms : MasterSettings) (ss : SlaveSettings) (events : List Event) : Type 0 where
+-- a steady schedule delivers the peer's last frames unaltered, in any order and any number of times, to the slave first;
+-- the master's first tick comes before them, no later tick of the master and none of a slave outside state Reset reaches
+-- its limit, and all else is puts, holds and nonces
+pub record IsSteady (ms : MasterSettings) (ss : SlaveSettings) (events : List Event) : Type 0 where
   pub plain : IsTrue (list_all is_plain events)
-  pub turns : IsTrue (in_turn side.Slave events)
   pub begun : IsTrue (ticks_first events)
+  pub asked : IsTrue (slave_first events)
   pub time : IsTrue (keeps_time ms ss events [])
+
+-- an honest schedule is a steady one that delivers to the slave and to the master in turn, the slave first
+pub record IsHonest (ms : MasterSettings) (ss : SlaveSettings) (events : List Event) : Type 0 where
+  pub steady : IsSteady ms ss events
+  pub turns : IsTrue (in_turn side.Slave events)

@@ -24,11 +24,11 @@ ghost use Rattle.exchange_model.specs.Items.{items_of, items};
 ghost use Rattle.exchange_model.specs.Other.{first_other, NoOther, before_other};
 ghost use Rattle.exchange_model.specs.Fair.{received_len, TakesAwaited, numbers_taken, outputs_due, OutputsAreDue, Fair};
 ghost use Rattle.exchange_model.specs.Offering.{WasOffered};
-ghost use Rattle.exchange_model.specs.Honest.{Match, exchanges, IsHonest};
-ghost use Rattle.exchange_model.specs.Serving.{Serves};
+ghost use Rattle.exchange_model.specs.Honest.{Match, exchanges, IsSteady, IsHonest};
+ghost use Rattle.exchange_model.specs.Serving.{Serves, ServesSteadily};
 ghost use Rattle.exchange_model.specs.WorkedOffering.{BothShowLongest};
 ghost use Rattle.exchange_model.specs.WorkedItems.{WorkedItems};
-ghost use Rattle.exchange_model.specs.WorkedSchedules.{HonestRuns, DishonestRuns};
+ghost use Rattle.exchange_model.specs.WorkedSchedules.{SteadyRuns, HonestRuns, DishonestRuns};
 ghost use Rattle.exchange_model.specs.WorkedRuns.{Handshakes, Refusals, DataRuns, FairRuns};
 
 /// A schedule of proper events makes a world, each of whose entries is the next one of its end. In each world the
@@ -101,6 +101,17 @@ pub fn exchanges_before_data()
     ensures { (ms : MasterSettings) (id : ℕ) → exchanges ms ≡ 1 + pieces (pay ms id state.Session) (piece_len (OfMaster ms)) + pieces (pay ms id state.Connection) (piece_len (OfMaster ms)) + pieces (pay ms id state.Parameter) (piece_len (OfMaster ms)) }
 {}
 
+/// Over a steady schedule of proper events the run of matching ends is complete, no entry is `other`, and no session
+/// ends. Each frame is taken when it comes for the first time. When it comes again it is dropped as a repeat, or it is a
+/// Reset frame that a slave in state Reset answers with the same Reset frame again. The master is in Data from the last
+/// of the exchanges before the first data, the slave from the next frame that comes to it for the first time, and
+/// neither before. From then on each frame that comes for the first time gives data, which the peer put, as the run is
+/// fair.
+pub fn steady_schedules()
+    ensures serves { (ms : MasterSettings) (ss : SlaveSettings) (events : List Event) → Match ms ss → All (IsProperEvent ms ss) events → IsSteady ms ss events → ServesSteadily ms events (world ms ss events) }
+    ensures fair { (ms : MasterSettings) (ss : SlaveSettings) (events : List Event) → Match ms ss → All (IsProperEvent ms ss) events → IsSteady ms ss events → Fair ms.lengths (world ms ss events) }
+{}
+
 /// Over an honest schedule of proper events the run of matching ends is complete, no entry is `other`, no session ends
 /// and each delivery is taken. The master is in Data from the last of the exchanges before the first data, the slave
 /// from the next delivery, and neither before. From then on each delivery takes data, which the peer put, as the run is
@@ -140,9 +151,11 @@ pub fn fair_runs()
     ensures { FairRuns }
 {}
 
-/// Worked schedules that are honest, the exchanges before the first data, and when both ends of one are in Data; and
-/// settings that don't match and schedules that aren't honest, each for only one reason.
+/// Worked schedules that are steady, one of them with each frame twice, and honest ones, the exchanges before the first
+/// data, and when both ends are in Data; and settings that don't match and schedules that aren't honest, each for only
+/// one reason.
 pub fn honest_runs()
+    ensures steady { SteadyRuns }
     ensures honest { HonestRuns }
     ensures dishonest { DishonestRuns }
 {}

@@ -78,7 +78,8 @@ fn without_journal(alloc: Global, ended: Ended) -> Outcome
 /// - Honest schedules serve: let the ends' settings match, let the peer's last frames come unaltered to the slave and
 ///   to the master in turn, and let no watchdog expire after the start. Then each delivery is taken, no session ends
 ///   and no entry is `other`. The master is in state Data after exactly `exchanges` exchanges, the slave from its next
-///   delivery on, and each later delivery brings data: `RanPair.serves`, and `RanBulk.serves` for the number 0.
+///   delivery on, and each later delivery brings data: `RanPair.serves`, and `RanBulk.serves` for the number 0. If
+///   frames come again, in any order, the same holds of each frame's first delivery: `RanPair.serves_steadily`.
 pub fn run<D: Desk, S: Source, K: Sink>(
     alloc: Global,
     words: &[String],

@@ -1,6 +1,6 @@
 //! What the programs hand in for plants. A program makes each box and hands it over here, where it gets its name.
 ghost use Rattle.std.specs.Prelude.{◌≡◌, ◌∷◌, [], IfOk, map, string_bytes};
-ghost use Rattle.multi_master.specs.Standing.{app_view};
+ghost use Rattle.multi_master.specs.Calls.{app_view};
 ghost use Rattle.plant_file.specs.ByName.{apps_by_name, mirror_app, new_hostile, new_perfect, zeros_app};
 ghost use Rattle.plant_file.specs.Handed.{entry_seen};
 

@@ -1,5 +1,5 @@
 -- Along a trace: what it tells after one more frame, and which frame that is.
-use Rattle.trace_diag.proofs.Common.{Asked, Both, Chained, Command, Deed, Down, End, Entry, Event, IsDown, IsReplied, IsUp, MasterSettings, Noted, Partner, Replied, Stage, Up, both, chained, command_byte, count_in, deed_in, deeds, deliveries_to, frame_of, has_command, is_delivery, is_empty, master_of, own, padded, partner, peer, phase_due, phase_from, phase_of_frame, phase_sent, phase_taken, piece, reset_frame, same_end, session_payload, setup_of, since, since_on, slave_of, taken, turn, width}
+use Rattle.trace_diag.proofs.Common.{Asked, Both, Chained, Command, Deed, Down, End, Entry, Event, IsDown, IsReplied, IsUp, MasterSettings, Noted, Partner, Replied, Stage, Up, both, chained, comes_new, command_byte, count_in, deed_in, deeds, frame_of, has_command, is_empty, master_of, number_to, own, padded, partner, peer, phase_due, phase_from, phase_of_frame, phase_sent, phase_taken, piece, reset_frame, same_end, session_payload, setup_of, since, since_on, slave_of, taken, turn, width}
 use Rattle.std.proofs.Common.{◌≡◌, ◌==◌, ℕ, suc, List, ◌∷◌, Bool, true, false, refl, sym, ap, subst, ◌∙◌, ◌&&◌, if◌then◌else◌, arith}
 use Rattle.fsoe_base.specs.declared.command.Command.TheVariants as command
 use Rattle.fsoe_base.specs.declared.command.End.TheVariants as end_name
@@ -58,7 +58,7 @@ pub record Brought (ms : MasterSettings) (r : Partner ms) (t : List Noted) (at :
 
 -- where the master has its turn, the slave is in the phase of the master's newest frame, and had a delivery
 slave-phase : (ms : MasterSettings) (r : Partner ms) (x : Both) → Stage ms r x end_name.Master → x.phase ≡ phase_sent x.master.sent
-slave-phase ms r x (Replied h) = h.outside.phase ∙ sym (ap phase_sent h.outside.master.none_sent)
+slave-phase ms r x (Replied h) = h.begins.outside.phase ∙ sym (ap phase_sent h.begins.outside.master.none_sent)
 slave-phase ms r x (Up h) = h.slave.phase ∙ sym h.master.phase
 
 some-came : (ms : MasterSettings) (r : Partner ms) (x : Both) → Stage ms r x end_name.Master → x.to_slave ≡ 0 → ⊥
@@ -85,7 +85,7 @@ master_brought ms r y t events w s plain turned-to old nonces told = by-stage s.
     phase-kept = ap (λ (e : List Deed). phase_taken (since e)) slave-deeds ∙ (ap (λ (b : Both). b.phase) s.same ∙ slave-phase ms r (both ms r w) old)
 
     count-kept : x'.to_slave ≡ (both ms r w).to_slave
-    count-kept = ap (λ (e : End). if same_end end_name.Slave e && is_delivery s.entry.what then suc (deliveries_to end_name.Slave s.set) else deliveries_to end_name.Slave s.set) ended ∙ ap (λ (b : Both). b.to_slave) s.same
+    count-kept = ap (λ (e : End). if same_end end_name.Slave e && comes_new s.entry s.set then suc (number_to comes_new end_name.Slave s.set) else number_to comes_new end_name.Slave s.set) ended ∙ ap (λ (b : Both). b.to_slave) s.same
 
     down : (h : IsDown ms r x') → Brought ms r (y ∷ t) end_name.Master s.entry.sent (s.entry ∷ s.set)
     down h = subst (λ (g : List ℕ). Brought ms r (y ∷ t) end_name.Master g (s.entry ∷ s.set)) (sym is) (record {
@@ -146,12 +146,12 @@ slave_brought ms r y t events w s plain turned-to nonces told = by-stage s.on.st
     })
       where
         is : s.entry.sent ≡ reset_frame 0 ms.lengths.slave
-        is = same_head s.entry.sent (reset_frame 0 ms.lengths.slave) _ _ (sym (all-sent ms r events w end_name.Slave s) ∙ h.last.is)
+        is = same_head s.entry.sent (reset_frame 0 ms.lengths.slave) _ _ (sym (all-sent ms r events w end_name.Slave s) ∙ h.begins.last.is)
 
         due : phase_due ms.lengths (y ∷ t) ≡ state.Reset
         due =
             ap (λ (e : End). phase_from ms.lengths (y ∷ t) e (phase_of_frame y.frame)) turned-to
-            ∙ (told.phase ∙ (ap (λ (u : Chained). phase_sent u.sent) (sym same) ∙ ap phase_sent h.outside.master.none_sent))
+            ∙ (told.phase ∙ (ap (λ (u : Chained). phase_sent u.sent) (sym same) ∙ ap phase_sent h.begins.outside.master.none_sent))
 
     by-stage : Stage ms r x' end_name.Master → Brought ms r (y ∷ t) end_name.Slave s.entry.sent (s.entry ∷ s.set)
     by-stage (Replied h) = replied h

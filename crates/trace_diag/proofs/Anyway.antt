@@ -13,7 +13,7 @@ use Rattle.trace_diag.proofs.Running.{delivered_on, held_put, plainly, IsOn, Rea
 
 -- these deeds with a hold and a put
 abbrev set_deeds : Bool → List ℕ → List Deed → List Deed
-set_deeds failsafe load e = quiet (move.Put load) ∷ quiet (move.Hold failsafe) ∷ e
+set_deeds failsafe load e = quiet (move.Put load) None ∷ quiet (move.Hold failsafe) None ∷ e
 
 same-session : (s : Setup) (e : List Deed) (b : Bool) (load : List ℕ) (f : SessionFrameView) (fault : Option Code) → judged_session s (set_deeds b load e) f fault ≡ judged_session s e f fault
 same-session s e b load f fault = grind arith
@@ -78,7 +78,7 @@ after-any ms r w end_name.Master b load accepts o =
 after-any ms r w end_name.Slave b load accepts o =
     let x = delivered_on ms r w end_name.Slave accepts o in
     let s : SendsAfter (OfSlave (partner ms r)) (set_deeds b load (deeds end_name.Slave w)) (back_th 1 (frames_of end_name.Master w)) =
-    sends-after (OfSlave (partner ms r)) (deeds end_name.Slave w) b load (back_th 1 (frames_of end_name.Master w)) x.0 x.1.is x.1.no_reset x.1.taken in
+    sends-after (OfSlave (partner ms r)) (deeds end_name.Slave w) b load (back_th 1 (frames_of end_name.Master w)) x.0 x.1.is x.1.no_reset (λ k. x.1.taken) in
     from-entry ms r w end_name.Slave b load s.entry (ap (λ (e : Option Entry). going_on (held_put ms r w end_name.Slave b load) e (world_after ms (partner ms r) [])) s.is) s.some s.ended
 
 as-plain : (ms : MasterSettings) (r : Partner ms) (w : List Entry) (at : End) → Accepts ms r → IsOn ms r w at → SendsMore ms r (event.Deliver at 1 ∷ []) w at

@@ -15,17 +15,17 @@ pub use Rattle.exchange_model.proofs.Alone.Pieces.{front, piece_in, piece_short,
 pub use Rattle.exchange_model.proofs.Alone.Uploads.{since_on}
 pub use Rattle.exchange_model.proofs.Honest.Fronts.{IsBegun, all_come, front_begun, front_long, not_yet, padded_twice}
 pub use Rattle.exchange_model.proofs.Honest.OnItsWay.{Chained, chained, groups_long, head_on}
-pub use Rattle.exchange_model.proofs.Honest.QuietEvents.{AtIdle, IsQuiet, both_kept, first_tick, quiet, quiet_enters, quiet_entry, quiet_hold, quiet_put}
+pub use Rattle.exchange_model.proofs.Honest.QuietEvents.{AtIdle, IsQuiet, asking_entry, both_kept, comes_still, first_tick, quiet, quiet_enters, quiet_entry, quiet_hold, quiet_put}
 pub use Rattle.exchange_model.proofs.Honest.ResetFrames.{is_reset_frame, zeros_all}
 pub use Rattle.exchange_model.proofs.Honest.SlaveTurn.{Accepts, Carries, Replies, some_width}
-pub use Rattle.exchange_model.proofs.Honest.StageSteps.{AtStage, Enters, Goes, asked_delivered, down_delivered, replied_delivered, some_connection, up_delivered}
+pub use Rattle.exchange_model.proofs.Honest.StageSteps.{AtStage, ComesTo, Goes, Takes, asked_delivered, coming_back, down_delivered, replied_delivered, some_connection, up_delivered}
 pub use Rattle.exchange_model.proofs.Honest.Stages.{Asked, Both, Down, IsAsked, IsDown, IsReplied, IsUp, Replied, Stage, Up, both}
 pub use Rattle.exchange_model.proofs.Honest.Turns.{FirstConnection, FirstParameter, FirstValues, FirstZeros, MoreConnection, MoreParameter, MoreSession, Partner, Spot, Turn, as_partner, conn_after, connection_pieces, master_of, more, parameter_pieces, partner, session_long, session_pieces, slave_of, width}
 pub use Rattle.exchange_model.proofs.Offering.Offered.{same_itself}
 pub use Rattle.exchange_model.proofs.Worlds.Longer.{world_on}
 pub use Rattle.exchange_model.specs.Ends.{peer, same_end}
 pub use Rattle.exchange_model.specs.Worlds.{IsProperEvent, IsWorld}
-pub use Rattle.exchange_model.specs.Serving.{HasNoReset, TakesDelivery, deliveries_to, is_delivery}
+pub use Rattle.exchange_model.specs.Serving.{HasNoReset, TakesDelivery, comes_new, is_coming, number_to}
 pub use Rattle.exchange_model.specs.World.{deed_in, deeds, delivery, end_of_event, entry_at, entry_on, frames_of, going_on, next_entry, setup_of, world, world_after}
 pub use Rattle.file_run.proofs.OnePart.{ends_one, takes_one}
 pub use Rattle.file_run.specs.Ran.{EndsAs, EndsWhole, RanOver, ReportsReadLines}

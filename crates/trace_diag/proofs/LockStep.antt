@@ -1,12 +1,13 @@
 -- The world over the schedule of a trace: one frame for each of the trace, each from the end whose turn it is, and
 -- after them the last is on its way.
-use Rattle.trace_diag.proofs.Common.{same_Some, Accepts, AtIdle, End, Enters, Entry, Event, IsProperEvent, MasterSettings, Noted, OfMaster, Partner, answer_events, command_in, first_tick, frame_of, going_on, length-append, length-replicate, length_of, partner, peer, read_schedule, reset_frame, sent_in, step, turn, world, world_after, world_on}
+use Rattle.trace_diag.proofs.Common.{same_Some, Accepts, AtIdle, End, Entry, Event, IsProperEvent, MasterSettings, Noted, OfMaster, Partner, answer_events, asking_entry, command_in, first_tick, frame_of, going_on, length-append, length-replicate, length_of, partner, peer, read_schedule, reset_frame, sent_in, step, turn, world, world_after, world_on}
 use Rattle.std.proofs.Common.{◌≡◌, ℕ, suc, ◌-◌, ◌<◌, nat_le, List, [], ◌∷◌, length, replicate, true, Option, refl, sym, ap, subst, ◌∙◌, arith, rules}
 use Rattle.fsoe_base.specs.declared.command.End.TheVariants as end_name
 use Rattle.param_load.specs.declared.entry.Move.TheVariants as move
 use Rattle.schedule_file.specs.declared.event.Event.TheVariants as event
 use Rattle.end_model.specs.Entries.{entry_of}
 use Rattle.exchange_model.proofs.Honest.OnItsWay.{fresh}
+use Rattle.exchange_model.proofs.Honest.StageSteps.{Enters}
 use Rattle.trace_diag.proofs.Running.{Answers, IsOn, answer_on}
 
 -- the world over the schedule of a trace with a frame: each event has its entry, and the last frame is on its way
@@ -27,10 +28,10 @@ first-entry ms x h = search rules
 pub first_runs : (ms : MasterSettings) (r : Partner ms) (x : Noted) → Runs ms r (x ∷ []) × (sent_in (world ms (partner ms r) (read_schedule ms.lengths (x ∷ []))) ≡ record { from = end_name.Master; frame = reset_frame 0 ms.lengths.master } ∷ [])
 first_runs ms r x =
     let first = first_tick ms r [] (ticks ms.watchdog ms.some_watchdog) refl (idle ms r) in
-    let y : Entry = first.0 in
-    let enters : Enters ms r [] (event.Tick end_name.Master) y = first.1 in
+    let y : Entry = asking_entry ms r [] in
+    let enters : Enters ms r [] (event.Tick end_name.Master) y = first.0 in
     let goes : world ms (partner ms r) (event.Tick end_name.Master ∷ []) ≡ y ∷ [] = ap (λ (e : Option Entry). going_on [] e (world_after ms (partner ms r) [])) enters.is in (
-      assumption (ap (length {A = Entry}) goes, subst (λ (w : List Entry). IsOn ms r w end_name.Slave) (sym goes) (record { is_world = (enters.follows, tt); stage = first.3 })),
+      assumption (ap (length {A = Entry}) goes, subst (λ (w : List Entry). IsOn ms r w end_name.Slave) (sym goes) (record { is_world = (enters.follows, tt); stage = first.1; coming = record { here = refl; none_back = refl } })),
       ap sent_in goes ∙ first-entry ms y (same_Some (entry_of (OfMaster ms) [] (step (OfMaster ms) [] move.Tick)) y enters.is),
     )
 

@@ -160,9 +160,9 @@ pub told_replied : (ms : MasterSettings) (t : List Noted) (x x' : Both) (f : Lis
 told_replied ms t x x' f is-reset phase h told same = record {
   chain =
       ap (λ (b : Bool). turned (if b then fresh else after_taken (chain_of ms.lengths t) (frame_of ms.lengths.slave f))) is-reset
-      ∙ ap₂ (λ (own taken : Option Link). record { own = own; taken = taken }) (sym h.outside.slave.no_own) (sym h.outside.slave.no_taken);
-  crc = ap last_crc h.outside.slave.no_own ∙ sym (ap (newest_crc ms.lengths.slave) h.outside.slave.none_sent);
-  phase = phase ∙ sym (ap phase_sent h.outside.master.none_sent);
+      ∙ ap₂ (λ (own taken : Option Link). record { own = own; taken = taken }) (sym h.begins.outside.slave.no_own) (sym h.begins.outside.slave.no_taken);
+  crc = ap last_crc h.begins.outside.slave.no_own ∙ sym (ap (newest_crc ms.lengths.slave) h.begins.outside.slave.none_sent);
+  phase = phase ∙ sym (ap phase_sent h.begins.outside.master.none_sent);
   payload = λ phase own. told.payload phase own ∙ ap (λ (u : Chained). front (pay ms ms.nonce phase) (width ms) (count_in phase u.sent)) (sym same);
   conn = told.conn ∙ ap (λ (u : Chained). conn_after ms.conn (count_in state.Connection u.sent)) (sym same);
   newest = tt;

@@ -1,5 +1,5 @@
 -- The schedule of number 0 is honest.
-use Rattle.duo_run.proofs.Common.{All-cons, All-nil, End, Entry, Event, HasNoReset, IsHonest, IsProperEvent, Serves, TakesDelivery, bulk_entries, entry_at, event_in_turn, honest_serves, if_on, in_turn, is_plain, keeps_time, list_all, made, made_master, made_slave, peer}
+use Rattle.duo_run.proofs.Common.{All-cons, All-nil, End, Entry, Event, HasNoReset, IsHonest, IsProperEvent, Serves, TakesDelivery, bulk_entries, entry_at, event_in_turn, honest_serves, if_on, in_turn, is_plain, keeps_time, list_all, made, made_master, made_slave, peer, slave_first}
 use Rattle.std.proofs.Common.{◌≡◌, ℕ, zero, suc, List, [], ◌∷◌, ◌++◌, true, Some, None, All, refl, sym, ap, ap₂, subst, ◌∙◌, arith, rules}
 use Rattle.fsoe_base.specs.declared.command.End.TheVariants as end_name
 use Rattle.schedule_file.specs.declared.event.Event.TheVariants as event
@@ -52,12 +52,17 @@ timely to (suc n) w =
       | Some x ↦ timely (peer to) n (x ∷ w)
     ]
 
+-- the first delivery is to the slave
+asked : (n : ℕ) → slave_first (alternating end_name.Slave n) ≡ true
+asked zero = refl
+asked (suc n) = refl
+
 proper : (to : End) (n : ℕ) → All (IsProperEvent made_master made_slave) (alternating to n)
 proper to zero = All-nil (IsProperEvent made_master made_slave)
 proper to (suc n) = All-cons (IsProperEvent made_master made_slave) (event.Deliver to 1) (alternating (peer to) n) tt (proper (peer to) n)
 
 honest : (n : ℕ) → IsHonest made_master made_slave (event.Tick end_name.Master ∷ alternating end_name.Slave n)
-honest n = record { plain = plain end_name.Slave n; turns = turns end_name.Slave n; begun = refl; time = timely end_name.Slave n _ }
+honest n = record { steady = record { plain = plain end_name.Slave n; begun = refl; asked = asked n; time = timely end_name.Slave n _ }; turns = turns end_name.Slave n }
 
 -- before the first event nothing happened
 serves : (n : ℕ) → Serves made_master (made 0 n) (bulk_entries 0 n)

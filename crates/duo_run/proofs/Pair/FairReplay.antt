@@ -1,5 +1,5 @@
 -- The events of an input are proper at ends that are set to its header, so that the laws of the pair hold of its run.
-use Rattle.duo_run.proofs.Common.{AreSetTo, Event, Fits, Heading, IfSome, Input, IsMasterOf, IsProperEvent, IsSlaveOf, MasterSettings, None, Option, RunsFairly, SameLengths, ServesIfHonest, SlaveSettings, Some, WithSettings, events_fit, fair_before, gives_master, gives_slave, heading_profile, honest_serves, input_of, own_length}
+use Rattle.duo_run.proofs.Common.{AreSetTo, Event, Fits, Heading, IfSome, Input, IsMasterOf, IsProperEvent, IsSlaveOf, MasterSettings, None, Option, RunsFairly, SameLengths, ServesIfHonest, ServesIfSteady, SlaveSettings, Some, WithSettings, events_fit, fair_before, gives_master, gives_slave, heading_profile, honest_serves, input_of, own_length, steady_serves}
 use Rattle.std.proofs.Common.{ℕ, List, All, sym, ◌∙◌, arith}
 use Rattle.schedule_file.specs.declared.header_kind.HeaderKind.TheVariants as kind
 
@@ -30,3 +30,9 @@ told_serve None = tt
 told_serve (Some bytes) =
     let input : Input = input_of kind.Pair bytes in
     of_header input.heading input.events _ (events_fit bytes) (gives_master kind.Pair bytes) (gives_slave kind.Pair bytes) (λ ms ss same proper matching honest. honest_serves ms ss input.events matching proper honest)
+
+pub told_steadily : (told : Option (List ℕ)) → IfSome told (λ bytes. ServesIfSteady (input_of kind.Pair bytes))
+told_steadily None = tt
+told_steadily (Some bytes) =
+    let input : Input = input_of kind.Pair bytes in
+    of_header input.heading input.events _ (events_fit bytes) (gives_master kind.Pair bytes) (gives_slave kind.Pair bytes) (λ ms ss same proper matching steady. steady_serves ms ss input.events matching proper steady)

@@ -3,14 +3,19 @@ use Rattle.duo_run.proofs.Common.{ByTitle, Ended, IfSome, IsTitled, None, Option
 use Rattle.std.proofs.Common.{ℕ, List, arith}
 use Rattle.std.specs.Prelude.{◌⊎◌}
 use Rattle.duo_run.specs.Version.{RanReplay, pairs_title}
-use Rattle.duo_run.proofs.Pair.FairReplay.{told_fairly, told_serve}
+use Rattle.duo_run.proofs.Pair.FairReplay.{told_fairly, told_serve, told_steadily}
 use Rattle.duo_run.proofs.Pairs.Fair.{told_pairs_fairly}
 
 pairs_ran : (ended : Ended) (o : Outside) → RanOver pairs_reporting ended o → RanPairs ended o
 pairs_ran ended o ran = record { run = ran; fair = told_pairs_fairly o.source.before }
 
 pub pair_ran : (ended : Ended) (o : Outside) → RanOver replay_reporting ended o → RanPair ended o
-pair_ran ended o ran = record { run = ran; fair = told_fairly o.source.before; serves = told_serve o.source.before }
+pair_ran ended o ran = record {
+  run = ran;
+  fair = told_fairly o.source.before;
+  serves = told_serve o.source.before;
+  serves_steadily = told_steadily o.source.before;
+}
 
 one_ran : (A B X Y : Type 0) → (A → X) → (B → Y) → A ⊎ B → X ⊎ Y
 one_ran A B X Y h k l = grind arith

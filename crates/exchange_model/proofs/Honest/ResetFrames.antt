@@ -36,11 +36,11 @@ parts-are l h =
     ∙ (ap (λ k. frame_of k (bytes_of (zero_frame l))) (sym e)
     ∙ parts_made (zero_frame l) valid (count-of (zero_load l) ∙ (count_groups (zero_load l) ∙ halves (length (zero_load l)) valid)))
 
-reset-long : (l : ℕ) → IsTrue (is_length l) → length (reset_frame 0 l) ≡ frame_len l
-reset-long l h = grind (arith, common_steps, groups_long, count-of, count_groups)
+pub reset_long : (l : ℕ) → IsTrue (is_length l) → length (reset_frame 0 l) ≡ frame_len l
+reset_long l h = grind (arith, common_steps, groups_long, count-of, count_groups)
 
 tested : (a b k : Bool) (x y z o : Code) → a ≡ true → b ≡ true → k ≡ true → (if not a then Err x else if not b then Err y else if not k then Err z else Ok o) ≡ Ok o
 tested a b k x y z o h l m = grind arith
 
 pub is_reset_frame : (s : Setup) (e : List Deed) → IsTrue (is_length (receives s)) → kept (since e) ≡ None → IsResetFrame s e (reset_frame 0 (receives s)) (zero_load (receives s))
-is_reset_frame s e h k = search (rules, reset-long, parts-are, tested, code, bytes_decides, zeros_all)
+is_reset_frame s e h k = search (rules, reset_long, parts-are, tested, code, bytes_decides, zeros_all)

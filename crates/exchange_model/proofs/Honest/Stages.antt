@@ -1,6 +1,6 @@
--- The stages of an honest run: which frame is on its way, and where both ends stand.
-use Rattle.exchange_model.proofs.Common.{Command, Deed, End, Entry, Item, MasterSettings, State, deeds, deliveries_to, has_command, id_sent, is_reset, items, items_of, joined, own, phase_of, phase_taken, reset_frame, since}
-use Rattle.std.proofs.Common.{◌≡◌, ℕ, suc, List, [], ◌∷◌, false, Option, Some, None}
+-- The stages of a steady run: which frame is on its way, and where both ends stand.
+use Rattle.exchange_model.proofs.Common.{Command, Deed, End, Entry, Item, MasterSettings, State, comes_new, deeds, frame_len, has_command, id_sent, is_reset, items, items_of, joined, number_to, own, phase_of, phase_taken, reset_frame, since}
+use Rattle.std.proofs.Common.{◌≡◌, ℕ, suc, List, [], ◌∷◌, length, false, Option, Some, None}
 use Rattle.fsoe_base.specs.declared.command.End.TheVariants as end_name
 use Rattle.fsoe_base.specs.declared.command.State.TheVariants as state
 use Rattle.fsoe_base.specs.declared.command.Command.TheVariants as command
@@ -53,8 +53,8 @@ both ms r w =
       joined = λ phase. joined phase (width ms) (since es);
       master_items = items_of end_name.Master (items w);
       slave_items = items_of end_name.Slave (items w);
-      to_master = deliveries_to end_name.Master w;
-      to_slave = deliveries_to end_name.Slave w;
+      to_master = number_to comes_new end_name.Master w;
+      to_slave = number_to comes_new end_name.Slave w;
     }
 
 -- no session has begun
@@ -70,7 +70,14 @@ pub record LastIs (frames : List (List ℕ)) (f : List ℕ) : Type 0 where
   pub older : List (List ℕ)
   pub is : frames ≡ f ∷ older
 
--- the newest of these frames and items is a Reset frame with l safe data bytes, and n deliveries came to the slave
+-- an end kept the newest of these frames, each with l safe data bytes, as taken last
+pub record HasKept (frames : List (List ℕ)) (kept : Option (List ℕ)) (l : ℕ) : Type 0 where
+  pub frame : List ℕ
+  pub last : LastIs frames frame
+  pub is : kept ≡ Some frame
+  pub long : length frame ≡ frame_len l
+
+-- the newest of these frames and items is a Reset frame with l safe data bytes, and n frames came to the slave
 pub record IsBeginning (x : Both) (frames : List (List ℕ)) (items : List Item) (l n : ℕ) : Type 0 where
   pub outside : IsOutside x
   pub last : LastIs frames (reset_frame 0 l)
@@ -82,9 +89,10 @@ pub record IsBeginning (x : Both) (frames : List (List ℕ)) (items : List Item)
 abbrev pub IsAsked : MasterSettings → Both → Type 0
 IsAsked ms x = IsBeginning x x.master_sent x.master_items ms.lengths.master 0
 
--- the slave's Reset frame is on its way
-abbrev pub IsReplied : MasterSettings → Both → Type 0
-IsReplied ms x = IsBeginning x x.slave_sent x.slave_items ms.lengths.slave 1
+-- the slave's Reset frame is on its way, after the master's
+pub record IsReplied (ms : MasterSettings) (x : Both) : Type 0 where
+  pub begins : IsBeginning x x.slave_sent x.slave_items ms.lengths.slave 1
+  pub asked : LastIs x.master_sent (reset_frame 0 ms.lengths.master)
 
 -- the master's frame number k, from 0, is on its way
 pub record IsDown (ms : MasterSettings) (r : Partner ms) (x : Both) : Type 0 where
@@ -99,6 +107,7 @@ pub record IsDown (ms : MasterSettings) (r : Partner ms) (x : Both) : Type 0 whe
   pub load : List ℕ
   pub frame : List ℕ
   pub last : LastIs x.master_sent frame
+  pub before : HasKept x.slave_sent x.master.kept ms.lengths.slave
   pub in_session : is_reset command ≡ false
   pub way : IsBetween (master_of ms) (slave_of ms r) x.master x.slave conn command load frame
   pub turn : Turn (session_pieces ms) (connection_pieces ms) (parameter_pieces ms) command p a b d k
@@ -121,6 +130,7 @@ pub record IsUp (ms : MasterSettings) (r : Partner ms) (x : Both) : Type 0 where
   pub load : List ℕ
   pub frame : List ℕ
   pub last : LastIs x.slave_sent frame
+  pub before : HasKept x.master_sent x.slave.kept ms.lengths.master
   pub in_session : is_reset command ≡ false
   pub way : IsBetween (slave_of ms r) (master_of ms) x.slave x.master conn command load frame
   pub spot : Spot (session_pieces ms) (connection_pieces ms) (parameter_pieces ms) (phase_of command) a b d k

@@ -7,9 +7,16 @@ use Rattle.exchange_model.proofs.laws.honest_runs.Goals as goal
 pub returns : goal.returns
 unfolding computing hex_on_literals
 returns c = record {
+  steady = record {
+    steady = record { plain = refl; begun = refl; asked = refl; time = refl };
+    not_in_turn = refl;
+    not_asked = refl;
+    answered = refl;
+    reaches_data = (refl, refl, refl, refl, refl, refl, refl);
+  };
   honest = record {
     settings_match = record { same_lengths = record { master = refl; slave = refl }; same_address = refl; same_profile = refl; watchdog_accepted = leb-true 100 1000 refl; as_many_parameters = refl; parameters_allowed = refl };
-    honest = record { plain = refl; turns = refl; begun = refl; time = refl };
+    honest = record { steady = record { plain = refl; begun = refl; asked = refl; time = refl }; turns = refl };
     ticks = (refl, refl, refl, refl, refl, refl);
     exchanges_are = (refl, refl, refl, refl);
     reaches_data = (refl, refl, refl, refl, refl, refl);
