@@ -1,6 +1,6 @@
 //! The run of a command.
 ghost use Rattle.std.specs.Prelude.{◌≡◌, ◌≢◌, ℕ, List, [], false, map, string_bytes};
-ghost use Rattle.file_run.specs.Outside.{Outside, told};
+ghost use Rattle.file_run.specs.Outside as outside;
 ghost use Rattle.multi_master.specs.Calls.{app_view};
 ghost use Rattle.plant_file.specs.Handed.{desk_told, handed};
 ghost use Rattle.fsoe_tool.specs.Command.{command_said, file_named};
@@ -67,19 +67,22 @@ fn without_journal(alloc: Global, ended: Ended) -> Outcome
 /// What holds of a command is its record in `Runs`. These are its laws, with the fields that state them:
 ///
 /// - The law of the pair: an end takes data only from its peer's answer to its own last frame, unaltered and once,
-///   under equal parameters. Else its outputs are zeros, from the tick in which the watchdog expires. This holds of the
-///   entries before the first `other` one, of all if there is none. An entry is `other` if a Connection, Parameter,
-///   ProcessData or FailSafeData frame passed the test of its CRCs and wasn't the awaited one, which is that answer:
-///   `RanPair.fair`, `RanPairs.fair` of several pairs, `RanBulk.fair`, `RanPlant.fair`.
-/// - A run completes: unless the source or the sink had a fault or memory was wanted, the whole report is written, with
-///   its status. So an input without a refused line, and for `plant` a configuration without a fault, has the status
-///   `Ok`, or `Other` if the command found what it looks for: `RanOver.completes` of all commands over an input but
-///   `convert`, `RanConvert.completes`, `RanBulk.wrote`.
-/// - Honest schedules serve: let the ends' settings match, let the peer's last frames come unaltered to the slave and
-///   to the master in turn, and let no watchdog expire after the start. Then each delivery is taken, no session ends
-///   and no entry is `other`. The master is in state Data after exactly `exchanges` exchanges, the slave from its next
-///   delivery on, and each later delivery brings data: `RanPair.serves`, and `RanBulk.serves` for the number 0. If
-///   frames come again, in any order, the same holds of each frame's first delivery: `RanPair.serves_steadily`.
+///   under equal parameters. Its outputs are the data that it took last, and else zeros: outside state Data, after a
+///   FailSafeData frame, and from the tick in which the watchdog expires. This holds of the entries before the first
+///   `other` one, of all if there is none. An entry is `other` if a Connection, Parameter, ProcessData or FailSafeData
+///   frame passed the test of its CRCs and wasn't the awaited one, which is that answer: `RanPair.fair`,
+///   `RanPairs.fair` of several pairs, `RanBulk.fair`, `RanPlant.fair`.
+/// - A run completes: let the source tell its bytes. Unless the source or the sink had a fault or memory was wanted, the
+///   whole report is written, with its status. So an input without a refused line, and for `plant` a configuration
+///   without a fault, has the status `Ok`, or `Other` if the command found what it looks for: `RanOver.completes` of all
+///   commands over an input but `convert`, `RanConvert.completes`, `RanBulk.wrote`.
+/// - Honest schedules serve: let the ends' settings match, let the master have a tick before all deliveries, let the
+///   peer's last frames come unaltered to the slave and to the master in turn, and let no watchdog expire after that
+///   tick. All else is puts, holds and session ids. Then each delivery is taken, no session ends and no entry is
+///   `other`. The master is in state Data after exactly `exchanges` deliveries to each end. The next delivery brings the
+///   slave there, and from it on each brings data: `RanPair.serves`, and `RanBulk.serves` for the number 0. If the
+///   peer's last frame may come more than once, to either end, the same holds of the first delivery of each frame:
+///   `RanPair.serves_steadily`.
 pub fn run<D: Desk, S: Source, K: Sink>(
     alloc: Global,
     words: &[String],
@@ -91,11 +94,11 @@ pub fn run<D: Desk, S: Source, K: Sink>(
 ) -> Outcome
     // The arguments name a command, of which all holds that its own call promises, or none.
     ensures runs { let A = ⟦<Box<dyn Application> as Application>⟧ in let C = ⟦<Box<dyn Channel> as Channel>⟧ in
-        let said = map string_bytes words.now in
-        let outside : Outside = record { source = told S.left S.faults source.old source.new; sink = told K.written K.faults sink.old sink.new } in
-        let file = desk_told D.holds D.faults (file_named said) desk.old desk.new in
+        let arguments = map string_bytes words.now in
+        let streams : outside.Outside = record { source = outside.told S.left S.faults source.old source.new; sink = outside.told K.written K.faults sink.old sink.new } in
+        let file = desk_told D.holds D.faults (file_named arguments) desk.old desk.new in
         let plant = handed (app_view A.rule A.holds A.guards) C.name C.told apps.items channels.old.items channels.new.items source.old source.new result.journal in
-        Runs (command_said said) (ended_of result) outside file plant }
+        Runs (command_said arguments) (ended_of result) streams file plant }
     ensures names_stay { let C = ⟦<Box<dyn Channel> as Channel>⟧ in map C.name channels.new.items ≡ map C.name channels.old.items }
     ensures unread { reads_input (command_said (map string_bytes words.now)) ≡ false → source.new ≡ source.old }
     ensures others { (other : List ℕ) → other ≢ file_named (map string_bytes words.now) → D.faults desk.new other ≡ D.faults desk.old other }
