@@ -43,8 +43,8 @@
  * Frames
  *     A frame of n safe data bytes has 2 * n + 3 bytes, or 6 if n is 1. Deliver it whole, without what the bus adds.
  *     Both ends send their last frame again until a step gives the next, far more often than a watchdog expires. An end
- *     drops the frame that it took last, so a lost frame is no stop (proved, as long as no watchdog expires). An older
- *     frame ends the session.
+ *     drops the frame that it took last in its session, so a lost frame is no stop (proved, while each frame that comes
+ *     is the peer's last and no watchdog expires). An older frame ends the session.
  *     Datagrams (UDP) may overtake each other. Put a number before each frame that rises with each datagram, also with
  *     copies and after a restart: a stored session id, then a count. Throw away a datagram whose number doesn't rise.
  *     A stream (TCP) loses nothing, and doesn't say where a frame ends: count its bytes. After it broke, begin a new

@@ -1,5 +1,6 @@
 //! What calls do by their names and by the places of their parameters. A C compiler would take each of these calls for
-//! the one beside it, or a parameter for its neighbour, since their types are the same. The other calls differ in types.
+//! the one beside it, or a parameter for its neighbour, since their types are the same. The other calls differ in types,
+//! but for those of sizes and alignments, which `embed/tests/misuse.c` tries by name.
 ghost use Rattle.std.specs.Prelude.{◌≡◌, true, false, if◌then◌else◌};
 ghost use Rattle.param_load.specs.declared.app_rule.AppRule.TheVariants as rule;
 ghost use Rattle.param_load.specs.declared.entry.Move.TheVariants as event;

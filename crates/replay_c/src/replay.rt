@@ -2,7 +2,7 @@
 ghost use Rattle.std.specs.Prelude.{◌≡◌, ◌≤◌, length, take, drop};
 ghost use Rattle.schedule_file.specs.Input.{input_of};
 ghost use Rattle.schedule_file.specs.declared.header_kind.HeaderKind.TheVariants as kind;
-ghost use Rattle.duo_run.specs.Replay.{RunsFairly, ServesIfHonest};
+ghost use Rattle.duo_run.specs.Replay.{RunsFairly, ServesIfHonest, ServesIfSteady};
 ghost use Rattle.replay_c.specs.Replayed.{EndedAs, Replayed};
 
 use crate::room::Room;
@@ -31,6 +31,7 @@ fn replay_into(text: &[u8], room: &mut Room<'_>) -> Ended
     ensures full { result.status ≡ Status.Write → room.new.len ≡ length room.new.memory.now }
     ensures fair { RunsFairly (input_of kind.Pair text.now) }
     ensures serves { ServesIfHonest (input_of kind.Pair text.now) }
+    ensures serves_steadily { ServesIfSteady (input_of kind.Pair text.now) }
 {
     run_pair(&mut Text::new(text), room)
 }
@@ -46,6 +47,7 @@ pub extern "C" fn gp_replay(text: &[u8], report: &mut [u8], ended: &mut GpEnded)
     ensures past { drop ended.new.len report.new ≡ drop ended.new.len report.old }
     ensures fair { RunsFairly (input_of kind.Pair text.now) }
     ensures serves { ServesIfHonest (input_of kind.Pair text.now) }
+    ensures serves_steadily { ServesIfSteady (input_of kind.Pair text.now) }
 {
     let mut room = Room::new(report);
     let how = replay_into(text, &mut room);
