@@ -4,8 +4,16 @@ from __future__ import annotations
 import itertools
 from typing import Iterator
 
-HEADER = ["fsoe 1 pair", "lengths 2 2", "master 1 2 100 1", "slave 2 100 1000 2", "rule any 0", "go"]
 MASK, MULTIPLIER, SEEDING = (1 << 64) - 1, 6364136223846793005, 11634580027462260723
+
+
+def header_of(watchdog: int) -> list[str]:
+    """The header of a schedule of numbers, with this watchdog and `hand`."""
+    slave = f"slave 2 {watchdog} {max(1000, watchdog)} 2"
+    return ["fsoe 1 pair", "lengths 2 2", f"master 1 2 {watchdog} 1", slave, "rule any 0", "go"]
+
+
+HEADER = header_of(100)
 
 
 def output(state: int) -> int:

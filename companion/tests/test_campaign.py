@@ -29,6 +29,6 @@ def test_numbers_have_their_range():
         status, said, why = gatepast("campaign", *words)
         assert (status, said) == (2, "") and why.startswith("gatepast: numbers go from 0")
     assert gatepast("campaign", most, most, "--events", 4)[0] == 0
-    assert "\nsame           1 " in gatepast("campaign", 1, 1, "--events", 100_000)[1]
+    assert "\nsame             1 " in gatepast("campaign", 1, 1, "--events", 100_000)[1]
     status, said, _ = gatepast("campaign", 57, 57, "--events", 80, "--each", "--fresh")
     assert status == 1 and "\n  number 57: other 69\nfresh " in said
