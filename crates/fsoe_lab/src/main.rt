@@ -3,6 +3,10 @@
 //! 10,000 pulls give nothing. `rates` writes the report of the plant, `journal` its journal.
 #![tactic(auto)]
 
+ghost use Rattle.std.specs.Prelude.{◌≡◌, ◌⊎◌, IfSome, None, map, string_bytes};
+ghost use Rattle.fsoe_io.specs.declared.status.Status.TheVariants.{Usage, Write};
+ghost use Rattle.fsoe_lab.specs.Command.{trial_said};
+
 mod command;
 mod run;
 
@@ -17,18 +21,19 @@ use rate_channel::{RateChannel, Rates};
 use run::run;
 use std::process::ExitCode;
 
-/// Runs the command of the program's arguments, with the applications and the channels that the program has for plants.
-/// None if there is no memory for these.
-fn run_program(rt: HostRuntime) -> Option<Status> {
+/// Runs the command of all these words, with the applications and the channels that the program has for plants. None if
+/// there is no memory for these.
+fn run_program(rt: HostRuntime, words: &[String]) -> Option<Status>
+    ensures usage { trial_said (map string_bytes words.now) ≡ None → IfSome result (λ s. (s ≡ Usage) ⊎ (s ≡ Write)) }
+{
     let alloc = rt.alloc();
-    let words = words_of(&rt).ok()?;
     let zeros = Box::new(alloc, Zeros).ok()?;
     let mirror = Box::new(alloc, Mirror).ok()?;
     let apps = apps_by_name(alloc, zeros, mirror).ok()?;
     let perfect = Box::new(alloc, PerfectChannel::new(alloc).ok()?).ok()?;
     let hostile = Box::new(alloc, HostileChannel::new(alloc).ok()?).ok()?;
     let mut channels = channels_by_name(alloc, perfect, hostile).ok()?;
-    let rates = trial_said(words.as_slice()).map_or(Rates::default(), |trial| trial.rates);
+    let rates = trial_said(words).map_or(Rates::default(), |trial| trial.rates);
     channels
         .push(Box::new(alloc, RateChannel::new(alloc, rates).ok()?).ok()?)
         .ok()?;
@@ -38,7 +43,7 @@ fn run_program(rt: HostRuntime) -> Option<Status> {
     let mut journal = Journal::new(alloc);
     let ended = run(
         alloc,
-        words.as_slice(),
+        words,
         &mut desk,
         &mut source,
         &mut sink,
@@ -50,6 +55,9 @@ fn run_program(rt: HostRuntime) -> Option<Status> {
 }
 
 fn main(rt: HostRuntime) -> ExitCode {
-    let status = run_program(rt).unwrap_or(Status::Memory);
-    ExitCode::from(status.number())
+    let status = match words_of(&rt) {
+        Ok(words) => run_program(rt, words.as_slice()),
+        Err(_) => None,
+    };
+    ExitCode::from(status.unwrap_or(Status::Memory).number())
 }
