@@ -63,7 +63,8 @@ run_stop input w = stop_after input (length w)
 abbrev pub AreSetTo : Heading → MasterSettings → SlaveSettings → Type 0
 AreSetTo h ms ss = IsMasterOf h ms × IsSlaveOf h ss
 
--- this holds of the settings of both ends that a header says: there are such settings, and a header says no others
+-- there are settings of both ends that a header says, and this holds of them; a header says no others
+-- (schedule_file's law `whole_headers_give_settings`)
 abbrev pub WithSettings : Heading → (MasterSettings → SlaveSettings → Type 0) → Type 0
 WithSettings h holds = (ms : MasterSettings) × (ss : SlaveSettings) × AreSetTo h ms ss × holds ms ss
 
@@ -97,7 +98,8 @@ ServesIfHonest input = IfSome input.heading (λ h. WithSettings h (λ ms ss. Mat
 abbrev pub ServesIfSteady : Input → Type 0
 ServesIfSteady input = IfSome input.heading (λ h. WithSettings h (λ ms ss. Match ms ss → IsSteady ms ss input.events → ServesSteadily ms input.events (world ms ss input.events)))
 
--- both ends ran over an input; and, where its bytes are told, the law of the pair holds of their entries
+-- both ends ran over an input; and, where its bytes are told, the law of the pair holds of their entries, and they serve
+-- if the events are honest or steady
 pub record RanPair (ended : Ended) (o : Outside) : Type 0 where
   pub run : RanOver replay_reporting ended o
   pub fair : IfSome o.source.before (λ input. RunsFairly (input_of header_kind.Pair input))

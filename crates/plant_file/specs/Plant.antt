@@ -32,7 +32,7 @@ use Rattle.plant_file.specs.Handed.{DeskTold, Handed}
 abbrev pub PlantRun : Type 1
 PlantRun = Terms → Ended → Outside → ChannelTold → ChannelTold → List JournalStep → Type 0
 
--- the source wasn't asked, no channel was used, and the journal is empty
+-- the source and all channels are as they were, and the journal is empty
 pub record BeganNothing {C S : Type 0} (h : Handed C S) : Type 0 where
   pub unread : h.source_after ≡ h.source_before
   pub channels : h.channels_after ≡ h.channels_before
@@ -96,7 +96,7 @@ abbrev pub NoneFailed : DeskTold → Type 0
 NoneFailed desk = desk.faults_after ≡ desk.faults_before
 
 -- what may be answered to a load of a configuration: where the desk tells it, the text under the name; that it is too
--- long, only where it is; and a failure, exactly where the desk's count of failed loads of this name rose
+-- long, only where it is; and a failure, only where the desk's count of failed loads of this name rose
 abbrev pub MayAnswer : DeskTold → Result (List ℕ) LoadFault → Type 0
 MayAnswer desk (Ok text) = IfSome desk.text (λ held. text ≡ held) × (length text ≤ max_config) × NoneFailed desk
 MayAnswer desk (Err load.Failed) = Rose desk.faults_before desk.faults_after

@@ -73,7 +73,7 @@ abbrev pub image_event_lines : ℕ → List ImageEvent → ImageEvent → List P
 image_event_lines size calls event [] = []
 image_event_lines size calls event (p ∷ places) = move_line (length calls + 1) size p calls (move_in size p calls event) ++ image_event_lines size calls event places
 
--- the lines of all events, newest first
+-- the lines of these events, of which the newest stands first and has the last lines
 abbrev pub image_lines : Plan → List ImageEvent → List ℕ
 image_lines plan [] = []
 image_lines plan (event ∷ calls) = image_lines plan calls ++ image_event_lines plan.size_in calls event plan.places
