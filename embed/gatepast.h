@@ -24,21 +24,23 @@
  *     switch_off();
  *     if (gp_version() != GP_VERSION || gp_slave_init(&slave, &settings, 0) != GP_OK) fail();
  *     for (;;) {
- *         if (a frame came) {
- *             if (gp_slave_deliver(&slave, frame, frame_len, &out, &did) != GP_OK) fail();
+ *         while (a millisecond passed that isn't counted yet) {
+ *             if (gp_slave_tick(&slave, &out, &did) != GP_OK) fail();
  *             follow();
  *         }
- *         if (a millisecond passed) {
- *             if (gp_slave_tick(&slave, &out, &did) != GP_OK) fail();
+ *         if (a frame came) {
+ *             if (gp_slave_deliver(&slave, frame, frame_len, &out, &did) != GP_OK) fail();
  *             follow();
  *         }
  *         if (last.len != 0 && nothing was sent for 3 milliseconds) send(last);
  *     }
  *
- * A master's loop is the same, with gp_master_accept and gp_master_reply if it decides in between. fail() switches off
- * and ends. A slave takes any connection id: compare the terms. The library never makes a session id: your program
- * gives a fresh one before each session. If it doesn't, nothing shows it: the old id comes again, and old frames may
- * pass. Whole loops are examples/drive.c, controller.c; udp_drive.c, udp_controller.c over UDP; cyclic.c over an image.
+ * A program that was late counts all ticks before it delivers what waited: else old data switch outputs on. A master's
+ * loop is the same, with gp_master_accept and gp_master_reply if it decides in between. fail() switches off and ends.
+ * A slave takes any connection id: compare the terms. The library never makes a session id: your program gives a fresh
+ * one before each session. If it doesn't, nothing shows it: the old id comes again, and old frames may pass. Each
+ * reset takes an id: stop after too many. Whole loops are examples/drive.c, controller.c; udp_drive.c,
+ * udp_controller.c over UDP; cyclic.c over an image.
  *
  * Frames
  *     A frame of n safe data bytes has 2 * n + 3 bytes, or 6 if n is 1. Deliver it whole, without what the bus adds.

@@ -41,6 +41,7 @@ static int bus = -1;
 static bool connected;
 static unsigned now;    /* the time in milliseconds */
 static uint64_t number; /* of the last datagram that was sent */
+static struct timespec wake; /* when the last millisecond that was counted came */
 static gp_frame last;   /* the last frame that was sent, and when */
 static unsigned last_time;
 
@@ -176,7 +177,6 @@ static const uint8_t *bus_receive(size_t *len) {
 
 /* Waits for the next millisecond, or not if one was missed: each is ticked. False if the program is to end. */
 static bool next_millisecond(void) {
-    static struct timespec wake;
     if (now == 0 && clock_gettime(CLOCK_MONOTONIC, &wake) != 0) return false;
     wake.tv_nsec += 1000000;
     if (wake.tv_nsec >= 1000000000) {
@@ -186,6 +186,13 @@ static bool next_millisecond(void) {
     while (clock_nanosleep(CLOCK_MONOTONIC, TIMER_ABSTIME, &wake, NULL) == EINTR) {
     }
     return ++now <= MOST_MILLISECONDS;
+}
+
+/* Whether a millisecond passed that isn't ticked yet. Then a frame that waits may be old: it comes after the ticks. */
+static bool is_late(void) {
+    struct timespec time;
+    if (clock_gettime(CLOCK_MONOTONIC, &time) != 0) return true;
+    return (time.tv_sec - wake.tv_sec) * 1000000000LL + (time.tv_nsec - wake.tv_nsec) >= 1000000;
 }
 
 /* The words of the command: FOLDER [LOST [AGAIN [SEED]]]. False if there are too few or too many. */

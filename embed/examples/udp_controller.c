@@ -97,8 +97,8 @@ int main(int argc, char **argv) {
     while (exchanges <= EXCHANGES && next_millisecond()) { /* one more, for the answer to LEAVING */
         const uint8_t *frame = NULL;
         size_t len = 0;
-        for (int i = 0; i < MOST_FRAMES && (frame = bus_receive(&len)) != NULL; i++) came(frame, len);
         passed();
+        for (int i = 0; i < MOST_FRAMES && !is_late() && (frame = bus_receive(&len)) != NULL; i++) came(frame, len);
         bus_send_again();
     }
     leave();

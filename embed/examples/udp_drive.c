@@ -85,13 +85,13 @@ int main(int argc, char **argv) {
         const uint8_t inputs[SLAVE_LEN] = {0x80, 0x00}; /* what the drive offers its master: ready */
         const uint8_t *frame = NULL;
         size_t len = 0;
+        if (gp_slave_tick(&slave, &out, &did) != GP_OK) stop("no slave");
+        follow();
         if (gp_slave_put(&slave, inputs, sizeof inputs) != GP_OK) stop("the inputs are refused");
-        for (int i = 0; i < MOST_FRAMES && (frame = bus_receive(&len)) != NULL; i++) {
+        for (int i = 0; i < MOST_FRAMES && !is_late() && (frame = bus_receive(&len)) != NULL; i++) {
             if (gp_slave_deliver(&slave, frame, len, &out, &did) != GP_OK) stop("no slave");
             follow();
         }
-        if (gp_slave_tick(&slave, &out, &did) != GP_OK) stop("no slave");
-        follow();
         bus_send_again();
     }
     drive_motor(off);

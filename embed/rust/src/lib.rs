@@ -10,7 +10,8 @@
 //! Keep the last frame, and send it again until a step gives the next, but never an older one: an end drops the frame
 //! that it took last, so that a lost frame is no stop. Datagrams may overtake each other, and an older frame ends its
 //! session: number them, and throw away those whose number doesn't rise. Over a cyclic image deliver the bytes of the
-//! peer's slot in each cycle, changed or not, if they came whole, and leave yours as it is while a step has no frame.
+//! peer's slot in each cycle, changed or not, if they came whole, and leave yours as it is while a step has no frame. A
+//! program that was late counts all ticks before it delivers what waited: else old data switch outputs on.
 //!
 //! ```
 //! use core::num::NonZeroU16;
