@@ -42,7 +42,7 @@ pub fn slave_step(ticks: bool, slave: &mut GpSlave, out: &mut GpFrame, did: &mut
     }
 }
 
-/// The same of a master.
+/// A master counts a tick, or else ends its session.
 pub fn master_step(ticks: bool, master: &mut GpMaster, out: &mut GpFrame, did: &mut GpDid) -> u8
     requires { IsSoundMaster master.old }
     ensures { result ≡ OK → Between master.old.place.master master.new.place.master (λ old new. of_master.Follows old (if ticks then event.Tick else event.Local) new) }
@@ -76,7 +76,7 @@ pub fn slave_readers(
     )
 }
 
-/// The same of a master.
+/// Each reader of a master writes what its name says. Returns the answers.
 pub fn master_readers(
     master: &mut GpMaster,
     outputs: &mut [u8],
