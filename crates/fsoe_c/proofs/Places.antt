@@ -1,7 +1,6 @@
--- What holds of a place, and of what is told of the end in it.
-use Rattle.std.proofs.Common.{◌≡◌, ℕ, List, [], Bool, Option, false, IsTrue, refl, sym, subst, ◌∙◌, ap}
-use Rattle.std.specs.Prelude.{◌≤◌, Some, None, is_some, drop}
-use Rattle.std.proofs.lemmas.Bool.{false≢true}
+-- What is told of the end in a place.
+use Rattle.std.proofs.Common.{◌≡◌, ℕ, List, [], Option, subst, ◌∙◌}
+use Rattle.std.specs.Prelude.{◌≤◌, Some, drop}
 use Rattle.fsoe_base.specs.declared.did.Did.{Did}
 use Rattle.param_load.specs.declared.entry.Move.{Move}
 use Rattle.end_model.specs.Deed.{Deed}
@@ -9,35 +8,12 @@ use Rattle.end_model.specs.Setup.{Setup}
 use Rattle.end_model.specs.Step.{step}
 use Rattle.master_core.specs.MasterView.{MasterView}
 use Rattle.master_core.specs.Waiting.{Accepts}
-use Rattle.fsoe_c.specs.Place.{IfThere, answered}
+use Rattle.c_values.proofs.Places.{there_is}
 use Rattle.fsoe_c.specs.Settings.{IsNew}
-use Rattle.fsoe_c.specs.Told.{AcceptsTelling, ShowsDid, Tells, frame_of}
-use Rattle.fsoe_c.specs.declared.told.GpDid.{GpDid}
-use Rattle.fsoe_c.specs.declared.told.GpFrame.{GpFrame}
-
--- where no end is there, all holds of each
-pub vacuous : {V : Type 0} (live : Bool) (o : Option V) (P : V → Type 0) → live ≡ is_some o → live ≡ false → IfThere o P
-vacuous live o P sound dead v there = absurd (false≢true (sym dead ∙ sound ∙ ap is_some there))
-
--- where one value stands in a place, it is the one that was moved in
-there_is : {X : Type 0} (o : Option X) (x v : X) → o ≡ Some x → o ≡ Some v → x ≡ v
-there_is o x v made there = cc
-
--- where no end is there, the answer says so
-pub unserved : {V : Type 0} (live : Bool) (o : Option V) (test : V → Bool) (why : ℕ) → live ≡ is_some o → live ≡ false → 1 ≡ answered o test why
-unfolding answered
-unserved live None test why sound dead = refl
-unserved live (Some v) test why sound dead = absurd (false≢true (sym dead ∙ sound))
-
--- the end that is there passes the test
-pub passes : {V : Type 0} (o : Option V) (v : V) (test : V → Bool) (why : ℕ) → o ≡ Some v → IsTrue (test v) → 0 ≡ answered o test why
-unfolding answered
-passes o v test why held met = rw (held, met) refl
-
--- the end that is there fails it
-pub fails : {V : Type 0} (o : Option V) (v : V) (test : V → Bool) (why : ℕ) → o ≡ Some v → test v ≡ false → why ≡ answered o test why
-unfolding answered
-fails o v test why held unmet = rw (held, unmet) refl
+use Rattle.c_values.specs.Told.{ShowsDid, frame_of}
+use Rattle.fsoe_c.specs.Told.{AcceptsTelling, Tells}
+use Rattle.c_values.specs.declared.told.GpDid.{GpDid}
+use Rattle.c_values.specs.declared.told.GpFrame.{GpFrame}
 
 -- what shows what an end did and sent tells its next deed
 pub tells : {S V : Type 0} (is_after : S → V → List Deed → Type 0) (setup : S → Setup) (o : Option V) (x v : V) (event : Move) (d : Did) (sent : List ℕ) (was g : GpDid) (had f : GpFrame)

@@ -1,10 +1,9 @@
 -- When a handle may be handed in, and what is known of the end behind it.
-use Rattle.std.specs.Prelude.{◌≡◌, ℕ, Bool, true, false, Option, is_some}
+use Rattle.std.specs.Prelude.{◌≡◌, false, Option, is_some}
 use Rattle.master_core.specs.MasterView.{MasterView}
 use Rattle.master_core.specs.Now.{is_due}
-use Rattle.fsoe_c.specs.Place.{IfThere}
+use Rattle.c_values.specs.Place.{IfThere}
 use Rattle.fsoe_c.specs.declared.master.GpMaster.{GpMaster}
-use Rattle.fsoe_c.specs.declared.numbers.TheConstants.{NO_END, OK}
 use Rattle.fsoe_c.specs.declared.slave.GpSlave.{GpSlave}
 
 -- the flag says whether a slave is there
@@ -18,8 +17,3 @@ IsSoundMaster handle = handle.live ≡ is_some handle.place.master
 -- the master that is there, if one is, has no frame that is due
 abbrev pub IsAtRest : Option MasterView → Type 0
 IsAtRest place = IfThere place (λ master. is_due master.state ≡ false)
-
--- the answer of a call that wants no more than that an end is there
-abbrev pub served : Bool → ℕ
-served true = OK
-served false = NO_END

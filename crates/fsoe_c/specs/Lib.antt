@@ -1,6 +1,5 @@
 pub mod Handle
 pub mod Lent
-pub mod Numbers
-pub mod Place
 pub mod Settings
 pub mod Told
+pub mod Version

@@ -1,11 +1,9 @@
--- What C code is told, by the fields that it reads.
-use Rattle.std.specs.Prelude.{◌≡◌, ◌≤◌, ◌==◌, ◌||◌, ℕ, Bool, not, List, [], Option, Some, None, IsSomeAnd, take, drop}
+-- What C code is told of an end's next deed, and of its terms.
+use Rattle.std.specs.Prelude.{◌≡◌, ◌≤◌, ℕ, List, IsSomeAnd, drop}
 use Rattle.fsoe_base.specs.declared.did.Did.{Did}
-use Rattle.fsoe_base.specs.declared.did.Took.{Took}
 use Rattle.param_load.specs.declared.entry.Move.{Move}
 use Rattle.param_load.specs.declared.master_settings.MasterSettings.{MasterSettings}
 use Rattle.param_load.specs.declared.slave_settings.SlaveSettings.{SlaveSettings}
-use Rattle.param_load.specs.declared.terms.Terms.{Terms}
 use Rattle.end_model.specs.Deed.{Deed}
 use Rattle.end_model.specs.Readiness.{told_terms}
 use Rattle.end_model.specs.Setup.{Setup, OfMaster, OfSlave}
@@ -15,40 +13,10 @@ use Rattle.slave_core.specs.Standing.{SlaveIsAfter}
 use Rattle.master_core.specs.MasterView.{MasterView}
 use Rattle.master_core.specs.Standing.{MasterIsAfter}
 use Rattle.master_core.specs.Waiting.{Accepts, Delivery, Waits, with_delivery}
-use Rattle.fsoe_c.specs.Numbers.{flag, took_number, reset_number, code_number, dropped_number, profile_number, word_number}
-use Rattle.fsoe_c.specs.declared.told.GpDid.{GpDid}
-use Rattle.fsoe_c.specs.declared.told.GpFrame.{GpFrame}
-use Rattle.fsoe_c.specs.declared.told.GpTerms.{GpTerms}
-
--- the bytes of a frame
-abbrev pub frame_of : GpFrame → List ℕ
-frame_of f = take f.len f.bytes
-
--- the safe data of the frame that was taken, none where none was
-abbrev pub took_load : Option Took → List ℕ
-took_load None = []
-took_load (Some took) = took.load
-
--- the fields say what a step did
-pub record ShowsDid (g : GpDid) (d : Did) : Type 0 where
-  pub took : g.took ≡ took_number d.took
-  pub load : take g.load_len g.load ≡ took_load d.took
-  pub load_len : g.load_len ≤ 126
-  pub passed : g.passed ≡ flag d.passed
-  pub sent : g.sent ≡ flag d.sent
-  pub reset : g.reset ≡ reset_number d.reset
-  pub code : g.code ≡ code_number d.reset
-  pub dropped : g.dropped ≡ dropped_number d.dropped
-
--- the fields say what terms these are
-pub record ShowsTerms (g : GpTerms) (t : Terms) : Type 0 where
-  pub conn : g.conn ≡ t.conn
-  pub address : g.address ≡ t.address
-  pub watchdog : g.watchdog ≡ t.watchdog
-  pub app : take g.app_len g.app ≡ t.app
-  pub app_len : g.app_len ≤ 512
-  pub profile : g.profile ≡ profile_number t.profile
-  pub word : g.word ≡ word_number t.profile
+use Rattle.c_values.specs.Told.{ShowsDid, ShowsTerms, frame_of}
+use Rattle.c_values.specs.declared.told.GpDid.{GpDid}
+use Rattle.c_values.specs.declared.told.GpFrame.{GpFrame}
+use Rattle.c_values.specs.declared.told.GpTerms.{GpTerms}
 
 -- the fields and the frame are those of the next deed of an end; what lay behind the data and the frame stays
 pub record Tells {S V : Type 0} (is_after : S → V → List Deed → Type 0) (setup : S → Setup) (old : V) (event : Move) (was g : GpDid) (had f : GpFrame) : Type 0 where
@@ -81,7 +49,3 @@ pub record MasterShowsTerms (master : MasterView) (g : GpTerms) : Type 0 where
 -- the same of a master that waits in a delivery, as if its frame had been sent
 pub record MasterShowsTermsDue (master : MasterView) (g : GpTerms) : Type 0 where
   pub shows : (d : Delivery) → Waits master d → IsSomeAnd (told_terms (OfMaster d.settings) (with_delivery d)) (ShowsTerms g)
-
--- what was done leads to a frame that is due: a frame was taken, or the end went to state Reset
-abbrev pub leads_on : GpDid → Bool
-leads_on g = not (g.took == 0) || not (g.reset == 0)

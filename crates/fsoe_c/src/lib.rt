@@ -5,16 +5,14 @@
 //! do.
 #![tactic(auto)]
 
-pub mod laws;
+mod lent;
 pub mod master;
 mod master_place;
 mod master_room;
 pub mod master_shown;
 pub mod names;
-pub mod numbers;
-pub mod settings;
 pub mod slave;
 mod slave_place;
 mod slave_room;
 pub mod slave_shown;
-pub mod told;
+pub mod version;

@@ -6,19 +6,22 @@ ghost use Rattle.end_model.specs.Setup.{OfMaster, sends};
 ghost use Rattle.master_core.specs.Now.{is_due};
 ghost use Rattle.master_core.specs.Standing.{Follows};
 ghost use Rattle.master_core.specs.Waiting.{Keeps, Replies};
-ghost use Rattle.fsoe_c.specs.Handle.{IsAtRest, IsSoundMaster, served};
-ghost use Rattle.fsoe_c.specs.Numbers.{flag};
-ghost use Rattle.fsoe_c.specs.Place.{Between, IfThere, answered};
-ghost use Rattle.fsoe_c.specs.Settings.{IsNewMaster, master_refusal};
-ghost use Rattle.fsoe_c.specs.Told.{AcceptsTelling, MasterTells, frame_of, leads_on};
+ghost use Rattle.fsoe_c.specs.Handle.{IsAtRest, IsSoundMaster};
+ghost use Rattle.c_values.specs.Numbers.{flag};
+ghost use Rattle.c_values.specs.Place.{Between, IfThere, answered, served};
+ghost use Rattle.c_values.specs.Settings.{master_refusal};
+ghost use Rattle.fsoe_c.specs.Settings.{IsNewMaster};
+ghost use Rattle.c_values.specs.Told.{frame_of, leads_on};
+ghost use Rattle.fsoe_c.specs.Told.{AcceptsTelling, MasterTells};
 
+use crate::lent::lent;
 use crate::master_place::MasterPlace;
 use crate::master_room::MasterRoom;
-use crate::numbers::{
-    BAD_APP, BAD_LENGTH, BAD_NONCE, BUSY, FRAME_DUE, NO_END, NONE_DUE, OK, flag, lent,
+use c_values::numbers::{
+    BAD_APP, BAD_LENGTH, BAD_NONCE, BUSY, FRAME_DUE, NO_END, NONE_DUE, OK, flag,
 };
-use crate::settings::{GpMasterSettings, app_of, master_settings};
-use crate::told::{GpDid, GpFrame};
+use c_values::settings::{GpMasterSettings, app_of, master_settings};
+use c_values::told::{GpDid, GpFrame};
 use std::mem::{align_of, size_of};
 
 /// The handle of a master: where its memory lies, and whether a master is there.
@@ -91,7 +94,7 @@ pub extern "C" fn gp_master_end(master: &mut GpMaster) -> u8
 /// Delivers a frame of the slave, of any number of bytes. Writes the result to `did`, and the frame to send to `out`,
 /// empty if none is sent.
 #[unsafe(no_mangle)]
-#[tactic(auto, using(crate::proofs::Places::vacuous, crate::proofs::Places::unserved, crate::proofs::Places::passes, crate::proofs::Places::fails, crate::proofs::Places::tells))]
+#[tactic(auto, using(c_values::proofs::Places::vacuous, c_values::proofs::Places::unserved, c_values::proofs::Places::passes, c_values::proofs::Places::fails, crate::proofs::Places::tells))]
 pub extern "C" fn gp_master_deliver(
     master: &mut GpMaster,
     frame: &[u8],
@@ -121,7 +124,7 @@ pub extern "C" fn gp_master_deliver(
 /// Accepts a frame of the slave, of any number of bytes, in the first half of a delivery. Writes the result to `did`.
 /// If a frame is due then, `reply` writes it.
 #[unsafe(no_mangle)]
-#[tactic(auto, using(crate::proofs::Places::vacuous, crate::proofs::Places::unserved, crate::proofs::Places::passes, crate::proofs::Places::fails, crate::proofs::Places::master_accepts))]
+#[tactic(auto, using(c_values::proofs::Places::vacuous, c_values::proofs::Places::unserved, c_values::proofs::Places::passes, c_values::proofs::Places::fails, crate::proofs::Places::master_accepts))]
 pub extern "C" fn gp_master_accept(master: &mut GpMaster, frame: &[u8], did: &mut GpDid) -> u8
     requires { IsSoundMaster master.old }
     ensures sound { IsSoundMaster master.new }
@@ -144,7 +147,7 @@ pub extern "C" fn gp_master_accept(master: &mut GpMaster, frame: &[u8], did: &mu
 
 /// Writes 1 if a frame is due, else 0.
 #[unsafe(no_mangle)]
-#[tactic(auto, using(crate::proofs::Places::vacuous))]
+#[tactic(auto, using(c_values::proofs::Places::vacuous))]
 pub extern "C" fn gp_master_due(master: &mut GpMaster, due: &mut u8) -> u8
     requires { IsSoundMaster master.old }
     ensures unchanged { master.new ≡ master.old }
@@ -159,7 +162,7 @@ pub extern "C" fn gp_master_due(master: &mut GpMaster, due: &mut u8) -> u8
 
 /// Writes the due frame to `out`, in the second half of a delivery. It carries what was put last.
 #[unsafe(no_mangle)]
-#[tactic(auto, using(crate::proofs::Places::vacuous, crate::proofs::Places::unserved, crate::proofs::Places::passes, crate::proofs::Places::fails))]
+#[tactic(auto, using(c_values::proofs::Places::vacuous, c_values::proofs::Places::unserved, c_values::proofs::Places::passes, c_values::proofs::Places::fails))]
 pub extern "C" fn gp_master_reply(master: &mut GpMaster, out: &mut GpFrame) -> u8
     requires { IsSoundMaster master.old }
     ensures sound { IsSoundMaster master.new }
@@ -182,7 +185,7 @@ pub extern "C" fn gp_master_reply(master: &mut GpMaster, out: &mut GpFrame) -> u
 
 /// Counts a tick. Writes the result to `did`, and the frame to send to `out`, empty if none is sent.
 #[unsafe(no_mangle)]
-#[tactic(auto, using(crate::proofs::Places::vacuous, crate::proofs::Places::unserved, crate::proofs::Places::passes, crate::proofs::Places::fails, crate::proofs::Places::tells))]
+#[tactic(auto, using(c_values::proofs::Places::vacuous, c_values::proofs::Places::unserved, c_values::proofs::Places::passes, c_values::proofs::Places::fails, crate::proofs::Places::tells))]
 pub extern "C" fn gp_master_tick(master: &mut GpMaster, out: &mut GpFrame, did: &mut GpDid) -> u8
     requires { IsSoundMaster master.old }
     ensures sound { IsSoundMaster master.new }
@@ -205,7 +208,7 @@ pub extern "C" fn gp_master_tick(master: &mut GpMaster, out: &mut GpFrame, did: 
 
 /// Ends the session, if there is one. Writes the result to `did`, and the Reset frame to send to `out`.
 #[unsafe(no_mangle)]
-#[tactic(auto, using(crate::proofs::Places::vacuous, crate::proofs::Places::unserved, crate::proofs::Places::passes, crate::proofs::Places::fails, crate::proofs::Places::tells))]
+#[tactic(auto, using(c_values::proofs::Places::vacuous, c_values::proofs::Places::unserved, c_values::proofs::Places::passes, c_values::proofs::Places::fails, crate::proofs::Places::tells))]
 pub extern "C" fn gp_master_reset(master: &mut GpMaster, out: &mut GpFrame, did: &mut GpDid) -> u8
     requires { IsSoundMaster master.old }
     ensures sound { IsSoundMaster master.new }
@@ -228,7 +231,7 @@ pub extern "C" fn gp_master_reset(master: &mut GpMaster, out: &mut GpFrame, did:
 
 /// Sets the safe data to send from now on, as many bytes as the master's frames carry. The offer outlasts resets.
 #[unsafe(no_mangle)]
-#[tactic(auto, using(crate::proofs::Places::vacuous, crate::proofs::Places::unserved, crate::proofs::Places::passes, crate::proofs::Places::fails))]
+#[tactic(auto, using(c_values::proofs::Places::vacuous, c_values::proofs::Places::unserved, c_values::proofs::Places::passes, c_values::proofs::Places::fails))]
 pub extern "C" fn gp_master_put(master: &mut GpMaster, load: &[u8]) -> u8
     requires { IsSoundMaster master.old }
     ensures sound { IsSoundMaster master.new }
@@ -249,7 +252,7 @@ pub extern "C" fn gp_master_put(master: &mut GpMaster, load: &[u8]) -> u8
 
 /// Switches fail-safe data on or off: while on, zeros are sent in place of the offer. It outlasts resets.
 #[unsafe(no_mangle)]
-#[tactic(auto, using(crate::proofs::Places::vacuous))]
+#[tactic(auto, using(c_values::proofs::Places::vacuous))]
 pub extern "C" fn gp_master_hold(master: &mut GpMaster, failsafe: bool) -> u8
     requires { IsSoundMaster master.old }
     ensures sound { IsSoundMaster master.new }
@@ -268,7 +271,7 @@ pub extern "C" fn gp_master_hold(master: &mut GpMaster, failsafe: bool) -> u8
 /// Sets the id of all sessions whose first Session frame is sent after this call, at most 65,535 in profile One. It
 /// outlasts resets: give a fresh one before each session.
 #[unsafe(no_mangle)]
-#[tactic(auto, using(crate::proofs::Places::vacuous, crate::proofs::Places::unserved, crate::proofs::Places::passes, crate::proofs::Places::fails))]
+#[tactic(auto, using(c_values::proofs::Places::vacuous, c_values::proofs::Places::unserved, c_values::proofs::Places::passes, c_values::proofs::Places::fails))]
 pub extern "C" fn gp_master_nonce(master: &mut GpMaster, id: u32) -> u8
     requires { IsSoundMaster master.old }
     ensures sound { IsSoundMaster master.new }

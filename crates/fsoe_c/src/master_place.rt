@@ -16,7 +16,7 @@ pub struct MasterPlace {
 }
 
 impl Model for MasterPlace {
-    ghost use Rattle.fsoe_c.specs.Place.{place_owns};
+    ghost use Rattle.c_values.specs.Place.{place_owns};
     ghost use Rattle.fsoe_c.specs.contracts.master_room.MasterRoom.{the_row};
 
     ghost also_owns = { λ place. place_owns the_row place.at place.master };

@@ -5,18 +5,19 @@ ghost use Rattle.end_model.specs.Readiness as model;
 ghost use Rattle.end_model.specs.Outputs as looking_back;
 ghost use Rattle.master_core.specs.Standing.{Shows};
 ghost use Rattle.master_core.specs.Waiting.{ShowsDue};
-ghost use Rattle.fsoe_c.specs.Handle.{IsSoundMaster, served};
-ghost use Rattle.fsoe_c.specs.Numbers.{flag, state_number};
-ghost use Rattle.fsoe_c.specs.Place.{IfThere, answered};
+ghost use Rattle.fsoe_c.specs.Handle.{IsSoundMaster};
+ghost use Rattle.c_values.specs.Numbers.{flag, state_number};
+ghost use Rattle.c_values.specs.Place.{IfThere, answered, served};
 ghost use Rattle.fsoe_c.specs.Told.{MasterShowsTerms, MasterShowsTermsDue};
 
+use crate::lent::lent;
 use crate::master::GpMaster;
-use crate::numbers::{BAD_LENGTH, NO_END, NOT_IN_DATA, OK, flag, lent, state_number};
-use crate::told::{GpTerms, copied, tells};
+use c_values::numbers::{BAD_LENGTH, NO_END, NOT_IN_DATA, OK, flag, state_number};
+use c_values::told::{GpTerms, copied, tells};
 
 /// Writes the number of the state, from 0 for Reset to 4 for Data. A frame that is due is treated as already sent.
 #[unsafe(no_mangle)]
-#[tactic(auto, using(crate::proofs::Places::vacuous))]
+#[tactic(auto, using(c_values::proofs::Places::vacuous))]
 pub extern "C" fn gp_master_state(master: &mut GpMaster, state: &mut u8) -> u8
     requires { IsSoundMaster master.old }
     ensures unchanged { master.new ≡ master.old }
@@ -32,7 +33,7 @@ pub extern "C" fn gp_master_state(master: &mut GpMaster, state: &mut u8) -> u8
 
 /// Copies the outputs, which came from the slave: as many bytes as its frames carry.
 #[unsafe(no_mangle)]
-#[tactic(auto, using(crate::proofs::Places::vacuous, crate::proofs::Places::unserved, crate::proofs::Places::passes, crate::proofs::Places::fails))]
+#[tactic(auto, using(c_values::proofs::Places::vacuous, c_values::proofs::Places::unserved, c_values::proofs::Places::passes, c_values::proofs::Places::fails))]
 pub extern "C" fn gp_master_outputs(master: &mut GpMaster, outputs: &mut [u8]) -> u8
     requires { IsSoundMaster master.old }
     ensures unchanged { master.new ≡ master.old }
@@ -50,7 +51,7 @@ pub extern "C" fn gp_master_outputs(master: &mut GpMaster, outputs: &mut [u8]) -
 
 /// Copies the safe data that were put last, zeros at first, as many bytes as the master's frames carry.
 #[unsafe(no_mangle)]
-#[tactic(auto, using(crate::proofs::Places::vacuous, crate::proofs::Places::unserved, crate::proofs::Places::passes, crate::proofs::Places::fails))]
+#[tactic(auto, using(c_values::proofs::Places::vacuous, c_values::proofs::Places::unserved, c_values::proofs::Places::passes, c_values::proofs::Places::fails))]
 pub extern "C" fn gp_master_offer(master: &mut GpMaster, offer: &mut [u8]) -> u8
     requires { IsSoundMaster master.old }
     ensures unchanged { master.new ≡ master.old }
@@ -68,7 +69,7 @@ pub extern "C" fn gp_master_offer(master: &mut GpMaster, offer: &mut [u8]) -> u8
 
 /// Writes the terms of the session, only in state Data.
 #[unsafe(no_mangle)]
-#[tactic(auto, using(crate::proofs::Places::vacuous))]
+#[tactic(auto, using(c_values::proofs::Places::vacuous))]
 pub extern "C" fn gp_master_terms(master: &mut GpMaster, terms: &mut GpTerms) -> u8
     requires { IsSoundMaster master.old }
     ensures unchanged { master.new ≡ master.old }
@@ -90,7 +91,7 @@ pub extern "C" fn gp_master_terms(master: &mut GpMaster, terms: &mut GpTerms) ->
 
 /// Writes the ticks since the last frame was sent, 0 while a frame is due. A new master has its watchdog less 1.
 #[unsafe(no_mangle)]
-#[tactic(auto, using(crate::proofs::Places::vacuous))]
+#[tactic(auto, using(c_values::proofs::Places::vacuous))]
 pub extern "C" fn gp_master_age(master: &mut GpMaster, age: &mut u16) -> u8
     requires { IsSoundMaster master.old }
     ensures unchanged { master.new ≡ master.old }
@@ -106,7 +107,7 @@ pub extern "C" fn gp_master_age(master: &mut GpMaster, age: &mut u16) -> u8
 
 /// Writes 1 if zeros are sent in place of the offer, else 0.
 #[unsafe(no_mangle)]
-#[tactic(auto, using(crate::proofs::Places::vacuous))]
+#[tactic(auto, using(c_values::proofs::Places::vacuous))]
 pub extern "C" fn gp_master_held(master: &mut GpMaster, held: &mut u8) -> u8
     requires { IsSoundMaster master.old }
     ensures unchanged { master.new ≡ master.old }

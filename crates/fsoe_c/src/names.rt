@@ -10,17 +10,17 @@ ghost use Rattle.slave_core.specs.Standing as of_slave;
 ghost use Rattle.master_core.specs.Standing as of_master;
 ghost use Rattle.master_core.specs.Now.{is_due};
 ghost use Rattle.fsoe_c.specs.Handle.{IsSoundSlave, IsSoundMaster};
-ghost use Rattle.fsoe_c.specs.Numbers.{flag, state_number};
-ghost use Rattle.fsoe_c.specs.Place.{Between, IfThere};
+ghost use Rattle.c_values.specs.Numbers.{flag, state_number};
+ghost use Rattle.c_values.specs.Place.{Between, IfThere};
 ghost use Rattle.fsoe_c.specs.Settings.{IsNewSlave};
 
 use crate::master::{GpMaster, gp_master_due, gp_master_reset, gp_master_tick};
 use crate::master_shown::{gp_master_held, gp_master_offer, gp_master_outputs, gp_master_state};
-use crate::numbers::OK;
-use crate::settings::GpSlaveSettings;
 use crate::slave::{GpSlave, gp_slave_init_ranges, gp_slave_reset, gp_slave_tick};
 use crate::slave_shown::{gp_slave_held, gp_slave_offer, gp_slave_outputs, gp_slave_state};
-use crate::told::{GpDid, GpFrame};
+use c_values::numbers::OK;
+use c_values::settings::GpSlaveSettings;
+use c_values::told::{GpDid, GpFrame};
 
 /// The lowest values come before the highest.
 pub fn ranges(slave: &mut GpSlave, set: &GpSlaveSettings, low: &[u8], high: &[u8]) -> u8

@@ -5,16 +5,18 @@ ghost use Rattle.param_load.specs.declared.app_rule.AppRule.TheVariants as rule;
 ghost use Rattle.param_load.specs.declared.entry.Move.TheVariants as event;
 ghost use Rattle.end_model.specs.Setup.{OfSlave, sends};
 ghost use Rattle.slave_core.specs.Standing.{Follows};
-ghost use Rattle.fsoe_c.specs.Handle.{IsSoundSlave, served};
-ghost use Rattle.fsoe_c.specs.Place.{Between, IfThere, answered};
-ghost use Rattle.fsoe_c.specs.Settings.{IsNewSlave, slave_refusal};
+ghost use Rattle.fsoe_c.specs.Handle.{IsSoundSlave};
+ghost use Rattle.c_values.specs.Place.{Between, IfThere, answered, served};
+ghost use Rattle.c_values.specs.Settings.{slave_refusal};
+ghost use Rattle.fsoe_c.specs.Settings.{IsNewSlave};
 ghost use Rattle.fsoe_c.specs.Told.{SlaveTells};
 
-use crate::numbers::{BAD_APP, BAD_LENGTH, BAD_NONCE, BUSY, NO_END, OK, lent};
-use crate::settings::{GpSlaveSettings, app_of, slave_settings};
+use crate::lent::lent;
 use crate::slave_place::SlavePlace;
 use crate::slave_room::SlaveRoom;
-use crate::told::{GpDid, GpFrame};
+use c_values::numbers::{BAD_APP, BAD_LENGTH, BAD_NONCE, BUSY, NO_END, OK};
+use c_values::settings::{GpSlaveSettings, app_of, slave_settings};
+use c_values::told::{GpDid, GpFrame};
 use param_load::AppRule;
 use std::mem::{align_of, size_of};
 
@@ -143,7 +145,7 @@ pub extern "C" fn gp_slave_end(slave: &mut GpSlave) -> u8
 /// Delivers a frame of the master, of any number of bytes. Writes the result to `did`, and the frame to send to `out`,
 /// empty if none is sent.
 #[unsafe(no_mangle)]
-#[tactic(auto, using(crate::proofs::Places::vacuous, crate::proofs::Places::tells))]
+#[tactic(auto, using(c_values::proofs::Places::vacuous, crate::proofs::Places::tells))]
 pub extern "C" fn gp_slave_deliver(
     slave: &mut GpSlave,
     frame: &[u8],
@@ -168,7 +170,7 @@ pub extern "C" fn gp_slave_deliver(
 
 /// Counts a tick. Writes the result to `did`, and the frame to send to `out`, empty if none is sent.
 #[unsafe(no_mangle)]
-#[tactic(auto, using(crate::proofs::Places::vacuous, crate::proofs::Places::tells))]
+#[tactic(auto, using(c_values::proofs::Places::vacuous, crate::proofs::Places::tells))]
 pub extern "C" fn gp_slave_tick(slave: &mut GpSlave, out: &mut GpFrame, did: &mut GpDid) -> u8
     requires { IsSoundSlave slave.old }
     ensures sound { IsSoundSlave slave.new }
@@ -187,7 +189,7 @@ pub extern "C" fn gp_slave_tick(slave: &mut GpSlave, out: &mut GpFrame, did: &mu
 
 /// Ends the session, if there is one. Writes the result to `did`, and the Reset frame to send to `out`.
 #[unsafe(no_mangle)]
-#[tactic(auto, using(crate::proofs::Places::vacuous, crate::proofs::Places::tells))]
+#[tactic(auto, using(c_values::proofs::Places::vacuous, crate::proofs::Places::tells))]
 pub extern "C" fn gp_slave_reset(slave: &mut GpSlave, out: &mut GpFrame, did: &mut GpDid) -> u8
     requires { IsSoundSlave slave.old }
     ensures sound { IsSoundSlave slave.new }
@@ -206,7 +208,7 @@ pub extern "C" fn gp_slave_reset(slave: &mut GpSlave, out: &mut GpFrame, did: &m
 
 /// Sets the safe data to send from now on, as many bytes as the slave's frames carry. The offer outlasts resets.
 #[unsafe(no_mangle)]
-#[tactic(auto, using(crate::proofs::Places::vacuous, crate::proofs::Places::unserved, crate::proofs::Places::passes, crate::proofs::Places::fails))]
+#[tactic(auto, using(c_values::proofs::Places::vacuous, c_values::proofs::Places::unserved, c_values::proofs::Places::passes, c_values::proofs::Places::fails))]
 pub extern "C" fn gp_slave_put(slave: &mut GpSlave, load: &[u8]) -> u8
     requires { IsSoundSlave slave.old }
     ensures sound { IsSoundSlave slave.new }
@@ -225,7 +227,7 @@ pub extern "C" fn gp_slave_put(slave: &mut GpSlave, load: &[u8]) -> u8
 
 /// Switches fail-safe data on or off: while on, zeros are sent in place of the offer. It outlasts resets.
 #[unsafe(no_mangle)]
-#[tactic(auto, using(crate::proofs::Places::vacuous))]
+#[tactic(auto, using(c_values::proofs::Places::vacuous))]
 pub extern "C" fn gp_slave_hold(slave: &mut GpSlave, failsafe: bool) -> u8
     requires { IsSoundSlave slave.old }
     ensures sound { IsSoundSlave slave.new }
@@ -242,7 +244,7 @@ pub extern "C" fn gp_slave_hold(slave: &mut GpSlave, failsafe: bool) -> u8
 /// Sets the id of all sessions whose first Session frame is sent after this call, at most 65,535 in profile One. It
 /// outlasts resets: give a fresh one before each session.
 #[unsafe(no_mangle)]
-#[tactic(auto, using(crate::proofs::Places::vacuous, crate::proofs::Places::unserved, crate::proofs::Places::passes, crate::proofs::Places::fails))]
+#[tactic(auto, using(c_values::proofs::Places::vacuous, c_values::proofs::Places::unserved, c_values::proofs::Places::passes, c_values::proofs::Places::fails))]
 pub extern "C" fn gp_slave_nonce(slave: &mut GpSlave, id: u32) -> u8
     requires { IsSoundSlave slave.old }
     ensures sound { IsSoundSlave slave.new }

@@ -16,7 +16,7 @@ pub struct SlavePlace {
 }
 
 impl Model for SlavePlace {
-    ghost use Rattle.fsoe_c.specs.Place.{place_owns};
+    ghost use Rattle.c_values.specs.Place.{place_owns};
     ghost use Rattle.fsoe_c.specs.contracts.slave_room.SlaveRoom.{the_row};
 
     ghost also_owns = { λ place. place_owns the_row place.at place.slave };

@@ -4,18 +4,19 @@ ghost use Rattle.end_model.specs.Setup.{OfSlave, sends, receives};
 ghost use Rattle.end_model.specs.Readiness as model;
 ghost use Rattle.end_model.specs.Outputs as looking_back;
 ghost use Rattle.slave_core.specs.Standing.{Shows};
-ghost use Rattle.fsoe_c.specs.Handle.{IsSoundSlave, served};
-ghost use Rattle.fsoe_c.specs.Numbers.{flag, state_number};
-ghost use Rattle.fsoe_c.specs.Place.{IfThere, answered};
+ghost use Rattle.fsoe_c.specs.Handle.{IsSoundSlave};
+ghost use Rattle.c_values.specs.Numbers.{flag, state_number};
+ghost use Rattle.c_values.specs.Place.{IfThere, answered, served};
 ghost use Rattle.fsoe_c.specs.Told.{SlaveShowsTerms};
 
-use crate::numbers::{BAD_LENGTH, NO_END, NOT_IN_DATA, OK, flag, lent, state_number};
+use crate::lent::lent;
 use crate::slave::GpSlave;
-use crate::told::{GpTerms, copied, tells};
+use c_values::numbers::{BAD_LENGTH, NO_END, NOT_IN_DATA, OK, flag, state_number};
+use c_values::told::{GpTerms, copied, tells};
 
 /// Writes the number of the state, from 0 for Reset to 4 for Data.
 #[unsafe(no_mangle)]
-#[tactic(auto, using(crate::proofs::Places::vacuous))]
+#[tactic(auto, using(c_values::proofs::Places::vacuous))]
 pub extern "C" fn gp_slave_state(slave: &mut GpSlave, state: &mut u8) -> u8
     requires { IsSoundSlave slave.old }
     ensures unchanged { slave.new ≡ slave.old }
@@ -30,7 +31,7 @@ pub extern "C" fn gp_slave_state(slave: &mut GpSlave, state: &mut u8) -> u8
 
 /// Copies the outputs, as many bytes as the master's frames carry.
 #[unsafe(no_mangle)]
-#[tactic(auto, using(crate::proofs::Places::vacuous, crate::proofs::Places::unserved, crate::proofs::Places::passes, crate::proofs::Places::fails))]
+#[tactic(auto, using(c_values::proofs::Places::vacuous, c_values::proofs::Places::unserved, c_values::proofs::Places::passes, c_values::proofs::Places::fails))]
 pub extern "C" fn gp_slave_outputs(slave: &mut GpSlave, outputs: &mut [u8]) -> u8
     requires { IsSoundSlave slave.old }
     ensures unchanged { slave.new ≡ slave.old }
@@ -47,7 +48,7 @@ pub extern "C" fn gp_slave_outputs(slave: &mut GpSlave, outputs: &mut [u8]) -> u
 
 /// Copies the safe data that were put last, zeros at first, as many bytes as the slave's frames carry.
 #[unsafe(no_mangle)]
-#[tactic(auto, using(crate::proofs::Places::vacuous, crate::proofs::Places::unserved, crate::proofs::Places::passes, crate::proofs::Places::fails))]
+#[tactic(auto, using(c_values::proofs::Places::vacuous, c_values::proofs::Places::unserved, c_values::proofs::Places::passes, c_values::proofs::Places::fails))]
 pub extern "C" fn gp_slave_offer(slave: &mut GpSlave, offer: &mut [u8]) -> u8
     requires { IsSoundSlave slave.old }
     ensures unchanged { slave.new ≡ slave.old }
@@ -64,7 +65,7 @@ pub extern "C" fn gp_slave_offer(slave: &mut GpSlave, offer: &mut [u8]) -> u8
 
 /// Writes the terms of the session, only in state Data.
 #[unsafe(no_mangle)]
-#[tactic(auto, using(crate::proofs::Places::vacuous))]
+#[tactic(auto, using(c_values::proofs::Places::vacuous))]
 pub extern "C" fn gp_slave_terms(slave: &mut GpSlave, terms: &mut GpTerms) -> u8
     requires { IsSoundSlave slave.old }
     ensures unchanged { slave.new ≡ slave.old }
@@ -84,7 +85,7 @@ pub extern "C" fn gp_slave_terms(slave: &mut GpSlave, terms: &mut GpTerms) -> u8
 
 /// Writes the ticks since the last frame was sent, 0 in state Reset.
 #[unsafe(no_mangle)]
-#[tactic(auto, using(crate::proofs::Places::vacuous))]
+#[tactic(auto, using(c_values::proofs::Places::vacuous))]
 pub extern "C" fn gp_slave_age(slave: &mut GpSlave, age: &mut u16) -> u8
     requires { IsSoundSlave slave.old }
     ensures unchanged { slave.new ≡ slave.old }
@@ -99,7 +100,7 @@ pub extern "C" fn gp_slave_age(slave: &mut GpSlave, age: &mut u16) -> u8
 
 /// Writes 1 if zeros are sent in place of the offer, else 0.
 #[unsafe(no_mangle)]
-#[tactic(auto, using(crate::proofs::Places::vacuous))]
+#[tactic(auto, using(c_values::proofs::Places::vacuous))]
 pub extern "C" fn gp_slave_held(slave: &mut GpSlave, held: &mut u8) -> u8
     requires { IsSoundSlave slave.old }
     ensures unchanged { slave.new ≡ slave.old }

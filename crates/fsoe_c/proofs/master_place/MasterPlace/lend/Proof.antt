@@ -1,7 +1,7 @@
 -- `lend` lends the slave, and the place follows it.
-use Rattle.fsoe_c.proofs.Steps.{◌≡◌, ℕ, List, [], ◌∷◌, refl, sym, ap, ◌∙◌, Option, Some, IsSome, proved, full_share, ent, sep, id⊢, Fml, GName, ftrue, fsep, flft, named, Val, vptr, fact, tables, Logic, sem, ‵, raw, ◌⊛◌, some, later, at_ret, ◌$◌, ◌∵◌, !, qed, done, move, keep, use1, split, join, pick, await, split3, fsplit, fsplit3, fjoin, fpack, rewrite, suffices, frame, group, enter, of_opd, addr, load, stop, fld, first, blocks, exec, returns, alloc_all, pass_all, free_all, look_at, get, through, sets, sets_last, env, whole, sub, look_in, no, follows, Part, lends_Part, shows, cell_at, mem, part_at, part_of, Ptr, block_ptr, lies_at, in_a_block, MutRef, mut_vals, mut_Tells, plain, mut_ref_to, nothing, opens, peeks, heard, shape, Struct, Stays, walk_of, stay_dropped, Goes-spent_ref, ends_at, says, after, found, Ura}
+use Rattle.c_values.proofs.Steps.{◌≡◌, ℕ, List, [], ◌∷◌, refl, sym, ap, ◌∙◌, Option, Some, IsSome, proved, full_share, ent, sep, id⊢, Fml, GName, ftrue, fsep, flft, named, Val, vptr, fact, tables, Logic, sem, ‵, raw, ◌⊛◌, some, later, at_ret, ◌$◌, ◌∵◌, !, qed, done, move, keep, use1, split, join, pick, await, split3, fsplit, fsplit3, fjoin, fpack, rewrite, suffices, frame, group, enter, of_opd, addr, load, stop, fld, first, blocks, exec, returns, alloc_all, pass_all, free_all, look_at, get, through, sets, sets_last, env, whole, sub, look_in, no, follows, Part, lends_Part, shows, cell_at, mem, part_at, part_of, Ptr, block_ptr, lies_at, in_a_block, MutRef, mut_vals, mut_Tells, plain, mut_ref_to, nothing, opens, peeks, heard, shape, Struct, Stays, walk_of, stay_dropped, Goes-spent_ref, ends_at, says, after, found, Ura}
 use Rattle.fsoe_c.specs.contracts.master_room.MasterRoom.{the_row as F}
-use Rattle.fsoe_c.specs.Place.{place_owns}
+use Rattle.c_values.specs.Place.{place_owns}
 use Rattle.fsoe_c.specs.declared.master_place.MasterPlace.{MasterPlace}
 use Rattle.fsoe_c.specs.contracts.master_place.MasterPlace.lend as f
 use Rattle.fsoe_c.proofs.master_place.MasterPlace.lend.Statement.{statement}

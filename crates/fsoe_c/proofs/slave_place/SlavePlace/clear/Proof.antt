@@ -1,7 +1,7 @@
 -- `clear` makes the value's memory room.
-use Rattle.fsoe_c.proofs.Steps.{[], ◌∷◌, refl, sym, Option, None, IsSome, proved, full_share, id⊢, ftrue, fat, flft, froom, Ty, named, Val, vunit, fact, tables, ‵, raw, ◌⊛◌, some, ◌$◌, ◌∵◌, !, qed, done, drop, move, keep, use1, split, join, pick, fsplit, fsplit3, fjoin, feq_i, rewrite, suffices, frame, group, enter, of_opd, unit_lit, returns, alloc_all, pass_all, free_all, look_at, sets, part_out, lone, Ptr, lies_at, room_at, in_a_block, MutRef, mut_vals, mut_Tells, plain, nothing, opens, closes, heard, Stays, walk_of, stay_ref, Goes-ref, ends_at, says, found}
+use Rattle.c_values.proofs.Steps.{[], ◌∷◌, refl, sym, Option, None, IsSome, proved, full_share, id⊢, ftrue, fat, flft, froom, Ty, named, Val, vunit, fact, tables, ‵, raw, ◌⊛◌, some, ◌$◌, ◌∵◌, !, qed, done, drop, move, keep, use1, split, join, pick, fsplit, fsplit3, fjoin, feq_i, rewrite, suffices, frame, group, enter, of_opd, unit_lit, returns, alloc_all, pass_all, free_all, look_at, sets, part_out, lone, Ptr, lies_at, room_at, in_a_block, MutRef, mut_vals, mut_Tells, plain, nothing, opens, closes, heard, Stays, walk_of, stay_ref, Goes-ref, ends_at, says, found}
 use Rattle.fsoe_c.specs.contracts.slave_room.SlaveRoom.{the_row as F}
-use Rattle.fsoe_c.specs.Place.{place_owns}
+use Rattle.c_values.specs.Place.{place_owns}
 use Rattle.fsoe_c.specs.contracts.slave_place.SlavePlace.clear as f
 use Rattle.fsoe_c.proofs.slave_place.SlavePlace.clear.Statement.{statement}
 use Rattle.fsoe_c.proofs.slave_place.SlavePlace.clear.Code as code

@@ -1,8 +1,8 @@
 -- `put` moves a value into its place.
-use Rattle.fsoe_c.proofs.Steps.{◌≡◌, List, [], ◌∷◌, ◌++◌, refl, sym, ap, ◌∙◌, subst, Option, Some, None, proved_at, Al, handle_tells, full_share, SProp, ent, id⊢, ftrue, flft, named, impl, tnil, dnil, Val, vunit, fact, tables, WpFn, ‵, raw, ◌⊛◌, at_ret, ◌$◌, ◌∵◌, !, qed, done, move, keep, use2, split, split3, join, fsplit, fsplit3, fjoin, feq_i, rewrite, suffices, frame, group, enter, of_opd, unit_lit, load, init, stop, fld, assigns_last, first, blocks, exec, returns, alloc_all, pass_all, free_all, look_at, get, through, sets, env, whole, sub, look_in, part_in, yes, shows, cell_at, part_at, Ptr, lies_at, room_at, in_a_block, MutRef, mut_vals, mut_Tells, plain, nothing, opens, closes, peeks, heard, Stays, walk_of, stay_ref, stay_dropped, Goes-ref, Goes-dropped, ends_at, says, after}
+use Rattle.c_values.proofs.Steps.{◌≡◌, List, [], ◌∷◌, ◌++◌, refl, sym, ap, ◌∙◌, subst, Option, Some, None, proved_at, Al, handle_tells, full_share, SProp, ent, id⊢, ftrue, flft, named, impl, tnil, dnil, Val, vunit, fact, tables, WpFn, ‵, raw, ◌⊛◌, at_ret, ◌$◌, ◌∵◌, !, qed, done, move, keep, use2, split, split3, join, fsplit, fsplit3, fjoin, feq_i, rewrite, suffices, frame, group, enter, of_opd, unit_lit, load, init, stop, fld, assigns_last, first, blocks, exec, returns, alloc_all, pass_all, free_all, look_at, get, through, sets, env, whole, sub, look_in, part_in, yes, shows, cell_at, part_at, Ptr, lies_at, room_at, in_a_block, MutRef, mut_vals, mut_Tells, plain, nothing, opens, closes, peeks, heard, Stays, walk_of, stay_ref, stay_dropped, Goes-ref, Goes-dropped, ends_at, says, after}
 use Rattle.fsoe_c.specs.contracts.slave_room.SlaveRoom.{the_row as F}
 use Rattle.fsoe_c.proofs.slave_room.SlaveRoom.TheLaws.{the_row_laws as F-laws}
-use Rattle.fsoe_c.specs.Place.{place_owns}
+use Rattle.c_values.specs.Place.{place_owns}
 use Rattle.fsoe_c.specs.contracts.slave_place.SlavePlace.put as f
 use Rattle.fsoe_c.proofs.slave_place.SlavePlace.put.Statement.{statement}
 use Rattle.fsoe_c.proofs.slave_place.SlavePlace.put.Code as code

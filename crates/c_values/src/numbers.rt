@@ -1,19 +1,10 @@
-//! The version, the statuses that C code gets, and how a call comes by its end. `embed/gatepast.h` has the numbers as
-//! `GP_VERSION`, `GP_OK` and so on.
+//! The numbers that C code gets. `embed/gatepast.h` has them as `GP_OK` and so on.
 ghost use Rattle.std.specs.Prelude.{◌≡◌};
 ghost use Rattle.param_load.specs.declared.bad_setting.BadSetting.TheVariants as bad;
-ghost use Rattle.fsoe_c.specs.Numbers.{state_number, flag, version};
+ghost use Rattle.c_values.specs.Numbers.{state_number, flag};
 
 use fsoe_base::State;
 use param_load::BadSetting;
-
-/// The version of the library, by which a program sees that header and archive belong together.
-#[unsafe(no_mangle)]
-pub extern "C" fn gp_version() -> u32
-    ensures { result ≡ version }
-{
-    1
-}
 
 /// The call was done.
 pub const OK: u8 = 0;
@@ -58,7 +49,7 @@ pub const NONE_DUE: u8 = 12;
 pub const NOT_IN_DATA: u8 = 13;
 
 /// The number of why settings are refused.
-pub(crate) fn bad_number(why: BadSetting) -> u8
+pub fn bad_number(why: BadSetting) -> u8
     ensures conn { why ≡ bad.Conn → result ≡ BAD_CONN }
     ensures watchdog { why ≡ bad.Watchdog → result ≡ BAD_WATCHDOG }
     ensures hand { why ≡ bad.Hand → result ≡ BAD_HAND }
@@ -75,7 +66,7 @@ pub(crate) fn bad_number(why: BadSetting) -> u8
 }
 
 /// The number of a state.
-pub(crate) fn state_number(state: State) -> u8
+pub fn state_number(state: State) -> u8
     ensures { result ≡ state_number state }
 {
     match state {
@@ -88,20 +79,8 @@ pub(crate) fn state_number(state: State) -> u8
 }
 
 /// 1 for yes, 0 for no.
-pub(crate) fn flag(yes: bool) -> u8
+pub fn flag(yes: bool) -> u8
     ensures { result ≡ flag yes }
 {
     u8::from(yes)
 }
-
-/// The end behind this handle, lent for a call, which returns `NO_END` where there is none.
-macro_rules! lent {
-    ($handle:expr) => {{
-        if !$handle.live {
-            return NO_END;
-        }
-        $handle.place.lend()
-    }};
-}
-
-pub(crate) use lent;

@@ -1,6 +1,6 @@
 //! What C code gets: frames, what a step did, and the terms of a session.
 ghost use Rattle.std.specs.Prelude.{◌≡◌, ◌==◌, ◌≤◌, IsTrue, IsSomeAnd, None, false, drop, length, option_copied};
-ghost use Rattle.fsoe_c.specs.Told.{frame_of, ShowsDid, ShowsTerms};
+ghost use Rattle.c_values.specs.Told.{frame_of, ShowsDid, ShowsTerms};
 
 use crate::numbers::flag;
 use fsoe_base::{Cause, Did, Dropped, FrameBuf, Took};
@@ -56,7 +56,7 @@ pub struct GpTerms {
 
 impl GpFrame {
     /// Has these bytes from now on. Those behind them stay.
-    pub(crate) fn set(&mut self, frame: &FrameBuf)
+    pub fn set(&mut self, frame: &FrameBuf)
         ensures bytes { frame_of self.new ≡ frame.now }
         ensures len { self.new.len ≤ 255 }
         ensures past { drop self.new.len self.new.bytes ≡ drop self.new.len self.old.bytes }
@@ -71,8 +71,8 @@ impl GpFrame {
 
 impl GpDid {
     ghost use Rattle.std.specs.Prelude.{take};
-    ghost use Rattle.fsoe_c.specs.Numbers.{took_number, reset_number, code_number};
-    ghost use Rattle.fsoe_c.specs.Told.{took_load};
+    ghost use Rattle.c_values.specs.Numbers.{took_number, reset_number, code_number};
+    ghost use Rattle.c_values.specs.Told.{took_load};
 
     /// Says this of the frame that was taken. The bytes behind its data stay.
     fn set_took(&mut self, took: &Option<Took>)
@@ -96,7 +96,7 @@ impl GpDid {
     }
 
     /// Says what this step did. The bytes behind the data of a frame stay.
-    pub(crate) fn set(&mut self, did: &Did)
+    pub fn set(&mut self, did: &Did)
         ensures did { ShowsDid self.new did.now }
         ensures past { drop self.new.load_len self.new.load ≡ drop self.new.load_len self.old.load }
     {
@@ -120,7 +120,7 @@ impl GpDid {
 
 impl GpTerms {
     /// Says what these terms are. The bytes behind the application parameters stay.
-    pub(crate) fn set(&mut self, terms: &Terms)
+    pub fn set(&mut self, terms: &Terms)
         ensures terms { ShowsTerms self.new terms.now }
         ensures past { drop self.new.app_len self.new.app ≡ drop self.new.app_len self.old.app }
     {
@@ -138,7 +138,7 @@ impl GpTerms {
 }
 
 /// Copies these bytes to `to` if that has their number of bytes. Returns whether it has.
-pub(crate) fn copied(bytes: &[u8], to: &mut [u8]) -> bool
+pub fn copied(bytes: &[u8], to: &mut [u8]) -> bool
     ensures copied { IsTrue result → to.new ≡ bytes.now }
     ensures fits { result ≡ (length to.old == length bytes.now) }
     ensures refused { result ≡ false → to.new ≡ to.old }
@@ -151,7 +151,7 @@ pub(crate) fn copied(bytes: &[u8], to: &mut [u8]) -> bool
 }
 
 /// Writes the terms, if there are some. Returns whether there are.
-pub(crate) fn tells(terms: Option<&Terms>, told: &mut GpTerms) -> bool
+pub fn tells(terms: Option<&Terms>, told: &mut GpTerms) -> bool
     ensures some { IsTrue result → IsSomeAnd (option_copied terms.entry) (ShowsTerms told.new) }
     ensures none { result ≡ false → option_copied terms.entry ≡ None }
     ensures past { drop told.new.app_len told.new.app ≡ drop told.new.app_len told.old.app }

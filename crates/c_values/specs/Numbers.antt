@@ -11,10 +11,6 @@ use Rattle.fsoe_base.specs.declared.did.Took.{Took}
 use Rattle.param_load.specs.declared.profile.Profile.{Profile}
 use Rattle.param_load.specs.declared.profile.Profile.TheVariants as profile
 
--- the version of header and archive: one more with each change of a call, a number, a size or a struct of the header
-abbrev pub version : ℕ
-version = 1
-
 -- 1 for yes, 0 for no
 abbrev pub flag : Bool → ℕ
 flag true = 1

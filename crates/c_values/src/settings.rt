@@ -1,7 +1,7 @@
 //! The settings that C code gives to an end.
 ghost use Rattle.std.specs.Prelude.{◌≡◌, ◌≤◌, ◌<◌, ◌==◌, ◌&&◌, Some, None, is_some, length, IfOk, IfErr, IfSome};
 ghost use Rattle.fsoe_base.specs.Lengths.{is_length};
-ghost use Rattle.fsoe_c.specs.Settings.{HasLengths, IsMasterSetBy, IsSlaveSetBy, master_refusal, slave_refusal};
+ghost use Rattle.c_values.specs.Settings.{HasLengths, IsMasterSetBy, IsSlaveSetBy, master_refusal, slave_refusal};
 
 use crate::numbers::{BAD_LENGTH, BAD_NONCE, BAD_PROFILE, bad_number};
 use fsoe_base::Lengths;
@@ -55,7 +55,7 @@ pub struct GpMasterSettings {
 const MOST_APPLICATION: usize = 512;
 
 /// These application parameters, unless they are more than 512 bytes.
-pub(crate) fn app_of(bytes: &[u8]) -> Option<AppBytes>
+pub fn app_of(bytes: &[u8]) -> Option<AppBytes>
     ensures some { length bytes.now ≤ MOST_APPLICATION → result ≡ Some bytes.now }
     ensures bytes { IfSome result (λ app. app ≡ bytes.now) }
     ensures none { MOST_APPLICATION < length bytes.now → result ≡ None }
@@ -77,7 +77,7 @@ fn lengths_of(master_len: u16, slave_len: u16) -> Option<Lengths>
 }
 
 /// The settings of a slave, or the number of their first fault.
-pub(crate) fn slave_settings(set: &GpSlaveSettings, rule: AppRule) -> Result<SlaveSettings, u8>
+pub fn slave_settings(set: &GpSlaveSettings, rule: AppRule) -> Result<SlaveSettings, u8>
     ensures settings { IfOk result (IsSlaveSetBy set.now rule) }
     ensures good { IfOk result (λ _. slave_refusal set.now rule ≡ 0) }
     ensures refused { IfErr result (λ number. slave_refusal set.now rule ≡ number) }
@@ -106,7 +106,7 @@ pub(crate) fn slave_settings(set: &GpSlaveSettings, rule: AppRule) -> Result<Sla
 }
 
 /// The settings of a master, or the number of their first fault.
-pub(crate) fn master_settings(set: &GpMasterSettings, app: AppBytes) -> Result<MasterSettings, u8>
+pub fn master_settings(set: &GpMasterSettings, app: AppBytes) -> Result<MasterSettings, u8>
     ensures settings { IfOk result (IsMasterSetBy set.now app) }
     ensures good { IfOk result (λ _. master_refusal set.now ≡ 0) }
     ensures refused { IfErr result (λ number. master_refusal set.now ≡ number) }

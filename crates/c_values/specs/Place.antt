@@ -3,8 +3,8 @@ use base.Fraction.{full_share}
 use base.Fml.{Fml}
 use denote.RattleType.{RattleType}
 use denote.RawPtr.{Ptr, lies_at, room_at}
-use Rattle.std.specs.Prelude.{◌≡◌, ℕ, Bool, Option, Some, None, if◌then◌else◌}
-use Rattle.fsoe_c.specs.declared.numbers.TheConstants.{NO_END, OK}
+use Rattle.std.specs.Prelude.{◌≡◌, ℕ, Bool, true, false, Option, Some, None, if◌then◌else◌}
+use Rattle.c_values.specs.declared.numbers.TheConstants.{NO_END, OK}
 
 -- the value at p, or room for one
 abbrev pub place_owns : (R : RattleType) → Ptr → Option R.Denot → Fml
@@ -23,3 +23,8 @@ Between old new P = IfThere old (λ v. IfThere new (P v))
 unfoldable pub answered : {V : Type 0} → Option V → (V → Bool) → ℕ → ℕ
 answered None test why = NO_END
 answered (Some end) test why = if test end then OK else why
+
+-- the answer of a call that wants no more than that an end is there
+abbrev pub served : Bool → ℕ
+served true = OK
+served false = NO_END
