@@ -11,12 +11,12 @@ pub use Rattle.fb_net.specs.Fault.{block_fault, blocks_fault, drives_fault, firs
 pub use Rattle.fb_net.specs.Guarded.{guarded_blocks, guarded_from, is_output_guarded, is_wire_guarded}
 pub use Rattle.fb_net.specs.Meaning.{net_holds, rule_of}
 pub use Rattle.fb_net.specs.Mirror.{mirror_images, mirrored}
-pub use Rattle.fb_net.specs.NetView.{NetView, net_block, plan}
+pub use Rattle.fb_net.specs.NetView.{NetView, net_block, new_net, plan}
 pub use Rattle.fb_net.specs.Outputs.{bits_on, driven_images, images_with, net_outputs, with_on, zero_images}
 pub use Rattle.fb_net.specs.Ready.{AllReady, IsReady}
 pub use Rattle.fb_net.specs.Standing.{BlocksStand, CanRun, IsNewNet, KeepsPlan, NetStands}
-pub use Rattle.fb_net.specs.Steps.{all_restored, cycle_of, given, holds_of, kept_numbers, run_blocks, run_values, block_after}
-pub use Rattle.fb_net.specs.Values.{NetBlock, NetCycle, block_cycles, block_values, values_from, wire_value, with_block}
+pub use Rattle.fb_net.specs.Steps.{all_restored, cycle_of, flag, given, held_values, holds_of, kept_numbers, run_blocks, run_values, block_after}
+pub use Rattle.fb_net.specs.Values.{NetBlock, NetCycle, block_cycles, block_values, shown_values, values_from, wire_value, with_block}
 pub use Rattle.fb_net.specs.declared.spec.BlockSpec.{BlockSpec}
 pub use Rattle.fb_net.specs.declared.spec.Drive.{Drive}
 pub use Rattle.fsoe_base.specs.Image.{bit_of, with_bit}

@@ -1,6 +1,7 @@
 -- A net without a fault can run.
-use Rattle.fb_net.proofs.Common.{All, AllReady, BlockSpec, BlocksStand, Drive, IsNewNet, NetCycle, block_fault, blocks_fault, drives_fault, first_fault, net_block, plan, takes_inputs, with_block}
-use Rattle.std.proofs.Common.{◌≡◌, ℕ, ◌+◌, IsTrue, Bool, List, [], ◌∷◌, length, Option, Some, None, if◌then◌else◌, arith}
+use Rattle.fb_net.proofs.Common.{All, AllReady, BlockSpec, BlocksStand, Drive, IsNewNet, NetCycle, block_fault, blocks_fault, drives_fault, first_fault, net_block, new_net, plan, takes_inputs, with_block}
+use Rattle.std.proofs.Common.{◌≡◌, ℕ, ◌+◌, IsTrue, Bool, List, [], ◌∷◌, length, replicate, false, Option, Some, None, if◌then◌else◌, sym, ap, arith}
+use Rattle.std.proofs.lemmas.List.{length-map}
 use Rattle.std.specs.Option.{option_or}
 use Rattle.std.proofs.lemmas.List.Elements.{All-head, All-tail}
 use Rattle.fb_net.specs.declared.fault.NetFault.{NetFault}
@@ -25,8 +26,8 @@ stand-new before [] new = tt
 stand-new before (b ∷ bs) new = ((All-head IsNew b bs new).stands, stand-new (with_block before (net_block b)) bs (All-tail IsNew b bs new))
 
 pub is_new : (ins outs : List ℕ) (bs : List BlockSpec) (ds : List Drive) → All IsNew bs → first_fault ins outs bs ds ≡ None
-    → IsNewNet (record { blocks = bs; drives = ds })
+    → IsNewNet (new_net bs ds)
 is_new ins outs bs ds new h = record {
   ready = ready-by ins 0 bs new ((both-none (blocks_fault ins 0 bs) (drives_fault ins outs (length bs) [] ds) h).0);
-  stands = record { blocks = stand-new (λ _. []) bs new };
+  stands = record { blocks = stand-new (λ _. []) bs new; values_are = ap (λ n. replicate n false) (sym (length-map bs net_block)) };
 }

@@ -1,6 +1,8 @@
 -- The values of the blocks that are stepped in order are what looking back over the net's cycles says.
-use Rattle.fb_net.proofs.Common.{AllReady, BlockSpec, BlockStands, BlocksStand, CanRun, Cycle, IsReady, NetCycle, block_cycles, cycle_of, follows_by, given, gives_by, net_block, next_block, next_held, plan, run_blocks, run_values, block_gives, values_from, with_block}
-use Rattle.std.proofs.Common.{◌≡◌, Bool, List, [], ◌∷◌, ◌++◌, refl, sym, ap, subst, ◌∙◌}
+use Rattle.fb_net.proofs.Common.{AllReady, BlockSpec, BlockStands, BlocksStand, CanRun, Cycle, IsReady, NetBlock, NetCycle, block_cycles, cycle_of, follows_by, given, gives_by, net_block, next_block, next_held, plan, run_blocks, run_values, block_gives, shown_values, values_from, with_block}
+use Rattle.std.proofs.Common.{◌≡◌, ◌+◌, Bool, false, List, [], ◌∷◌, ◌++◌, arith, length, length-append, refl, sym, ap, subst, ◌∙◌}
+use Rattle.std.proofs.lemmas.List.{length-replicate}
+use Rattle.fb_lib.specs.Value.{value}
 use Rattle.fb_net.proofs.Holding.{plan_stays}
 
 -- what a block gives in the net is its value
@@ -28,6 +30,15 @@ blocks_stand before (b ∷ bs) c e r s =
       (follows_by b.block (next_block b.block d) d r.0.fits refl).stands b.block.kind b.block.n (block_cycles before b.ins e) s.0,
       subst P (sym (more-is before b c e r.0 s.0)) (blocks_stand (with_block before (net_block b)) bs c e r.1 s.1),
     )
+
+-- each block has a value
+values-long : (before : List NetCycle → List Bool) (ps : List NetBlock) (e : List NetCycle) → length (values_from before ps e) ≡ length (before e) + length ps
+values-long before [] e = omega arith
+values-long before (p ∷ ps) e = omega (arith, values-long (with_block before p) ps e, length-append (before e) (value p.kind p.n (block_cycles before p.ins e) ∷ []))
+
+pub shown_long : (ps : List NetBlock) (e : List NetCycle) → length (shown_values ps e) ≡ length ps
+shown_long ps [] = length-replicate (length ps) false
+shown_long ps (c ∷ e) = omega (arith, values-long (λ _. []) ps (c ∷ e))
 
 -- so blocks that can be stepped can be stepped again
 pub can_run : (old new : List BlockSpec) (c : NetCycle) → CanRun old → new ≡ run_blocks [] c old → CanRun new

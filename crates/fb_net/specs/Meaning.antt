@@ -8,7 +8,7 @@ use Rattle.fb_net.specs.Steps.{holds_of, net_rule}
 
 -- what a net holds
 abbrev pub net_holds : NetView → List ℕ
-net_holds v = holds_of v.blocks
+net_holds v = holds_of v.blocks v.values
 
 -- how it answers, whatever it holds
 abbrev pub rule_of : NetView → List ℕ → Bool → List (List ℕ) → List ℕ → Answer

@@ -1,6 +1,6 @@
 -- How a net goes on by one cycle, with what its blocks keep. A machine's own words: what they come to is said by
 -- looking back.
-use Rattle.std.specs.Prelude.{ℕ, ◌==◌, Bool, List, [], ◌∷◌, ◌++◌, map, drop, replicate, get_or, if◌then◌else◌}
+use Rattle.std.specs.Prelude.{ℕ, ◌==◌, Bool, false, List, [], ◌∷◌, ◌++◌, map, drop, replicate, get_or, if◌then◌else◌}
 use Rattle.fb_lib.specs.declared.held.Held.{Held}
 use Rattle.fb_lib.specs.declared.held.Held.TheVariants as held
 use Rattle.fb_lib.specs.declared.kind.BlockKind.{BlockKind}
@@ -53,9 +53,15 @@ kept_numbers (held.OffDelay d) = d.left ∷ 0 ∷ 0 ∷ []
 kept_numbers (held.Feedback f) = f.age ∷ flag f.on ∷ flag f.bad ∷ []
 kept_numbers _ = replicate 3 0
 
-abbrev pub holds_of : List BlockSpec → List ℕ
-holds_of [] = []
-holds_of (b ∷ bs) = kept_numbers b.block.held ++ holds_of bs
+-- what a net holds as numbers: for each block what it keeps, and then its value, 1 for true and 0 for false
+abbrev pub holds_of : List BlockSpec → List Bool → List ℕ
+holds_of [] values = []
+holds_of (b ∷ bs) values = kept_numbers b.block.held ++ flag (get_or values 0 false) ∷ holds_of bs (drop 1 values)
+
+-- the values among these numbers
+abbrev pub held_values : List ℕ → List Bool
+held_values (count ∷ on ∷ last ∷ value ∷ held) = (value == 1) ∷ held_values held
+held_values _ = []
 
 -- two buttons, from a count and a number
 abbrev pub hands_from : ℕ → ℕ → TwoHand
@@ -79,11 +85,12 @@ restored p count on last = record { block = record { kind = p.kind; n = p.n; hel
 
 abbrev pub all_restored : List NetBlock → List ℕ → List BlockSpec
 all_restored [] held = []
-all_restored (p ∷ ps) held = restored p (get_or held 0 0) (get_or held 1 0) (get_or held 2 0) ∷ all_restored ps (drop 3 held)
+all_restored (p ∷ ps) held = restored p (get_or held 0 0) (get_or held 1 0) (get_or held 2 0) ∷ all_restored ps (drop 4 held)
 
 -- the answer of a net to a cycle, by what it holds
 abbrev pub net_rule : List NetBlock → List Drive → List ℕ → Bool → List (List ℕ) → List ℕ → Answer
 net_rule plan drives held ticked inputs lens =
     let c : NetCycle = record { ticked = ticked; inputs = inputs } in
     let blocks : List BlockSpec = all_restored plan held in
-    record { outputs = driven_images drives (run_values [] c blocks) inputs lens; holds = holds_of (run_blocks [] c blocks) }
+    let values : List Bool = run_values [] c blocks in
+    record { outputs = driven_images drives values inputs lens; holds = holds_of (run_blocks [] c blocks) values }

@@ -1,5 +1,5 @@
 -- The values of the blocks of a net, by looking back over its cycles, newest first.
-use Rattle.std.specs.Prelude.{ℕ, Bool, false, List, [], ◌∷◌, ◌++◌, map}
+use Rattle.std.specs.Prelude.{ℕ, Bool, false, List, [], ◌∷◌, ◌++◌, length, map, replicate}
 use Rattle.failsafe_io.specs.Bits.{at_number, bit_at}
 use Rattle.fb_lib.specs.declared.kind.BlockKind.{BlockKind}
 use Rattle.fb_lib.specs.Cycle.{Cycle}
@@ -40,3 +40,8 @@ values_from before (p ∷ ps) e = values_from (with_block before p) ps e
 -- the values of all blocks in the newest cycle, in their order
 abbrev pub block_values : List NetBlock → List NetCycle → List Bool
 block_values plan e = values_from (λ _. []) plan e
+
+-- the same, and false before the first cycle
+abbrev pub shown_values : List NetBlock → List NetCycle → List Bool
+shown_values plan [] = replicate (length plan) false
+shown_values plan (c ∷ e) = block_values plan (c ∷ e)

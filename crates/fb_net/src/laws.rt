@@ -5,7 +5,8 @@ ghost use Rattle.failsafe_io.specs.declared.bit.Bit.{Bit};
 ghost use Rattle.failsafe_io.specs.Bits.{bit_at, has_bit, is_same_bit};
 ghost use Rattle.fb_lib.specs.LookBack.{run_until_now};
 ghost use Rattle.fb_net.specs.declared.spec.Drive.{Drive};
-ghost use Rattle.fb_net.specs.Values.{NetCycle, NetBlock, wire_value, block_values};
+ghost use Rattle.fb_net.specs.Steps.{held_values};
+ghost use Rattle.fb_net.specs.Values.{NetCycle, NetBlock, wire_value, block_values, shown_values};
 ghost use Rattle.fb_net.specs.Outputs.{driven_images, net_outputs};
 ghost use Rattle.fb_net.specs.NetView.{NetView, plan};
 ghost use Rattle.fb_net.specs.Guarded.{is_output_guarded};
@@ -25,11 +26,13 @@ pub fn calls()
 {}
 
 /// The rule of a new net gives the same: from what it holds after any calls, its answer to one more is that of the
-/// definition over the cycles.
+/// definition over the cycles. What it holds then has the values of its blocks.
 pub fn rule()
-    ensures { (v : NetView) (a : Call) (e : List Call) → IsNewNet v
+    ensures outputs { (v : NetView) (a : Call) (e : List Call) → IsNewNet v
         → (rule_of v (held_after (rule_of v) (net_holds v) e) a.cycle.ticked a.cycle.inputs a.lens).outputs
         ≡ net_outputs v (a.cycle ∷ cycles_of e) a.lens }
+    ensures values { (v : NetView) (e : List Call) → IsNewNet v
+        → held_values (held_after (rule_of v) (net_holds v) e) ≡ shown_values (plan v.blocks) (cycles_of e) }
 {}
 
 /// A guarded output bit is 0 in each cycle in which its input bit is 0, whatever came before.

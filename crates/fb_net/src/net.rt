@@ -4,7 +4,7 @@ ghost use Rattle.failsafe_io.specs.Application.{GuardsBy};
 ghost use Rattle.fb_net.specs.Meaning.{net_holds, rule_of, guards_of, net_answer};
 ghost use Rattle.fb_net.specs.Standing.{NetFollows, NetGives, KeepsPlan};
 
-use crate::cycle::{drive_outputs, run_blocks};
+use crate::cycle::{drive_outputs, number_value, run_blocks};
 use crate::fault::NetFault;
 use crate::guards::is_output_guarded;
 use crate::making::first_fault;
@@ -22,25 +22,31 @@ pub struct Net {
 }
 
 impl Model for Net {
-    ghost use Rattle.std.specs.Prelude.{◌≤◌, length};
+    ghost use Rattle.std.specs.Prelude.{◌≤◌, length, take};
     ghost use Rattle.fb_net.specs.NetView.{NetView};
     ghost use Rattle.fb_net.specs.Standing.{CanRun};
 
     ghost Value = { NetView };
 
-    ghost view = { λ n. record { blocks = n.blocks.items; drives = n.drives.items } };
+    ghost view = { λ n. record {
+      blocks = n.blocks.items;
+      drives = n.drives.items;
+      values = take (length n.blocks.items) n.values;
+    } };
 
     ghost invariant = { λ n. (length n.blocks.items ≤ 256) × CanRun n.blocks.items };
 }
 
 impl Net {
-    ghost use Rattle.std.specs.Prelude.{◌≡◌, ◌≤◌, [], IfOk, map, length, vec_len};
+    ghost use Rattle.std.specs.Prelude.{◌≡◌, ◌≤◌, [], IfOk, false, map, length, vec_len};
     ghost use Rattle.std.specs.List.{All};
     ghost use Rattle.std.specs.Result.{result_err};
     ghost use Rattle.fb_net.specs.Fault.{first_fault};
+    ghost use Rattle.failsafe_io.specs.Bits.{at_number};
+    ghost use Rattle.fb_net.specs.NetView.{new_net, plan};
     ghost use Rattle.fb_net.specs.New.{IsNew};
-    ghost use Rattle.fb_net.specs.Standing.{CanRun, IsNewNet};
-    ghost use Rattle.fb_net.specs.Steps.{run_blocks, run_values};
+    ghost use Rattle.fb_net.specs.Standing.{CanRun, IsNewNet, ShowsValue};
+    ghost use Rattle.fb_net.specs.Steps.{held_values, run_blocks, run_values};
     ghost use Rattle.fb_net.specs.Outputs.{driven_images};
 
     /// Creates a net of at most 256 blocks, which have had no cycle yet, and of drives. `ins` and `outs` are the
@@ -56,7 +62,7 @@ impl Net {
         requires most { vec_len blocks ≤ 256 }
         requires new { All IsNew blocks.items }
         ensures first { result_err result ≡ first_fault ins.now outs.now blocks.items drives.items }
-        ensures made { IfOk result (λ net. net ≡ record { blocks = blocks.items; drives = drives.items }) }
+        ensures made { IfOk result (λ net. net ≡ new_net blocks.items drives.items) }
         ensures is_new { IfOk result (λ net. IsNewNet net) }
     {
         match first_fault(blocks.as_slice(), drives.as_slice(), ins, outs) {
@@ -75,6 +81,8 @@ impl Net {
         ensures blocks { self.new.blocks
             ≡ run_blocks [] (record { ticked = ticked; inputs = inputs.now }) self.old.blocks }
         ensures drives { self.new.drives ≡ self.old.drives }
+        ensures values { self.new.values
+            ≡ run_values [] (record { ticked = ticked; inputs = inputs.now }) self.old.blocks }
         ensures outputs { outputs.new
             ≡ driven_images self.old.drives
             (run_values [] (record { ticked = ticked; inputs = inputs.now }) self.old.blocks)
@@ -83,6 +91,16 @@ impl Net {
         run_blocks(self.blocks.as_mut_slice(), ticked, inputs, &mut self.values);
         let values = &self.values[..self.blocks.len()];
         drive_outputs(self.drives.as_slice(), values, inputs, outputs);
+    }
+
+    /// Returns the value of a block in the last cycle, by its number from 1. It is false before the first cycle, and
+    /// where there is no such block.
+    #[tactic(auto, using(crate::proofs::Holding::values_back))]
+    pub fn value(&self, block: u16) -> bool
+        ensures shown { ShowsValue self.now block result }
+        ensures held { result ≡ at_number (held_values (net_holds self.now)) block false }
+    {
+        number_value(&self.values[..self.blocks.len()], block)
     }
 }
 

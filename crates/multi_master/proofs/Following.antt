@@ -1,8 +1,12 @@
 -- What a call does, from what it does to the masters, the inputs and the application; first how all masters tick.
-use Rattle.multi_master.proofs.Common.{AllZip, AnswersTick, AppView, Cause, ChangeApp, Connection, Did, Follows, GuardsBy, IsRun, IsWhere, MasterView, MayBeRead, Meant, MultiView, RunsBy, RunsCycle, Tick, TicksEach, TicksOne, all_tick, app_answer, changed_from, meant, next_deed, numbers_of, offer_len, connection_outputs, own_len, setup, with_cycle, with_event, with_offers}
-use Rattle.std.proofs.Common.{◌≡◌, ℕ, List, [], ◌∷◌, map, Option, Some, None, Bool, true, false, refl, sym, ap, ap₂, subst, ◌∙◌, suc, ◌++◌}
+use Rattle.multi_master.proofs.Common.{AllZip, AnswersReset, AnswersTick, AppView, Cause, ChangeApp, Connection, Deed, Did, Follows, GuardsBy, IsRun, IsWhere, MasterView, MayBeRead, Meant, MultiView, RunsBy, RunsCycle, Reset, Tick, TicksEach, TicksOne, all_tick, app_answer, changed_from, event_on, map-set, meant, moved_at, next_deed, numbers_of, offer_at, offer_len, out, connection_outputs, own_len, same_deed, setup, with_cycle, with_event, with_offers}
+use Rattle.std.proofs.Common.{◌≡◌, ℕ, List, [], ◌∷◌, map, slice_set, Option, Some, None, Bool, true, false, refl, sym, ap, ap₂, subst, ◌∙◌, suc, ◌++◌}
 use Rattle.multi_master.proofs.Putting.{all_outputs_put, all_put, where_put}
-use Rattle.multi_master.proofs.Reading.{StandsIn, stands_so}
+use Rattle.master_core.specs.Standing as core
+use Rattle.multi_master.proofs.Neighbours.{event_keeps}
+use Rattle.multi_master.proofs.Places.{Placed, at_place, zip_set}
+use Rattle.multi_master.proofs.Reading.{StandsIn, event_set, stands_so}
+use Rattle.std.proofs.lemmas.Simd.{map-map}
 use Rattle.param_load.specs.declared.entry.Move.TheVariants as move
 use Rattle.multi_master.proofs.Quiet.{quiet_tick}
 
@@ -41,10 +45,18 @@ ticks_more [] [] [] [] [] [] m input m' now did frame t one = (one, tt)
 ticks_more (_ ∷ before) (_ ∷ inputs) (_ ∷ after) (_ ∷ read) (_ ∷ dids) (_ ∷ sent) m input m' now did frame t one = (t.0, ticks_more before inputs after read dids sent m input m' now did frame t.1 one)
 ticks_more _ _ _ _ _ _ m input m' now did frame t one = absurd t
 
--- a tick changes no offer, so the same answers are others than the offers before and after it
+-- the same answers are others than the same offers; so they are before a tick and after it, which changes no offer
+pub told_alike : (n : ℕ) (cs ds : List Connection) (loads : List (List ℕ)) → map offer_at cs ≡ map offer_at ds → changed_from n cs loads ≡ changed_from n ds loads
+told_alike n [] [] loads h = refl
+told_alike n (c ∷ cs) (d ∷ ds) [] h = refl
+told_alike n (c ∷ cs) (d ∷ ds) (load ∷ loads) h =
+    let here : offer_at c ≡ offer_at d = cc in
+    let rest : map offer_at cs ≡ map offer_at ds = cc in
+    rw (here, told_alike (suc n) cs ds loads rest) refl
+told_alike n _ _ loads h = absurd (cc h)
+
 pub told_ticked : (n : ℕ) (cs : List Connection) (loads : List (List ℕ)) → changed_from n (map (with_event move.Tick) cs) loads ≡ changed_from n cs loads
-told_ticked n (c ∷ cs) (load ∷ loads) = rw (told_ticked (suc n) cs loads) refl
-told_ticked n _ _ = refl
+told_ticked n cs loads = told_alike n (map (with_event move.Tick) cs) cs loads (map-map offer_at (with_event move.Tick) cs)
 
 -- masters have the lengths of their connections
 pub own_lens : (cs : List Connection) (ms : List MasterView) → AllZip IsWhere cs ms → map own_len ms ≡ map offer_len cs
@@ -91,4 +103,32 @@ change_follows old new app same r = record {
   stands = λ settings first calls h.
       let m : Meant = meant settings first calls in
       stands_so settings first old new calls (ChangeApp app) _ _ h refl refl (cycle-stands (record m { app = app }) false m.connections app old.masters new (λ loads. refl) refl (same ∙ h.inputs_are) h.masters r);
+}
+
+-- what a reset of one connection does and sends
+pub reset_answers : (old : MultiView) (link place : ℕ) (m : MasterView) (did : Did) (frame : List ℕ) → Placed old.masters link place m → core.Answers m move.Local did frame → AnswersReset old link did frame
+reset_answers old link place m did frame at a = record {
+  shows = λ settings app calls h.
+      let p = at_place IsWhere (meant settings app calls).connections old.masters place m h.masters at.at in
+      let c : Connection = p.there in
+      rw (at.number, p.is) (ap (λ (x : Deed). Some x) (same_deed move.Local _ _ _ _ (sym (a.did c.settings c.deeds p.holds)) (sym (a.sent c.settings c.deeds p.holds))));
+}
+
+-- one connection is reset, and its outputs are read
+pub reset_follows : (old new : MultiView) (link place : ℕ) (m last : MasterView) (input : List ℕ) → Placed old.masters link place m → core.Follows m move.Local last → core.Shows last input out → new.inputs ≡ slice_set old.inputs place input
+    → RunsCycle old.app false new.inputs (slice_set old.masters place last) new.app new.masters new.changed → Follows old (Reset link) new
+reset_follows old new link place m last input at f reads ni r = record {
+  stands = λ settings app calls h.
+      let before : Meant = meant settings app calls in
+      let cs : List Connection = before.connections in
+      let p = at_place IsWhere cs old.masters place m h.masters at.at in
+      let c : Connection = p.there in
+      let stands : IsWhere (with_event move.Local c) last = f.is_after c.settings c.deeds p.holds in
+      let is : event_on link move.Local cs ≡ slice_set cs place (with_event move.Local c) = rw at.number (event_set cs place c move.Local p.is) in
+      let inputs : new.inputs ≡ map connection_outputs (event_on link move.Local cs) =
+      ni ∙ ap₂ (λ (xs : List (List ℕ)) (x : List ℕ). slice_set xs place x) h.inputs_are (reads.shows c.settings _ stands) ∙ sym (ap (map connection_outputs) is ∙ map-set connection_outputs cs place (with_event move.Local c))
+      in
+      let masters : AllZip IsWhere (event_on link move.Local cs) (slice_set old.masters place last) = rw is (zip_set IsWhere cs old.masters place (with_event move.Local c) last h.masters stands) in
+      let same = λ (loads : List (List ℕ)). told_alike 1 (event_on link move.Local cs) cs loads (event_keeps offer_at link move.Local cs (λ c. refl)) in
+      stands_so settings app old new calls (Reset link) _ _ h refl refl (cycle-stands (moved_at link move.Local before) false cs old.app _ new same h.app_is inputs masters r);
 }

@@ -1,5 +1,5 @@
 -- Each connection's deeds are the run of its own events.
-use Rattle.multi_master.proofs.Common.{Answer, AppView, Call, ChangeApp, Connection, Deed, Deliver, MasterSettings, Meant, Move, Nonce, Tick, after, all_tick, append-nil, common_steps, numbered_connection, cycle_in, event_on, events_of, new_connection, is_offer, meant, run, run_append, setup, step, with_cycle, with_event, with_offers}
+use Rattle.multi_master.proofs.Common.{Answer, AppView, Call, ChangeApp, Connection, Deed, Deliver, Hold, MasterSettings, Meant, Move, Nonce, Reset, Tick, after, all_tick, append-nil, common_steps, numbered_connection, cycle_in, event_on, events_of, moved_at, new_connection, is_offer, meant, run, run_append, setup, step, with_cycle, with_event, with_offers}
 use Rattle.std.proofs.Common.{◌≡◌, ℕ, zero, suc, ◌==◌, List, [], ◌∷◌, ◌++◌, map, slice_get, Option, Some, None, IfSome, Bool, true, false, if◌then◌else◌, refl, sym, ap, subst, ◌∙◌, arith}
 use Rattle.std.proofs.lemmas.List.{map-id}
 use Rattle.std.proofs.lemmas.Option.{IfSome_then}
@@ -65,7 +65,9 @@ call-own own (Deliver link bytes) m k h =
     let o : Option Answer = cycle_in (Deliver link bytes) m in
     event-there own (with_cycle o m).connections link k (move.Deliver bytes) refl (cycle-own own o m k h)
 call-own own Tick m k h = cycle-own (own ++ move.Tick ∷ []) (cycle_in Tick m) (all_tick m) k (ticks-own own m.connections k h)
+call-own own (Reset link) m k h = cycle-own (own ++ own_part (suc k) (Reset link)) (cycle_in (Reset link) m) (moved_at link move.Local m) k (event-there own m.connections link k move.Local refl h)
 call-own own (Nonce link id) m k h = event-there own m.connections link k (move.Nonce id) refl h
+call-own own (Hold link on) m k h = event-there own m.connections link k (move.Hold on) refl h
 call-own own (ChangeApp app) m k h = rw (append-nil own) (cycle-own own (cycle_in (ChangeApp app) m) (record m { app = app }) k h)
 
 fresh-own : (settings : List MasterSettings) (k : ℕ) → IfSome (slice_get (map new_connection settings) k) (IsOwn [])

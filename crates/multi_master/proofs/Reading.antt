@@ -1,5 +1,5 @@
 -- What is shown of one connection, and an event at one.
-use Rattle.multi_master.proofs.Common.{AllZip, Answer, AppView, Call, Connection, Deed, Follows, IsSound, IsWhere, MasterSettings, MasterView, Meant, Move, MultiView, Nonce, Setup, ShowsAt, StandsFor, after, changed_by, cycle_in, moved_at, event_on, meant, numbers_of, connection_outputs, setup, with_event}
+use Rattle.multi_master.proofs.Common.{AllZip, Answer, AppView, Call, Connection, Deed, Follows, Hold, IsSound, IsWhere, MasterSettings, MasterView, Meant, Move, MultiView, Nonce, Setup, ShowsAt, StandsFor, after, changed_by, cycle_in, moved_at, event_on, meant, numbers_of, connection_outputs, setup, with_event}
 use Rattle.failsafe_io.specs.declared.bit.Bit.{Bit}
 use Rattle.multi_master.specs.Calls.{Rule}
 use Rattle.multi_master.specs.Standing.{HasLink, MultiValue, seen}
@@ -51,14 +51,25 @@ quiet_stands settings app old new calls place what c last h is o w nm na ni nc =
       sound = tt;
     })
 
--- a session id is set at one connection
-pub nonce_follows : (old new : MultiView) (link place id : ℕ) (m last : MasterView) → Placed old.masters link place m → core.Follows m (move.Nonce id) last
-    → new.masters ≡ slice_set old.masters place last → new.app ≡ old.app → new.inputs ≡ old.inputs → new.changed ≡ [] → Follows old (Nonce link id) new
-nonce_follows old new link place id m last at f nm na ni nc = record {
+-- a call that is this event of its connection, runs no cycle, and changes no outputs
+pub record IsQuiet (call : Call) (link : ℕ) (what : Move) : Type 0 where
+  pub no_cycle : (m : Meant) → cycle_in call m ≡ None
+  pub after_is : (m : Meant) → after call m ≡ moved_at link what m
+  pub outputs_stay : (c : Connection) → connection_outputs (with_event what c) ≡ connection_outputs c
+
+pub nonce_quiet : (link id : ℕ) → IsQuiet (Nonce link id) link (move.Nonce id)
+nonce_quiet link id = record { no_cycle = λ m. refl; after_is = λ m. refl; outputs_stay = λ c. refl }
+
+pub hold_quiet : (link : ℕ) (on : Bool) → IsQuiet (Hold link on) link (move.Hold on)
+hold_quiet link on = record { no_cycle = λ m. refl; after_is = λ m. refl; outputs_stay = λ c. refl }
+
+pub quiet_follows : (old new : MultiView) (call : Call) (link place : ℕ) (what : Move) (m last : MasterView) → IsQuiet call link what → Placed old.masters link place m → core.Follows m what last
+    → new.masters ≡ slice_set old.masters place last → new.app ≡ old.app → new.inputs ≡ old.inputs → new.changed ≡ [] → Follows old call new
+quiet_follows old new call link place what m last q at f nm na ni nc = record {
   stands = λ settings app calls h.
       let later : Meant = meant settings app calls in
       let p = at_place IsWhere later.connections old.masters place m h.masters at.at in
       let c : Connection = p.there in
-      stands_so settings app old new calls (Nonce link id) None (moved_at (suc place) (move.Nonce id) later) h refl (ap (λ k. moved_at k (move.Nonce id) later) at.number)
-      (quiet_stands settings app old new calls place (move.Nonce id) c last h p.is refl (f.is_after c.settings c.deeds p.holds) nm na ni nc);
+      stands_so settings app old new calls call None (moved_at (suc place) what later) h (q.no_cycle later) (q.after_is later ∙ ap (λ k. moved_at k what later) at.number)
+      (quiet_stands settings app old new calls place what c last h p.is (q.outputs_stay c) (f.is_after c.settings c.deeds p.holds) nm na ni nc);
 }

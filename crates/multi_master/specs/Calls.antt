@@ -23,12 +23,14 @@ pub record AppView : Type 0 where
 abbrev pub app_view : {A : Type 0} → (A → Rule) → (A → List ℕ) → (A → Bit → Bit → Bool) → A → AppView
 app_view rule holds guards a = record { rule = rule a; holds = holds a; guards = guards a }
 
--- a call: a frame comes for a connection, all connections tick, a connection gets a session id, or another application
--- runs from now on. Connections are numbered from 1
+-- a call: a frame comes for a connection, all connections tick, a connection is reset, gets a session id, or is held or
+-- let go, or another application runs from now on. Connections are numbered from 1
 pub data Call : Type 0 where
   Deliver : ℕ → List ℕ → Call
   Tick : Call
+  Reset : ℕ → Call
   Nonce : ℕ → ℕ → Call
+  Hold : ℕ → Bool → Call
   ChangeApp : AppView → Call
 
 -- what calls mean: the connections in their order, and the application that runs
@@ -66,12 +68,15 @@ is_heard bytes (Some c) = tells_due (next_deed (move.Deliver bytes) c).did
 
 -- the answer of the cycle that a call runs, None where it runs none. A delivery runs one where the frame is taken or
 -- ends the session, over the outputs after that frame; a tick runs one over the outputs after all connections ticked; a
--- change of the application runs one of the new application
+-- reset runs one over the outputs after it, of which its connection's are zeros; a change of the application runs one of
+-- the new application
 abbrev pub cycle_in : Call → Meant → Option Answer
 cycle_in (Deliver link bytes) m =
     if is_heard bytes (numbered_connection link m) then Some (app_answer false (moved_at link (move.Deliver bytes) m)) else None
 cycle_in Tick m = Some (app_answer true (all_tick m))
+cycle_in (Reset link) m = Some (app_answer false (moved_at link move.Local m))
 cycle_in (Nonce link id) m = None
+cycle_in (Hold link on) m = None
 cycle_in (ChangeApp app) m = Some (app_answer false (record m { app = app }))
 
 -- after a cycle with this answer all offers are it, and each of its output bits is 0 that the application that runs
@@ -87,11 +92,13 @@ with_cycle None m = m
 with_cycle (Some a) m = record { connections = with_offers a.outputs m.connections; app = record m.app { holds = a.holds } }
 
 -- what a call means after those before: in a delivery the answers are put before the deed of the frame, so that its
--- reply carries them
+-- reply carries them; at a tick or a reset, whose frames carry none, after it
 abbrev pub after : Call → Meant → Meant
 after (Deliver link bytes) m = moved_at link (move.Deliver bytes) (with_cycle (cycle_in (Deliver link bytes) m) m)
 after Tick m = with_cycle (cycle_in Tick m) (all_tick m)
+after (Reset link) m = with_cycle (cycle_in (Reset link) m) (moved_at link move.Local m)
 after (Nonce link id) m = moved_at link (move.Nonce id) m
+after (Hold link on) m = moved_at link (move.Hold on) m
 after (ChangeApp app) m = with_cycle (cycle_in (ChangeApp app) m) (record m { app = app })
 
 -- what these calls mean, from new masters with these settings and this application on

@@ -1,11 +1,12 @@
 -- What it means that a master of many connections does what looking back over its calls says.
-use Rattle.std.specs.Prelude.{◌≡◌, ◌≤◌, ℕ, Bool, false, List, [], ◌∷◌, map, length, All, slice_get, IfSome, Option, Some, option_map}
+use Rattle.std.specs.Prelude.{◌≡◌, ◌≤◌, ℕ, ◌-◌, Bool, false, List, [], ◌∷◌, map, length, All, slice_get, IfSome, IsTrue, Option, Some, option_map}
 use Rattle.std.specs.List.{AllZip}
 use Rattle.std.specs.Option.{option_map_or}
 use Rattle.fsoe_base.specs.declared.did.Did.{Did}
 use Rattle.failsafe_io.specs.declared.bit.Bit.{Bit}
 use Rattle.param_load.specs.declared.entry.Move.TheVariants as move
 use Rattle.param_load.specs.declared.master_settings.MasterSettings.{MasterSettings}
+use Rattle.param_load.specs.Profile.{allows_id}
 use Rattle.end_model.specs.Deed.{Deed}
 use Rattle.end_model.specs.Setup.{OfMaster, sends}
 use Rattle.master_core.specs.MasterView.{MasterView}
@@ -49,6 +50,14 @@ due_in m = is_due m.state
 -- the settings of each connection
 abbrev pub settings_of : {A : Type 0} → MultiValue A → List MasterSettings
 settings_of v = map settings_in v.masters
+
+-- the settings of the connection with this number
+abbrev pub settings_at : {A : Type 0} → MultiValue A → ℕ → Option MasterSettings
+settings_at v link = slice_get (settings_of v) (link - 1)
+
+-- the profile of the connection with this number allows this session id
+abbrev pub AllowsId : {A : Type 0} → MultiValue A → ℕ → ℕ → Type 0
+AllowsId v link id = IfSome (settings_at v link) (λ s. IsTrue (allows_id s.profile id))
 
 -- the number of connections
 abbrev pub links : {A : Type 0} → MultiValue A → ℕ
@@ -130,6 +139,10 @@ pub record AnswersTick (old : MultiView) (done : List Did) (frames : List (List 
 pub record ShowsAt {X : Type 0} (v : MultiView) (link : ℕ) (shown : X) (word : Connection → X) : Type 0 where
   pub shows : (settings : List MasterSettings) (app : AppView) (calls : List Call) → StandsFor settings app v calls
       → option_map word (numbered_connection link (meant settings app calls)) ≡ Some shown
+
+-- what a reset of a connection does, and the frame that it sends, are those of its next deed
+abbrev pub AnswersReset : MultiView → ℕ → Did → List ℕ → Type 0
+AnswersReset old link done sent = ShowsAt old link (record { what = move.Local; did = done; sent = sent }) (next_deed move.Local)
 
 -- what is shown is this word of the application that runs
 pub record ShowsApp {X : Type 0} (v : MultiView) (shown : X) (word : AppView → X) : Type 0 where

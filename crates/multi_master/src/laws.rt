@@ -12,8 +12,8 @@ ghost use Rattle.multi_master.specs.Own.{own_events, without_puts};
 ghost use Rattle.multi_master.specs.Standing.{IsWhere};
 
 /// A connection is independent of its neighbours: over every list of calls its deeds are the run of its own events.
-/// These are its deliveries, ticks and session ids, in the order of the calls, and the offers that were put between
-/// them. Its settings don't change.
+/// These are its deliveries, ticks, resets, holds and session ids, in the order of the calls, and the offers that were
+/// put between them. Its settings don't change.
 #[tactic(auto, using(crate::proofs::Neighbours::runs_alone, crate::proofs::Neighbours::events_alone, crate::proofs::Neighbours::settings_alone))]
 pub fn neighbours()
     ensures run { (settings : List MasterSettings) (app : AppView) (calls : List Call) (link : ℕ) → IfSome (numbered_connection link (meant settings app calls)) (λ c. c.deeds ≡ run (setup c) (events_of c.deeds)) }

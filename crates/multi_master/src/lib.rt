@@ -1,8 +1,9 @@
 //! The FSoE masters of up to 64 connections, with one application. From the data that all masters received (SafeInputs
 //! in ETG.5100) the application computes the data that all send. It runs once per tick. It runs once for each frame
-//! that is taken or ends a session, before the reply is built. And it runs once when `change_app` puts it in place of
-//! another, and when `first_cycle` is called. Nothing passes from one connection to another but the data that the
-//! application computes. The program passes in frames and ticks, and sends what is written:
+//! that is taken or ends a session, before the reply is built, and once for each `reset`. And it runs once when
+//! `change_app` puts it in place of another, and when `first_cycle` is called. Nothing passes from one connection to
+//! another but the data that the application computes. The program passes in frames and ticks, and sends what is
+//! written:
 //!
 //! ```text
 //! let mut multi = MultiMaster::new(settings, app)?;
@@ -24,7 +25,7 @@
 //!         }
 //!     }
 //!     for link in multi.changed() {
-//!         note(*link, multi.offer(*link));        // the offers that `deliver` or `tick` changed
+//!         note(*link, multi.offer(*link));        // the offers that the last call changed
 //!     }
 //! }
 //! ```

@@ -39,9 +39,9 @@ impl<A> Model for MultiMaster<A> {
 
 impl<A: Application> MultiMaster<A> {
     ghost use Rattle.multi_master.specs.Connection.{setup, connection_outputs, offer_at};
-    ghost use Rattle.multi_master.specs.Calls.{AppView, Deliver, Tick, Nonce, ChangeApp, app_view};
+    ghost use Rattle.multi_master.specs.Calls.{AppView, Deliver, Tick, Reset, Nonce, Hold, ChangeApp, app_view};
     ghost use Rattle.multi_master.specs.New.{first_fault};
-    ghost use Rattle.multi_master.specs.Standing.{seen, links, HasLink, StandsFor, Follows, AnswersFrame, AnswersTick, ShowsAt, ShowsApp, ShowsChanged, AreNumbers, settings_of};
+    ghost use Rattle.multi_master.specs.Standing.{seen, links, HasLink, StandsFor, Follows, AnswersFrame, AnswersTick, AnswersReset, ShowsAt, ShowsApp, ShowsChanged, AreNumbers, settings_of, settings_at, AllowsId};
 
     /// Creates the masters of connections with these settings, in this order, each in state Reset, and this
     /// application. No cycle is run: the offers are zeros until the first one. There may be no connection. The first
@@ -148,6 +148,23 @@ impl<A: Application> MultiMaster<A> {
         self.connections.run_cycle(&mut self.app, true);
     }
 
+    /// Resets the master of this connection: its session ends, if there is one, its outputs become zeros, and Reset(0)
+    /// is written to `out`. Then the application runs one unticked cycle over all outputs, also in state Reset, and its
+    /// results become the offers of all connections.
+    pub fn reset(&mut self, link: u16, out: &mut FrameBuf) -> Did
+        requires { HasLink self.old link }
+        ensures follows { let seen = seen A.rule A.holds A.guards in Follows (seen self.old) (Reset link) (seen self.new) }
+        ensures answers { AnswersReset (seen A.rule A.holds A.guards self.old) link result out.new }
+        ensures settings { settings_of self.new ≡ settings_of self.old }
+    {
+        let place = usize::from(link) - 1;
+        let master = &mut self.connections.masters[place];
+        let did = master.reset(out);
+        self.connections.inputs[place].set(master.outputs());
+        self.connections.run_cycle(&mut self.app, false);
+        did
+    }
+
     /// Runs an unticked cycle of the application, as the first one after a change to it from any other application. Its
     /// results become the offers of all connections. No frame is built in between, so none carries an older offer.
     pub fn first_cycle(&mut self)
@@ -173,8 +190,29 @@ impl<A: Application> MultiMaster<A> {
         ensures follows { let seen = seen A.rule A.holds A.guards in Follows (seen self.old) (Nonce link id) (seen self.new) }
         ensures settings { settings_of self.new ≡ settings_of self.old }
     {
+        self.session_id(link, u32::from(id));
+    }
+
+    /// Does the same as `nonce` with an id of 32 bits. In profile One it is at most 65,535.
+    pub fn session_id(&mut self, link: u16, id: u32)
+        requires number { HasLink self.old link }
+        requires allowed { AllowsId self.old link id }
+        ensures follows { let seen = seen A.rule A.holds A.guards in Follows (seen self.old) (Nonce link id) (seen self.new) }
+        ensures settings { settings_of self.new ≡ settings_of self.old }
+    {
         self.connections.changed.clear();
-        self.connections.masters[usize::from(link) - 1].nonce(u32::from(id));
+        self.connections.masters[usize::from(link) - 1].nonce(id);
+    }
+
+    /// Switches fail-safe data of this connection on or off: while on, its master sends zeros in place of the offer.
+    /// They outlast resets.
+    pub fn hold(&mut self, link: u16, failsafe: bool)
+        requires { HasLink self.old link }
+        ensures follows { let seen = seen A.rule A.holds A.guards in Follows (seen self.old) (Hold link failsafe) (seen self.new) }
+        ensures settings { settings_of self.new ≡ settings_of self.old }
+    {
+        self.connections.changed.clear();
+        self.connections.masters[usize::from(link) - 1].hold(failsafe);
     }
 
     /// The number of connections, which are numbered from 1.
@@ -182,6 +220,14 @@ impl<A: Application> MultiMaster<A> {
         ensures { result ≡ links self.now }
     {
         self.connections.masters.len() as u16
+    }
+
+    /// The settings that this connection was made with.
+    pub fn settings(&self, link: u16) -> &MasterSettings
+        requires { HasLink self.now link }
+        ensures { settings_at self.now link ≡ Some result.now }
+    {
+        self.connections.masters[usize::from(link) - 1].settings()
     }
 
     /// The state of the master of this connection.
@@ -210,6 +256,22 @@ impl<A: Application> MultiMaster<A> {
         self.connections.masters[usize::from(link) - 1].terms()
     }
 
+    /// Returns the age of the master of this connection: the ticks since its last frame was sent.
+    pub fn age(&self, link: u16) -> u16
+        requires { HasLink self.now link }
+        ensures { ShowsAt (seen A.rule A.holds A.guards self.now) link result (λ c. model.age (setup c) c.deeds) }
+    {
+        self.connections.masters[usize::from(link) - 1].age()
+    }
+
+    /// Returns true while the master of this connection sends zeros in place of the offer.
+    pub fn held(&self, link: u16) -> bool
+        requires { HasLink self.now link }
+        ensures { ShowsAt (seen A.rule A.holds A.guards self.now) link result (λ c. model.held c.deeds) }
+    {
+        self.connections.masters[usize::from(link) - 1].held()
+    }
+
     /// Returns the safe data that this connection's next data frame carries: the last result of the application, or
     /// zeros before the first cycle. They have as many bytes as its master's frames.
     pub fn offer(&self, link: u16) -> &[u8]
@@ -230,6 +292,13 @@ impl<A: Application> MultiMaster<A> {
         ensures numbers { AreNumbers (links self.now) result.now }
     {
         self.connections.changed.as_slice()
+    }
+
+    /// The running application.
+    pub fn app(&self) -> &A
+        ensures { result.now ≡ self.now.app }
+    {
+        &self.app
     }
 
     /// Returns the result of `guards` of the running application.

@@ -1,5 +1,5 @@
 -- A net that runs answers by looking back over its cycles.
-use Rattle.plant_model.proofs.Common.{Act, Answer, AppView, Beginning, Call, ChangeApp, Connection, Deliver, MasterSettings, Meant, Nonce, Tick, after, all_tick, app_answer, call_of, calls, numbered_connection, cycle_in, moved_at, event_keeps, is_heard, masters, meant, offer_len, option_and_then, option_to_list, connection_outputs, settings, settings_alone, with_cycle, with_event}
+use Rattle.plant_model.proofs.Common.{Act, Answer, AppView, Beginning, Call, ChangeApp, Connection, Deliver, Hold, MasterSettings, Meant, Nonce, Reset, Tick, after, all_tick, app_answer, call_of, calls, numbered_connection, cycle_in, moved_at, event_keeps, is_heard, masters, meant, offer_len, option_and_then, option_to_list, connection_outputs, settings, settings_alone, with_cycle, with_event}
 use Rattle.std.proofs.Common.{◌≡◌, ℕ, true, false, List, [], ◌∷◌, ◌++◌, map, Option, Some, None, IfSome, refl, sym, ap, ap₂, ◌∙◌, arith}
 use Rattle.std.proofs.lemmas.List.{map-id}
 use Rattle.std.proofs.lemmas.Option.{cond_some}
@@ -34,7 +34,13 @@ answered Tick m a e =
     let told : Answer = app_answer true (all_tick m) in
     let is : a ≡ told = cc in
     is ∙ ap₂ (λ (inputs : List (List ℕ)) (ls : List ℕ). m.app.rule m.app.holds true inputs ls) (sym (all_outputs_put (all_tick m).connections told.outputs)) (map-map offer_len (with_event move.Tick) m.connections)
+answered (Reset link) m a e =
+    let told : Answer = app_answer false (moved_at link move.Local m) in
+    let is : a ≡ told = cc in
+    let lens = event_keeps offer_len link move.Local m.connections (λ c. refl) in
+    is ∙ ap₂ (λ (inputs : List (List ℕ)) (ls : List ℕ). m.app.rule m.app.holds false inputs ls) (sym (all_outputs_put (moved_at link move.Local m).connections told.outputs)) lens
 answered (Nonce link id) m a e = absurd (cc e)
+answered (Hold link on) m a e = absurd (cc e)
 answered (ChangeApp app) m a e =
     let told : Answer = app_answer false (record m { app = app }) in
     let is : a ≡ told = cc in

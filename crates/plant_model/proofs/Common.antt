@@ -21,7 +21,7 @@ pub use Rattle.fsoe_base.specs.Image.{bit_of}
 pub use Rattle.fsoe_base.specs.declared.command.End.{End}
 pub use Rattle.fsoe_base.specs.declared.lengths.Lengths.{Lengths}
 pub use Rattle.multi_master.proofs.Neighbours.{event_keeps, settings_alone}
-pub use Rattle.multi_master.specs.Calls.{AppView, Call, ChangeApp, Deliver, IsSound, Meant, Nonce, Tick, after, all_tick, app_answer, changed_by, changed_from, numbered_connection, cycle_in, moved_at, event_on, is_heard, meant, with_cycle}
+pub use Rattle.multi_master.specs.Calls.{AppView, Call, ChangeApp, Deliver, Hold, IsSound, Meant, Nonce, Reset, Tick, after, all_tick, app_answer, changed_by, changed_from, numbered_connection, cycle_in, moved_at, event_on, is_heard, meant, with_cycle}
 pub use Rattle.multi_master.specs.Connection.{Connection, new_connection, is_offer, offer_at, offer_len, connection_outputs, with_event, with_offers}
 pub use Rattle.param_load.specs.declared.entry.Entry.{Entry}
 pub use Rattle.param_load.specs.declared.entry.Move.{Move}

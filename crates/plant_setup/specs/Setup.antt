@@ -7,7 +7,7 @@ use Rattle.fsoe_base.specs.declared.command.End.{End}
 use Rattle.fsoe_base.specs.declared.command.End.TheVariants as side
 use Rattle.failsafe_io.specs.Bits.{has_bit}
 use Rattle.fb_net.specs.Fault.{first_fault}
-use Rattle.fb_net.specs.NetView.{NetView}
+use Rattle.fb_net.specs.NetView.{NetView, new_net}
 use Rattle.fb_net.specs.declared.fault.NetFault.{NetFault}
 use Rattle.fb_net.specs.declared.fault.NetFault.TheVariants as net_fault
 use Rattle.plant_conf.specs.ConfView.{ConfView}
@@ -62,7 +62,7 @@ setup_fault conf apps channels =
 
 -- the net of a configuration, of which no cycle has run
 abbrev pub net_of : ConfView → NetView
-net_of conf = record { blocks = conf.blocks; drives = conf.drives }
+net_of conf = new_net conf.blocks conf.drives
 
 -- an application that is the net leaves all others; one that isn't is the first of its name, and leaves the others
 abbrev pub ChosenBy : {X : Type 0} → Bool → (X → List ℕ) → List ℕ → List X → List X → Type 0 → (X → Type 0) → Type 0

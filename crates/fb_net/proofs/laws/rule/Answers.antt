@@ -1,5 +1,5 @@
-use Rattle.fb_net.proofs.Ruled.{rule_answers}
+use Rattle.fb_net.proofs.Ruled.{rule_answers, rule_values}
 use Rattle.fb_net.proofs.laws.rule.Goals as goal
 
 pub returns : goal.returns
-returns c = rule_answers
+returns c = record { outputs = rule_answers; values = rule_values }
