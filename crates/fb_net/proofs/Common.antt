@@ -17,7 +17,7 @@ pub use Rattle.fb_net.specs.Ready.{AllReady, IsReady}
 pub use Rattle.fb_net.specs.Standing.{BlocksStand, CanRun, IsNewNet, KeepsPlan, NetStands}
 pub use Rattle.fb_net.specs.Steps.{all_restored, cycle_of, flag, given, held_values, holds_of, kept_numbers, run_blocks, run_values, block_after}
 pub use Rattle.fb_net.specs.Values.{NetBlock, NetCycle, block_cycles, block_values, shown_values, values_from, wire_value, with_block}
-pub use Rattle.fb_net.specs.declared.spec.BlockSpec.{BlockSpec}
+pub use Rattle.fb_net.specs.BlockSpec.{BlockSpec}
 pub use Rattle.fb_net.specs.declared.spec.Drive.{Drive}
 pub use Rattle.fsoe_base.specs.Image.{bit_of, with_bit}
 pub use Rattle.std.proofs.lemmas.Bool.{cases_Bool, cases_eq}

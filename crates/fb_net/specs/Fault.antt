@@ -8,7 +8,7 @@ use Rattle.failsafe_io.specs.Bits.{has_bit, is_same_bit}
 use Rattle.fb_lib.specs.Kind.{takes_inputs}
 use Rattle.fb_net.specs.declared.fault.NetFault.{NetFault}
 use Rattle.fb_net.specs.declared.fault.NetFault.TheVariants as net_fault
-use Rattle.fb_net.specs.declared.spec.BlockSpec.{BlockSpec}
+use Rattle.fb_net.specs.BlockSpec.{BlockSpec}
 use Rattle.fb_net.specs.declared.spec.Drive.{Drive}
 use Rattle.fb_net.specs.declared.wire.Wire.{Wire}
 use Rattle.fb_net.specs.declared.wire.Wire.TheVariants as wire

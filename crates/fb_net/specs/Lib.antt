@@ -9,5 +9,6 @@ pub mod Meaning
 pub mod Fault
 pub mod New
 pub mod Mirror
+pub mod BlockSpec
 pub mod Calls
 pub mod Acknowledged

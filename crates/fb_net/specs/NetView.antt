@@ -1,6 +1,6 @@
 -- What contracts see of a net.
 use Rattle.std.specs.Prelude.{Bool, false, List, length, map, replicate}
-use Rattle.fb_net.specs.declared.spec.BlockSpec.{BlockSpec}
+use Rattle.fb_net.specs.BlockSpec.{BlockSpec}
 use Rattle.fb_net.specs.declared.spec.Drive.{Drive}
 use Rattle.fb_net.specs.Values.{NetBlock}
 

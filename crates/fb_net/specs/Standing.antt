@@ -3,7 +3,7 @@
 use Rattle.std.specs.Prelude.{◌≡◌, ℕ, Bool, false, List, [], ◌∷◌}
 use Rattle.failsafe_io.specs.Bits.{at_number}
 use Rattle.fb_lib.specs.Standing.{BlockStands}
-use Rattle.fb_net.specs.declared.spec.BlockSpec.{BlockSpec}
+use Rattle.fb_net.specs.BlockSpec.{BlockSpec}
 use Rattle.fb_net.specs.Values.{NetCycle, block_cycles, with_block, shown_values}
 use Rattle.fb_net.specs.Outputs.{net_outputs}
 use Rattle.fb_net.specs.NetView.{NetView, net_block, plan}

@@ -11,7 +11,7 @@ use Rattle.fb_lib.specs.Cycle.{Cycle}
 use Rattle.fb_lib.specs.Steps.{next_held, next_block, block_gives}
 use Rattle.failsafe_io.specs.Application.{Answer}
 use Rattle.fb_net.specs.declared.wire.Wire.{Wire}
-use Rattle.fb_net.specs.declared.spec.BlockSpec.{BlockSpec}
+use Rattle.fb_net.specs.BlockSpec.{BlockSpec}
 use Rattle.fb_net.specs.declared.spec.Drive.{Drive}
 use Rattle.fb_net.specs.Values.{NetCycle, NetBlock, wire_value}
 use Rattle.fb_net.specs.Outputs.{driven_images}

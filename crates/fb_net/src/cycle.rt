@@ -14,6 +14,7 @@ use crate::wire::Wire;
 use arrayvec::ArrayVec;
 use fb_lib::MOST_INPUTS;
 use fsoe_base::Image;
+use std::alloc::Allocator;
 
 /// What a wire reads, by the values of the blocks in their order.
 pub(crate) fn wire_value(wire: Wire, inputs: &[Image], values: &[bool]) -> bool
@@ -49,7 +50,12 @@ fn read_wires(wires: &[Wire], inputs: &[Image], values: &[bool]) -> ArrayVec<boo
 }
 
 /// Steps a block, and gives its value.
-fn step_block(spec: &mut BlockSpec, ticked: bool, inputs: &[Image], values: &[bool]) -> bool
+fn step_block<M: Allocator>(
+    spec: &mut BlockSpec<M>,
+    ticked: bool,
+    inputs: &[Image],
+    values: &[bool],
+) -> bool
     requires { IsTrue (takes_inputs spec.old.block.kind (length spec.old.ins)) }
     ensures block_after { spec.new
         ≡ block_after values.now (record { ticked = ticked; inputs = inputs.now }) spec.old }
@@ -61,8 +67,8 @@ fn step_block(spec: &mut BlockSpec, ticked: bool, inputs: &[Image], values: &[bo
 }
 
 /// Steps the blocks in their order, and writes their values to the front of `values`.
-pub(crate) fn run_blocks(
-    blocks: &mut [BlockSpec],
+pub(crate) fn run_blocks<M: Allocator>(
+    blocks: &mut [BlockSpec<M>],
     ticked: bool,
     inputs: &[Image],
     values: &mut [bool],

@@ -13,6 +13,7 @@ use crate::wire::Wire;
 use arrayvec::ArrayVec;
 use failsafe_io::Bit;
 use fb_lib::BlockKind;
+use std::alloc::Allocator;
 
 pub(crate) fn is_same_bit(a: Bit, b: Bit) -> bool
     ensures { result ≡ is_same_bit a b }
@@ -79,7 +80,7 @@ fn is_guarded(kind: BlockKind, wires: &[Wire], inp: Bit, guarded: &[bool]) -> bo
 }
 
 /// Which blocks, of at most 256, are guarded by an input bit.
-fn guarded_blocks(blocks: &[BlockSpec], inp: Bit) -> ArrayVec<bool, 256>
+fn guarded_blocks<M: Allocator>(blocks: &[BlockSpec<M>], inp: Bit) -> ArrayVec<bool, 256>
     requires { length blocks.now ≤ 256 }
     ensures { result.items ≡ guarded_blocks inp (plan blocks.now) }
 {
@@ -106,7 +107,12 @@ fn are_drives_guarded(drives: &[Drive], out: Bit, inp: Bit, guarded: &[bool]) ->
 }
 
 /// Whether an output bit is guarded by an input bit, in a net of at most 256 blocks.
-pub(crate) fn is_output_guarded(blocks: &[BlockSpec], drives: &[Drive], out: Bit, inp: Bit) -> bool
+pub(crate) fn is_output_guarded<M: Allocator>(
+    blocks: &[BlockSpec<M>],
+    drives: &[Drive],
+    out: Bit,
+    inp: Bit,
+) -> bool
     requires { length blocks.now ≤ 256 }
     ensures { result ≡ is_output_guarded (plan blocks.now) drives.now out inp }
 {

@@ -29,7 +29,7 @@ mod zeros;
 
 pub use fault::NetFault;
 pub use kind_of::{AppEntry, AppKind, EntryOf, KindOf};
-pub use making::has_bit;
+pub use making::{first_fault, has_bit};
 pub use mirror::Mirror;
 pub use net::Net;
 pub use spec::{BlockSpec, Drive};

@@ -1,14 +1,18 @@
 //! What is wrong with a net that is to be made.
-ghost use Rattle.std.specs.Prelude.{◌≡◌, ◌≤◌, ◌<◌, [], length};
-ghost use Rattle.std.specs.List.{list_any};
+ghost use Rattle.std.specs.Prelude.{◌≡◌, ◌≤◌, ◌<◌, [], length, None};
+ghost use Rattle.std.specs.List.{All, list_any};
 ghost use Rattle.failsafe_io.specs.Bits.{has_bit, is_same_bit};
 ghost use Rattle.fb_net.specs.Fault.{wire_fault, wires_fault, block_fault, blocks_fault, drive_fault, drives_fault, first_fault};
+ghost use Rattle.fb_net.specs.NetView.{new_net};
+ghost use Rattle.fb_net.specs.New.{IsNew};
+ghost use Rattle.fb_net.specs.Standing.{IsNewNet};
 
 use crate::fault::NetFault;
 use crate::guards::is_same_bit;
 use crate::spec::{BlockSpec, Drive};
 use crate::wire::Wire;
 use failsafe_io::Bit;
+use std::alloc::Allocator;
 
 /// Whether images of these lengths, in bytes, of connections from 1 on, have this bit.
 pub fn has_bit(lens: &[u8], bit: Bit) -> bool
@@ -50,7 +54,7 @@ fn wires_fault(wires: &[Wire], ins: &[u8], before: u16, number: u16) -> Option<N
 }
 
 /// What is wrong with a block that has so many blocks before it.
-fn block_fault(spec: &BlockSpec, ins: &[u8], before: u16) -> Option<NetFault>
+fn block_fault<M: Allocator>(spec: &BlockSpec<M>, ins: &[u8], before: u16) -> Option<NetFault>
     requires { before < 256 }
     ensures { result ≡ block_fault ins.now before spec.now }
 {
@@ -63,7 +67,7 @@ fn block_fault(spec: &BlockSpec, ins: &[u8], before: u16) -> Option<NetFault>
 }
 
 /// What is wrong with the first block that has a fault.
-fn blocks_fault(blocks: &[BlockSpec], ins: &[u8]) -> Option<NetFault>
+fn blocks_fault<M: Allocator>(blocks: &[BlockSpec<M>], ins: &[u8]) -> Option<NetFault>
     requires { length blocks.now ≤ 256 }
     ensures { result ≡ blocks_fault ins.now 0 blocks.now }
 {
@@ -116,15 +120,17 @@ fn drives_fault(drives: &[Drive], ins: &[u8], outs: &[u8], count: u16) -> Option
     None
 }
 
-/// The first fault of a net of at most 256 blocks, with input and output images of these lengths in bytes.
-pub(crate) fn first_fault(
-    blocks: &[BlockSpec],
+/// The first fault of a net of at most 256 blocks, with input and output images of these lengths in bytes, as `Net::new`
+/// returns it. Without one, there is such a net.
+pub fn first_fault<M: Allocator>(
+    blocks: &[BlockSpec<M>],
     drives: &[Drive],
     ins: &[u8],
     outs: &[u8],
 ) -> Option<NetFault>
     requires { length blocks.now ≤ 256 }
-    ensures { result ≡ first_fault ins.now outs.now blocks.now drives.now }
+    ensures first { result ≡ first_fault ins.now outs.now blocks.now drives.now }
+    ensures none { result ≡ None → All IsNew blocks.now → IsNewNet (new_net blocks.now drives.now) }
 {
     let fault = blocks_fault(blocks, ins);
     if fault.is_some() {

@@ -11,17 +11,18 @@ use crate::making::first_fault;
 use crate::spec::{BlockSpec, Drive};
 use failsafe_io::{Application, Bit};
 use fsoe_base::Image;
+use std::alloc::{Allocator, Global};
 use std::marker::Model;
 
 /// A net: blocks that are stepped in order in each cycle, and output bits that are driven. A cycle doesn't allocate.
 #[derive(Drop)]
-pub struct Net {
-    blocks: Vec<BlockSpec>,
-    drives: Vec<Drive>,
+pub struct Net<M: Allocator = Global> {
+    blocks: Vec<BlockSpec<M>, M>,
+    drives: Vec<Drive, M>,
     values: [bool; 256],
 }
 
-impl Model for Net {
+impl<M: Allocator> Model for Net<M> {
     ghost use Rattle.std.specs.Prelude.{◌≤◌, length, take};
     ghost use Rattle.fb_net.specs.NetView.{NetView};
     ghost use Rattle.fb_net.specs.Standing.{CanRun};
@@ -37,7 +38,7 @@ impl Model for Net {
     ghost invariant = { λ n. (length n.blocks.items ≤ 256) × CanRun n.blocks.items };
 }
 
-impl Net {
+impl<M: Allocator> Net<M> {
     ghost use Rattle.std.specs.Prelude.{◌≡◌, ◌≤◌, [], IfOk, false, map, length, vec_len};
     ghost use Rattle.std.specs.List.{All};
     ghost use Rattle.std.specs.Result.{result_err};
@@ -54,11 +55,11 @@ impl Net {
     /// blocks in their order, each by its number of inputs and then wire by wire. Then of the drives in their order:
     /// the bit doesn't exist, an earlier drive sets it, or the wire is wrong. Doesn't allocate.
     pub fn new(
-        blocks: Vec<BlockSpec>,
-        drives: Vec<Drive>,
+        blocks: Vec<BlockSpec<M>, M>,
+        drives: Vec<Drive, M>,
         ins: &[u8],
         outs: &[u8],
-    ) -> Result<Net, NetFault>
+    ) -> Result<Net<M>, NetFault>
         requires most { vec_len blocks ≤ 256 }
         requires new { All IsNew blocks.items }
         ensures first { result_err result ≡ first_fault ins.now outs.now blocks.items drives.items }
@@ -67,11 +68,21 @@ impl Net {
     {
         match first_fault(blocks.as_slice(), drives.as_slice(), ins, outs) {
             Some(fault) => Err(fault),
-            None => Ok(Net {
-                blocks,
-                drives,
-                values: [false; 256],
-            }),
+            None => Ok(Net::of_faultless(blocks, drives)),
+        }
+    }
+
+    /// Creates a net of such blocks and drives, as `new` does, where `first_fault` found no fault. Doesn't allocate.
+    pub fn of_faultless(blocks: Vec<BlockSpec<M>, M>, drives: Vec<Drive, M>) -> Net<M>
+        requires most { vec_len blocks ≤ 256 }
+        requires faultless { IsNewNet (new_net blocks.items drives.items) }
+        ensures made { result ≡ new_net blocks.items drives.items }
+        ensures is_new { IsNewNet result }
+    {
+        Net {
+            blocks,
+            drives,
+            values: [false; 256],
         }
     }
 
@@ -93,6 +104,13 @@ impl Net {
         drive_outputs(self.drives.as_slice(), values, inputs, outputs);
     }
 
+    /// The number of blocks, which are numbered from 1.
+    pub fn blocks(&self) -> u16
+        ensures { result ≡ length self.now.blocks }
+    {
+        self.blocks.len() as u16
+    }
+
     /// Returns the value of a block in the last cycle, by its number from 1. It is false before the first cycle, and
     /// where there is no such block.
     #[tactic(auto, using(crate::proofs::Holding::values_back))]
@@ -104,7 +122,7 @@ impl Net {
     }
 }
 
-impl Application for Net {
+impl<M: Allocator> Application for Net<M> {
     ghost use Rattle.fb_net.specs.Meaning.{net_holds, rule_of, guards_of};
 
     ghost holds = { net_holds };

@@ -2,6 +2,7 @@
 ghost use Rattle.std.specs.Prelude.{◌≡◌};
 
 use failsafe_io::Bit;
+use std::alloc::{Allocator, Global};
 use std::marker::Model;
 
 /// What a block's input or an output bit reads.
@@ -15,11 +16,11 @@ pub enum Wire {
 
 /// The wires of a block's inputs, in their order. Contracts see it as a list.
 #[derive(Drop)]
-pub struct Wires {
-    ins: Vec<Wire>,
+pub struct Wires<M: Allocator = Global> {
+    ins: Vec<Wire, M>,
 }
 
-impl Model for Wires {
+impl<M: Allocator> Model for Wires<M> {
     ghost use Rattle.std.specs.Prelude.{List};
     ghost use Rattle.fb_net.specs.declared.wire.Wire.{Wire};
 
@@ -28,9 +29,9 @@ impl Model for Wires {
     ghost view = { λ w. w.ins.items };
 }
 
-impl Wires {
+impl<M: Allocator> Wires<M> {
     /// These wires.
-    pub fn new(ins: Vec<Wire>) -> Wires
+    pub fn new(ins: Vec<Wire, M>) -> Wires<M>
         ensures { result ≡ ins.items }
     {
         Wires { ins }

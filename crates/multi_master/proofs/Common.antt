@@ -13,8 +13,8 @@ pub use Rattle.master_core.specs.MasterView.{MasterView}
 pub use Rattle.master_core.specs.Waiting.{Accepts, Delivery, Replies, ShowsDue, Waits}
 pub use Rattle.multi_master.specs.Calls.{AppView, Call, ChangeApp, Deliver, Hold, IsSound, Meant, Nonce, Reset, Tick, after, all_tick, app_answer, changed_by, changed_from, numbered_connection, cycle_in, moved_at, event_on, meant, with_cycle}
 pub use Rattle.multi_master.specs.Connection.{Connection, new_connection, is_offer, next_deed, offer_at, offer_len, connection_outputs, setup, with_event, with_offer, with_offers}
-pub use Rattle.multi_master.specs.Puts.{AreNew, MayBePut, MayBeRead, PutsAnswer, PutsEach, RunsBy, RunsCycle, TicksEach, TicksOne}
-pub use Rattle.multi_master.specs.Standing.{AnswersFrame, AnswersReset, AnswersTick, AreNumbers, Follows, IsMulti, IsNumber, IsWhere, MultiView, ShowsAt, StandsFor, due_in, newest_at, numbers_of, own_len, settings_in}
+pub use Rattle.multi_master.specs.Puts.{AddsOne, AreNew, MayBePut, MayBeRead, PutsAnswer, PutsEach, RunsBy, RunsCycle, TicksEach, TicksOne}
+pub use Rattle.multi_master.specs.Standing.{AddsNew, AnswersFrame, AnswersReset, AnswersTick, AreNumbers, Follows, IsMulti, IsNumber, IsWhere, MultiView, ShowsAt, StandsFor, due_in, newest_at, numbers_of, own_len, settings_in}
 pub use Rattle.param_load.specs.declared.entry.Move.{Move}
 pub use Rattle.param_load.specs.declared.master_settings.MasterSettings.{MasterSettings}
 pub use Rattle.std.proofs.lemmas.Grind.{common_steps}

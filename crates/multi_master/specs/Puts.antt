@@ -1,6 +1,6 @@
 -- What new masters are, how a cycle is run and its answers are put, master by master, and how all masters tick. A frame
 -- of a master may be due while answers are put. Contracts of private functions alone rest on these words.
-use Rattle.std.specs.Prelude.{◌≡◌, ℕ, suc, nat_eq, Bool, true, false, not, List, [], ◌∷◌, map, length, All, Option, Some, None, if◌then◌else◌}
+use Rattle.std.specs.Prelude.{◌≡◌, ℕ, suc, nat_eq, Bool, true, false, not, List, [], ◌∷◌, ◌++◌, map, length, All, Option, Some, None, if◌then◌else◌}
 use Rattle.std.specs.List.{AllZip}
 use Rattle.std.specs.Cmp.Lexicographic.{pointwise}
 use Rattle.fsoe_base.specs.declared.did.Cause.{Cause}
@@ -25,6 +25,18 @@ pub record AreNew (settings : List MasterSettings) (masters : List MasterView) (
   pub inputs_are : inputs ≡ map connection_outputs (map new_connection settings)
   pub answers_fit : map length answers ≡ map own_len masters
   pub unchanged : changed ≡ []
+
+-- a new master with these settings comes last, with its outputs and an answer of the length of its frames
+pub record AddsOne (own : MasterSettings) (masters : List MasterView) (inputs answers : List (List ℕ)) (now : List MasterView) (read room : List (List ℕ)) : Type 0 where
+  pub last : MasterView
+  pub answer : List ℕ
+  pub stands : IsWhere (new_connection own) last
+  pub settings_are : settings_in last ≡ own
+  pub rests : due_in last ≡ false
+  pub answer_fits : length answer ≡ own_len last
+  pub masters_are : now ≡ masters ++ last ∷ []
+  pub inputs_are : read ≡ inputs ++ connection_outputs (new_connection own) ∷ []
+  pub answers_are : room ≡ answers ++ answer ∷ []
 
 -- a load was put, whether or not a frame is due, or nothing was
 abbrev pub MayBePut : Bool → MasterView → List ℕ → MasterView → Type 0

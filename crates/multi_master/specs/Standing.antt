@@ -1,5 +1,5 @@
 -- What it means that a master of many connections does what looking back over its calls says.
-use Rattle.std.specs.Prelude.{◌≡◌, ◌≤◌, ℕ, ◌-◌, Bool, false, List, [], ◌∷◌, map, length, All, slice_get, IfSome, IsTrue, Option, Some, option_map}
+use Rattle.std.specs.Prelude.{◌≡◌, ◌≤◌, ℕ, ◌-◌, Bool, false, List, [], ◌∷◌, ◌++◌, map, length, All, slice_get, IfSome, IsTrue, Option, Some, option_map}
 use Rattle.std.specs.List.{AllZip}
 use Rattle.std.specs.Option.{option_map_or}
 use Rattle.fsoe_base.specs.declared.did.Did.{Did}
@@ -113,6 +113,10 @@ pub record StandsFor (settings : List MasterSettings) (app : AppView) (v : Multi
   pub inputs_are : v.inputs ≡ map connection_outputs (meant settings app calls).connections
   pub changed_are : v.changed ≡ numbers_of (changed settings app calls)
   pub sound : AllSound settings app calls
+
+-- a connection with these settings was added, the last one: what was as it was made, for no calls, is so with it
+pub record AddsNew (old : MultiView) (own : MasterSettings) (new : MultiView) : Type 0 where
+  pub stands : (settings : List MasterSettings) (app : AppView) → StandsFor settings app old [] → StandsFor (settings ++ own ∷ []) app new []
 
 -- what stood for some calls stands for these and this one
 pub record Follows (old : MultiView) (call : Call) (new : MultiView) : Type 0 where

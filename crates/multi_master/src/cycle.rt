@@ -10,6 +10,7 @@ use arrayvec::ArrayVec;
 use failsafe_io::Application;
 use fsoe_base::{Did, FrameBuf, Image};
 use master_core::Master;
+use std::alloc::Allocator;
 
 /// Puts a result as the offer of a master if it isn't the offer already. Returns true if it wasn't.
 fn put_answer(master: &mut Master, answer: &[u8]) -> bool
@@ -40,7 +41,7 @@ fn put_answers(masters: &mut [Master], answers: &[Image], changed: &mut ArrayVec
     }
 }
 
-impl Connections {
+impl<M: Allocator> Connections<M> {
     /// Runs one cycle of the application over the inputs, and puts its results as the offers of the masters. The
     /// connections with a changed offer are listed.
     pub(crate) fn run_cycle<A: Application>(&mut self, app: &mut A, ticked: bool)

@@ -1,28 +1,30 @@
 //! A master of many connections.
-ghost use Rattle.std.specs.Prelude.{◌≡◌, ◌≤◌, [], length, option_copied, IfOk, IfErr, IfSome, IsErrAnd, None, OnErr, OnOk, Some};
+ghost use Rattle.std.specs.Prelude.{◌≡◌, ◌≤◌, [], ◌∷◌, ◌++◌, length, option_copied, IfOk, IfErr, IfSome, IsErrAnd, None, OnErr, OnOk, Some};
 ghost use Rattle.std.specs.Result.{result_err};
 ghost use Rattle.end_model.specs.Readiness as model;
+ghost use Rattle.end_model.specs.Setup.{OfMaster, receives, sends};
 ghost use Rattle.multi_master.specs.declared.fault.NewFault.TheVariants as fault;
 
 use crate::cycle::tick_all;
 use crate::fault::NewFault;
-use crate::making::{Connections, first_fault};
+use crate::making::{Connections, first_fault, first_fault_with};
 use arrayvec::ArrayVec;
 use failsafe_io::{Application, Bit};
 use fsoe_base::{Did, FrameBuf, MOST_DATA, State};
 use param_load::{MasterSettings, Terms};
-use std::alloc::Global;
+use std::alloc::{AllocError, Allocator, Global};
 use std::marker::Model;
 
 /// The masters of up to 64 connections. In each cycle the application computes the offers of all of them from the
-/// outputs of all. An event of one connection changes another one only in this way. Only `new` and `connect` allocate.
+/// outputs of all. An event of one connection changes another one only in this way. Only `new`, `connect` and `add`
+/// allocate.
 #[derive(Drop)]
-pub struct MultiMaster<A> {
-    connections: Connections,
+pub struct MultiMaster<A, M: Allocator = Global> {
+    connections: Connections<M>,
     app: A,
 }
 
-impl<A> Model for MultiMaster<A> {
+impl<A, M: Allocator> Model for MultiMaster<A, M> {
     ghost use Rattle.multi_master.specs.Standing.{MultiValue, IsMulti};
 
     ghost Value = { MultiValue A };
@@ -37,17 +39,19 @@ impl<A> Model for MultiMaster<A> {
     ghost invariant = { λ m. let made = m.connections in IsMulti made.masters.items made.inputs.items made.answers.items made.changed.items };
 }
 
-impl<A: Application> MultiMaster<A> {
+impl<A: Application, M: Allocator> MultiMaster<A, M> {
     ghost use Rattle.multi_master.specs.Connection.{setup, connection_outputs, offer_at};
     ghost use Rattle.multi_master.specs.Calls.{AppView, Deliver, Tick, Reset, Nonce, Hold, ChangeApp, app_view};
     ghost use Rattle.multi_master.specs.New.{first_fault};
-    ghost use Rattle.multi_master.specs.Standing.{seen, links, HasLink, StandsFor, Follows, AnswersFrame, AnswersTick, AnswersReset, ShowsAt, ShowsApp, ShowsChanged, AreNumbers, settings_of, settings_at, AllowsId};
+    ghost use Rattle.multi_master.specs.Standing.{seen, links, HasLink, StandsFor, AddsNew, Follows, AnswersFrame, AnswersTick, AnswersReset, ShowsAt, ShowsApp, ShowsChanged, AreNumbers, settings_of, settings_at, AllowsId};
 
     /// Creates the masters of connections with these settings, in this order, each in state Reset, and this
     /// application. No cycle is run: the offers are zeros until the first one. There may be no connection. The first
     /// refusal is returned: more than 64 connections, a duplicate connection id with its positions, no memory. Then
     /// settings and application are dropped.
-    pub fn new(settings: Vec<MasterSettings>, app: A) -> Result<MultiMaster<A>, NewFault>
+    pub fn new(settings: Vec<MasterSettings, M>, app: A) -> Result<MultiMaster<A, M>, NewFault>
+    where
+        M: Copy,
         ensures refused { IfSome (first_fault settings.items) (λ found. result_err result ≡ Some found) }
         ensures memory_alone { IfErr result (λ found. first_fault settings.items ≡ None → found ≡ fault.Memory) }
         ensures stands { IfOk result (λ m. StandsFor settings.items (app_view A.rule A.holds A.guards app) (seen A.rule A.holds A.guards m) []) }
@@ -59,7 +63,9 @@ impl<A: Application> MultiMaster<A> {
     }
 
     /// Creates a master of no connection yet, with this application. Doesn't allocate.
-    pub fn unconnected(alloc: Global, app: A) -> MultiMaster<A>
+    pub fn unconnected(alloc: M, app: A) -> MultiMaster<A, M>
+    where
+        M: Copy,
         ensures { result ≡ record { masters = []; app = app; inputs = []; changed = [] } }
     {
         MultiMaster {
@@ -73,9 +79,31 @@ impl<A: Application> MultiMaster<A> {
         }
     }
 
+    /// Creates a master of no connection yet, with this application, and room for `most` connections: for their masters,
+    /// their outputs, and the results of a cycle for them. Without memory for it, the application is dropped.
+    pub fn within(
+        masters: M,
+        outputs: M,
+        results: M,
+        most: usize,
+        app: A,
+    ) -> Result<MultiMaster<A, M>, AllocError>
+        ensures { IfOk result (λ m. m ≡ record { masters = []; app = app; inputs = []; changed = [] }) }
+    {
+        let connections = Connections {
+            masters: Vec::with_capacity(masters, most)?,
+            inputs: Vec::with_capacity(outputs, most)?,
+            answers: Vec::with_capacity(results, most)?,
+            changed: ArrayVec::new(),
+        };
+        Ok(MultiMaster { connections, app })
+    }
+
     /// Replaces all connections with new ones of these settings, as `new` creates them. The application stays. After a
     /// refusal, as those of `new`, nothing is changed, and the settings are dropped.
-    pub fn connect(&mut self, settings: Vec<MasterSettings>) -> Result<(), NewFault>
+    pub fn connect(&mut self, settings: Vec<MasterSettings, M>) -> Result<(), NewFault>
+    where
+        M: Copy,
         ensures refused { IfSome (first_fault settings.items) (λ found. result_err result ≡ Some found) }
         ensures memory_alone { IfErr result (λ found. first_fault settings.items ≡ None → found ≡ fault.Memory) }
         ensures stands { let seen = seen A.rule A.holds A.guards in OnOk result (StandsFor settings.items (seen self.old).app (seen self.new) []) }
@@ -90,6 +118,26 @@ impl<A: Application> MultiMaster<A> {
             return Err(NewFault::Memory);
         };
         self.connections = connections;
+        Ok(())
+    }
+
+    /// Adds a connection with these settings, the last one. Nothing else changes, and no cycle is run: add connections
+    /// before the first call. After a refusal, as that of `new` for the settings of all, nothing is changed, and the
+    /// settings are dropped.
+    pub fn add(&mut self, settings: MasterSettings) -> Result<(), NewFault>
+        ensures refused { IfSome (first_fault (settings_of self.old ++ settings ∷ [])) (λ found. result_err result ≡ Some found) }
+        ensures memory_alone { IfErr result (λ found. first_fault (settings_of self.old ++ settings ∷ []) ≡ None → found ≡ fault.Memory) }
+        ensures stands { let seen = seen A.rule A.holds A.guards in OnOk result (AddsNew (seen self.old) settings (seen self.new)) }
+        ensures app { self.new.app ≡ self.old.app }
+        ensures settings { OnOk result (settings_of self.new ≡ settings_of self.old ++ settings ∷ []) }
+        ensures kept { OnErr result (self.new ≡ self.old) }
+    {
+        if let Some(found) = first_fault_with(self.connections.masters.as_slice(), &settings) {
+            return Err(found);
+        }
+        let Ok(()) = self.connections.add(settings) else {
+            return Err(NewFault::Memory);
+        };
         Ok(())
     }
 
@@ -243,6 +291,7 @@ impl<A: Application> MultiMaster<A> {
     pub fn outputs(&self, link: u16) -> &[u8]
         requires { HasLink self.now link }
         ensures shown { ShowsAt (seen A.rule A.holds A.guards self.now) link result.now connection_outputs }
+        ensures len { IfSome (settings_at self.now link) (λ s. length result.now ≡ receives (OfMaster s)) }
         ensures most { length result.now ≤ MOST_DATA }
     {
         self.connections.masters[usize::from(link) - 1].outputs()
@@ -277,6 +326,7 @@ impl<A: Application> MultiMaster<A> {
     pub fn offer(&self, link: u16) -> &[u8]
         requires { HasLink self.now link }
         ensures shown { ShowsAt (seen A.rule A.holds A.guards self.now) link result.now offer_at }
+        ensures len { IfSome (settings_at self.now link) (λ s. length result.now ≡ sends (OfMaster s)) }
         ensures most { length result.now ≤ MOST_DATA }
     {
         let master = &self.connections.masters[usize::from(link) - 1];

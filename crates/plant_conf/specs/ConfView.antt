@@ -1,6 +1,6 @@
 -- What contracts see of a configuration.
 use Rattle.std.specs.Prelude.{ℕ, List, map}
-use Rattle.fb_net.specs.declared.spec.BlockSpec.{BlockSpec}
+use Rattle.fb_net.specs.BlockSpec.{BlockSpec}
 use Rattle.fb_net.specs.declared.spec.Drive.{Drive}
 use Rattle.plant_conf.specs.declared.conf.LinkConf.{LinkConf}
 use Rattle.plant_conf.specs.declared.conf.BoundSpec.{BoundSpec}

@@ -1,7 +1,7 @@
 -- What holds of each configuration that was read. It adds nothing to what a configuration means.
 use Rattle.std.specs.Prelude.{List, None, ◌≤◌, length, ◌≡◌, map, ◌<◌}
 use Rattle.std.specs.List.{All}
-use Rattle.fb_net.specs.declared.spec.BlockSpec.{BlockSpec}
+use Rattle.fb_net.specs.BlockSpec.{BlockSpec}
 use Rattle.fb_net.specs.declared.spec.Drive.{Drive}
 use Rattle.fb_net.specs.New.{IsNew}
 use Rattle.plant_conf.specs.declared.conf.BoundSpec.{BoundSpec}

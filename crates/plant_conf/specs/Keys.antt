@@ -3,7 +3,7 @@
 use Rattle.std.specs.Prelude.{ℕ, ◌-◌, ◌^◌, codes, length, List, [], Option, Result, Ok, option_map, unwrap_or}
 use Rattle.toml.specs.Data.{Data, Members, get_member}
 use Rattle.fb_lib.specs.Kept.{block_of}
-use Rattle.fb_net.specs.declared.spec.BlockSpec.{BlockSpec}
+use Rattle.fb_net.specs.BlockSpec.{BlockSpec}
 use Rattle.fb_net.specs.declared.spec.Drive.{Drive}
 use Rattle.param_load.specs.declared.app_rule.AppRule.TheVariants as app_rule
 use Rattle.param_load.specs.declared.profile.Profile.TheVariants as profile

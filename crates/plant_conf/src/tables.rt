@@ -69,7 +69,7 @@ impl FromTable for BoundSpec {
 
 impl FromTable for BlockSpec {
     ghost use Rattle.fb_net.specs.New.{IsNew};
-    ghost use Rattle.fb_net.specs.declared.spec.BlockSpec.{BlockSpec};
+    ghost use Rattle.fb_net.specs.BlockSpec.{BlockSpec};
     ghost use Rattle.plant_conf.specs.Keys.{block};
 
     ghost Values = { BlockSpec };

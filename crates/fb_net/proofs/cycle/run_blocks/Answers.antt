@@ -5,13 +5,13 @@ use Rattle.fb_net.proofs.Looking.{can_run}
 use Rattle.fb_net.proofs.cycle.run_blocks.Goals as goal
 
 pub step_block-requires : goal.step_block-requires
-step_block-requires c =
+step_block-requires _ c =
     let b = c.index-blocks-i.result in
     rw (same_at c.loop-i.blocks c.args.blocks.now c.loop-i.i b (omega arith) c.loop-i.invariant.rest)
     ((ready_at c.args.blocks.now c.loop-i.i b c.requires.can_run.ready (omega arith)).takes)
 
 pub loop-i-preserved : goal.loop-i-preserved
-loop-i-preserved c =
+loop-i-preserved _ c =
     let within : c.loop-i.i < length c.loop-i.blocks = omega arith in
     let cycle : NetCycle = record { ticked = c.args.ticked; inputs = c.args.inputs.now } in
     let b = c.index-blocks-i.result in
@@ -21,7 +21,7 @@ loop-i-preserved c =
     search (rules, rest_after, values_more, blocks_more)
 
 pub returns-clause-can_run : goal.returns-clause-can_run
-returns-clause-can_run c =
+returns-clause-can_run _ c =
     let cycle : NetCycle = record { ticked = c.args.ticked; inputs = c.args.inputs.now } in
     can_run c.args.blocks.now c.loop-i.blocks cycle c.requires.can_run
     (blocks_all c.loop-i.blocks c.args.blocks.now c.loop-i.i (take c.loop-i.i c.loop-i.values) cycle c.loop-i.auto.blocks c.loop-i-test.false c.loop-i.invariant.blocks)

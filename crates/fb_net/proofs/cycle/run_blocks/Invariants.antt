@@ -3,7 +3,7 @@ use Rattle.std.proofs.Common.{◌≡◌, ◌++◌, [], take, drop}
 use Rattle.fb_net.proofs.cycle.run_blocks.Given as goal
 
 abbrev pub invariant-loop-i : goal.invariant-loop-i
-invariant-loop-i l = record {
+invariant-loop-i _ l = record {
   rest : drop l.i l.blocks ≡ drop l.i l.fn.blocks;
   values : run_values (take l.i l.values) (record { ticked = l.ticked; inputs = l.inputs }) (drop l.i l.fn.blocks)
       ≡ run_values [] (record { ticked = l.ticked; inputs = l.inputs }) l.fn.blocks;

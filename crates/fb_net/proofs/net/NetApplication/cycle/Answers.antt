@@ -7,7 +7,7 @@ use Rattle.fb_net.proofs.Looking.{values_are, blocks_stand}
 use Rattle.fb_net.proofs.net.NetApplication.cycle.Goals as goal
 
 pub returns : goal.returns
-returns c =
+returns _ c =
     let ran = c.run.ensures in
     let old = c.args.self.now in
     let d : NetCycle = record { ticked = c.args.ticked; inputs = c.args.inputs.now } in
