@@ -1,0 +1,3 @@
+mod Pairs
+mod Taken
+pub mod Steps
