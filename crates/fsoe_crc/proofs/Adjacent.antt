@@ -7,7 +7,7 @@ use Rattle.fsoe_crc.proofs.Xor.{xor_cancel_left}
 use Rattle.fsoe_crc.proofs.Linear.{byte_xor, byte-below, fed_bytes-append, fed_bytes-below, fed_bytes-injective, fed_bits-injective, sixteen_zeros-are_bits}
 
 -- where no bit leaves, feeding spells a number
-fed_spells : (v b n : ℕ) → 2 * v + b ≡ n → n < 0x10000 → fed v b ≡ n
+pub fed_spells : (v b n : ℕ) → 2 * v + b ≡ n → n < 0x10000 → fed v b ≡ n
 unfolding fed
 fed_spells v b n e h = rw e (sym (cond_below n 0x10000 n (bit_xor n 0x139B7) h))
 

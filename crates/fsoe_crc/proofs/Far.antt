@@ -55,7 +55,7 @@ made_odd made m linear e =
     let more : m / 2 * 2 + 1 ≡ m = omega arith in
     ap made (sym (xor_shifted (m / 2) 1 1 (lit< tt) ∙ more)) ∙ linear (m / 2 * 2) 1 ∙ xor_comm (made (m / 2 * 2)) (made 1)
 
-far_enough : (made : ℕ → ℕ) (k n m value : ℕ) → IsLinear made → m < 2 ^ k → far (columns made k) n value ≡ true → n ≤ count_ones m + count_ones (bit_xor value (made m))
+pub far_enough : (made : ℕ → ℕ) (k n m value : ℕ) → IsLinear made → m < 2 ^ k → far (columns made k) n value ≡ true → n ≤ count_ones m + count_ones (bit_xor value (made m))
 unfolding far columns
 far_enough made zero n m value linear h e =
     let nothing : m ≡ 0 = omega arith in

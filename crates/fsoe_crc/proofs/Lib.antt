@@ -6,6 +6,7 @@ pub mod Swapped
 pub mod ByTable
 pub mod BitsLemmas
 pub mod TwoParts
+pub mod Backwards
 pub mod Xored
 pub mod Far
 pub mod Weight

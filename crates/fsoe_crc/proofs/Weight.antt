@@ -8,7 +8,7 @@ use Rattle.fsoe_crc.specs.Turned.{turned_bits}
 use Rattle.fsoe_crc.proofs.Xor.{xor_zero_eq}
 use Rattle.fsoe_crc.proofs.Linear.{xored}
 use Rattle.fsoe_crc.proofs.Xored.{rem-xored}
-use Rattle.fsoe_crc.proofs.Far.{ones_below, columns, far, all_far, IsLinear, all_enough}
+use Rattle.fsoe_crc.proofs.Far.{ones_below, columns, far, all_far, IsLinear, all_enough, far_enough}
 
 -- the bytes of a number that begin at these bits of it
 abbrev pub bytes_at : List ℕ → ℕ → List ℕ
@@ -35,18 +35,33 @@ pub weight : (ks bytes : List ℕ) (k n m : ℕ) → all_far (columns (crc_at ks
 unfolding crc_at
 weight ks bytes k n m all h some e = rw (sym e) (all_enough (crc_at ks) k n m (crc_at-linear ks) h some all)
 
+-- what each bit of two data bytes makes of a CRC
+unfoldable pub pair_columns : List ℕ
+unfolding columns crc_at
+pair_columns = columns (crc_at (8 ∷ 0 ∷ 16 ∷ 16 ∷ 16 ∷ [])) 16
+
 pair_computed : all_far (columns (crc_at (8 ∷ 0 ∷ 16 ∷ 16 ∷ 16 ∷ [])) 16) 5 ≡ true
 unfolding all_far far ones_below columns crc_at computing
 pair_computed = refl
 
-six : (x y : ℕ) → x < 256 → y < 256 → (x ≡ 0 → y ≢ 0) → 6 ≤ count_ones x + count_ones y + count_ones (rem (x ∷ y ∷ 0 ∷ 0 ∷ 0 ∷ []))
-six x y hx hy some =
+-- two bytes as one number
+pair_at : (x y : ℕ) → x < 256 → y < 256 → bytes_at (8 ∷ 0 ∷ 16 ∷ 16 ∷ 16 ∷ []) (x * 256 + y) ≡ x ∷ y ∷ 0 ∷ 0 ∷ 0 ∷ []
+pair_at x y hx hy =
     let m : ℕ = x * 256 + y in
     let high : m / 2 ^ 8 % 256 ≡ x = omega arith in
     let low : m / 2 ^ 0 % 256 ≡ y = omega arith in
     let none : m / 2 ^ 16 % 256 ≡ 0 = omega arith in
-    rw (sym (ones_cat 8 x y hy))
-    (weight _ (x ∷ y ∷ 0 ∷ 0 ∷ 0 ∷ []) 16 5 m pair_computed (omega arith) (λ e. some (omega arith) (omega arith)) (λ i. high i ∷ low i ∷ none i ∷ none i ∷ none i ∷ []))
+    λ i. high i ∷ low i ∷ none i ∷ none i ∷ none i ∷ []
+
+-- of any two bytes, and of their CRC together with a value
+pub pair_with : (n value x y : ℕ) → x < 256 → y < 256 → far pair_columns n value ≡ true → n ≤ count_ones x + count_ones y + count_ones (bit_xor value (rem (x ∷ y ∷ 0 ∷ 0 ∷ 0 ∷ [])))
+unfolding pair_columns crc_at
+pair_with n value x y hx hy e =
+    rw (sym (ones_cat 8 x y hy), sym (pair_at x y hx hy)) (far_enough (crc_at (8 ∷ 0 ∷ 16 ∷ 16 ∷ 16 ∷ [])) 16 n (x * 256 + y) value (crc_at-linear (8 ∷ 0 ∷ 16 ∷ 16 ∷ 16 ∷ [])) (omega arith) e)
+
+six : (x y : ℕ) → x < 256 → y < 256 → (x ≡ 0 → y ≢ 0) → 6 ≤ count_ones x + count_ones y + count_ones (rem (x ∷ y ∷ 0 ∷ 0 ∷ 0 ∷ []))
+six x y hx hy some =
+    rw (sym (ones_cat 8 x y hy)) (weight _ (x ∷ y ∷ 0 ∷ 0 ∷ 0 ∷ []) 16 5 (x * 256 + y) pair_computed (omega arith) (λ e. some (omega arith) (omega arith)) (pair_at x y hx hy))
 
 pub pair_turned : (before : List ℕ) (a b c d : ℕ) → a < 256 → b < 256 → c < 256 → d < 256 → (a ≡ c → b ≢ d)
     → 6 ≤ turned_bits a c + turned_bits b d + turned_bits (rem (before ++ a ∷ b ∷ 0 ∷ 0 ∷ 0 ∷ [])) (rem (before ++ c ∷ d ∷ 0 ∷ 0 ∷ 0 ∷ []))

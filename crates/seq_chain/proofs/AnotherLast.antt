@@ -1,9 +1,10 @@
 -- A frame after another CRC_0 that was taken last.
-use Rattle.seq_chain.proofs.Common.{Frame, Link, SteppedAlikeAfter, cover, crc_0, fed_bits-injective, fed_bytes-append, fed_bytes-below, fed_bytes-injective, first_of, fits, low_high, place, rem-xored, sixteen_zeros-are_bits, step_in_last, xor_comm, xor_lt, xor_mod, xor_self, xor_shr}
+use Rattle.seq_chain.proofs.Common.{Frame, Link, SteppedAlikeAfter, cover, crc_0, first_of, fits, step_in_last, xor_comm, xor_lt}
 use Rattle.fsoe_crc.specs.Remainder.{computing, rem}
-use Rattle.std.proofs.Common.{◌≡◌, ◌≢◌, ℕ, ◌/◌, ◌%◌, ◌<◌, List, [], ◌∷◌, ◌++◌, length, bit_xor, false, Option, Some, None, IsTrue, refl, sym, ap, ◌∙◌, lit<, rules}
+use Rattle.std.proofs.Common.{◌≡◌, ◌≢◌, ℕ, ◌<◌, List, [], ◌∷◌, length, bit_xor, false, Option, Some, None, IsTrue, refl, sym, ap, ◌∙◌, lit<, rules}
 use Rattle.seq_chain.proofs.ToldApart.{last_told, first_alike, first_group, word_told}
 use Rattle.seq_chain.proofs.OneChange.{unlike_refused}
+use Rattle.seq_chain.proofs.Misplaced.{cancel}
 
 -- under one number the CRC_0 after two differ
 one_number : (last last' conn n cmd : ℕ) (load : List ℕ) → last < 65536 → last' < 65536 → last ≢ last' → 0 < length load → crc_0 last conn n cmd load ≢ crc_0 last' conn n cmd load
@@ -19,11 +20,6 @@ another_refused last last' before f h h' other some steps right =
 pub first_refused : (last last' : ℕ) (f : Frame) → last < 65536 → last' < 65536 → last ≢ last' → 0 < length f.load → IsTrue (fits last None f) → fits last' None f ≡ false
 first_refused last last' f h h' other some right = another_refused last last' None f h h' other some refl right
 
--- where two lists with one end have one CRC, what comes before the end has one too
-before_end : (xs ys end : List ℕ) → rem (xs ++ end) ≡ rem (ys ++ end) → rem xs ≡ rem ys
-unfolding rem
-before_end xs ys end h = search (rules, fed_bits-injective, fed_bytes-below, sixteen_zeros-are_bits, fed_bytes-injective, fed_bytes-append)
-
 pub step_is_nothing : rem (0xB6 ∷ 0x72 ∷ 0 ∷ 0 ∷ 1 ∷ 0 ∷ []) ≡ 0
 unfolding computing
 step_is_nothing = refl
@@ -31,12 +27,7 @@ step_is_nothing = refl
 -- where a CRC is the same under the numbers 2 and 3, the CRC_0 taken last differ by the step
 differ_by_step : (last last' conn cmd i : ℕ) (group : List ℕ) → last < 65536 → last' < 65536 → rem (cover last conn 2 cmd i group) ≡ rem (cover last' conn 3 cmd i group) → bit_xor last last' ≡ step_in_last
 differ_by_step last last' conn cmd i group h h' e =
-    let xs : List ℕ = low_high last ++ low_high conn ++ low_high 2 in
-    let ys : List ℕ = low_high last' ++ low_high conn ++ low_high 3 in
-    let same : rem xs ≡ rem ys = before_end xs ys (cmd ∷ place i ++ group ++ 0 ∷ 0 ∷ 0 ∷ []) e in
-    word_told [] (0 ∷ 0 ∷ 1 ∷ 0 ∷ []) (bit_xor last last') step_in_last (xor_lt 16 last last' h h') (lit< tt)
-    ((λ j. rem (xor_mod last last' 8 j ∷ xor_shr last last' 8 j ∷ sym (xor_self (conn % 256)) j ∷ sym (xor_self (conn / 256)) j ∷ 1 ∷ 0 ∷ []))
-    ∙ sym (rem-xored [] xs ys refl) ∙ ap (bit_xor (rem xs)) (sym same) ∙ xor_self (rem xs) ∙ sym step_is_nothing)
+    word_told [] (0 ∷ 0 ∷ 1 ∷ 0 ∷ []) (bit_xor last last') step_in_last (xor_lt 16 last last' h h') (lit< tt) (cancel last last' conn 2 3 cmd i group e ∙ sym step_is_nothing)
 
 -- the numbers 2 and 3 give a frame different CRC_0 too, unless the CRC_0 taken last differ by the step
 stepped_once : (last last' conn cmd : ℕ) (load : List ℕ) → last < 65536 → last' < 65536 → 0 < length load → bit_xor last last' ≢ step_in_last → crc_0 last conn 2 cmd load ≢ crc_0 last' conn 3 cmd load

@@ -11,7 +11,7 @@ pub use Rattle.fsoe_frame.proofs.Places.{frame_at, frame_len_other, pair_left, w
 pub use Rattle.fsoe_frame.specs.Layout.{groups}
 pub use Rattle.fsoe_frame.specs.Parts.{AreBytes, Frame, frame_of, one_byte, pairs}
 pub use Rattle.seq_chain.specs.Cover.{common, cover, covered, crc_0, crcs, crcs_from, first_of, place}
-pub use Rattle.seq_chain.specs.Differences.{DifferAt, DifferInCommand, DifferInConnection, DifferInCrc, DifferInGroup, DifferInGroups, SteppedAlike, steps_again, turned_in_frames, turned_within}
+pub use Rattle.seq_chain.specs.Differences.{CancelsOut, DifferAsData, DifferAt, DifferEverywhere, DifferInCommand, DifferInConnection, DifferInCrc, DifferInGroup, DifferInGroups, SteppedAlike, steps_again, turned_in_frames, turned_within}
 pub use Rattle.seq_chain.specs.FreshIds.{SteppedAlikeAfter, first_number, step_in_last, step_in_load}
 pub use Rattle.seq_chain.specs.Numbered.{IsNumbered}
 pub use Rattle.seq_chain.specs.Numbers.{next, number_of, repeats_crc}

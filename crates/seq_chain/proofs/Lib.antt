@@ -5,6 +5,8 @@ pub mod Steps
 pub mod OneChange
 pub mod FirstTurned
 pub mod FewTurned
+pub mod StepTurned
+pub mod Misplaced
 pub mod AnotherLast
 pub mod FirstGroups
 pub mod BothFit

@@ -1,7 +1,7 @@
 //! What the chain always detects. The calls do nothing: each law is a contract. The extra increment is that of the
 //! number for an equal CRC_0.
 
-ghost use Rattle.std.specs.Prelude.{◌≡◌, ◌≢◌, ◌<◌, ◌≤◌, ℕ, List, [], ◌∷◌, length, take, Option, Some, None, IfSome, IsTrue, false, bit_xor};
+ghost use Rattle.std.specs.Prelude.{◌≡◌, ◌≢◌, ◌<◌, ◌≤◌, ◌⊎◌, ℕ, List, [], ◌∷◌, length, take, Option, Some, None, IfSome, IsTrue, false, bit_xor};
 ghost use Rattle.fsoe_crc.specs.Remainder.{rem};
 ghost use Rattle.fsoe_base.specs.Lengths.{is_length, frame_len};
 ghost use Rattle.fsoe_frame.specs.Parts.{Frame, AreBytes, frame_of};
@@ -13,7 +13,7 @@ ghost use Rattle.seq_chain.specs.Cover.{cover, crc_0, first_of};
 ghost use Rattle.seq_chain.specs.Numbers.{next, number_of};
 ghost use Rattle.seq_chain.specs.Sealing.{sealed, noted, fits};
 ghost use Rattle.seq_chain.specs.BothFit.{noted_before, stepped_frame, other_frame};
-ghost use Rattle.seq_chain.specs.Differences.{DifferInCommand, DifferInConnection, DifferInGroup, DifferInCrc, DifferInGroups, turned_in_frames, SteppedAlike};
+ghost use Rattle.seq_chain.specs.Differences.{CancelsOut, DifferAsData, DifferEverywhere, DifferInCommand, DifferInConnection, DifferInGroup, DifferInCrc, DifferInGroups, turned_in_frames, SteppedAlike};
 ghost use Rattle.seq_chain.specs.FreshIds.{first_number, SteppedAlikeAfter, step_in_last, step_in_load};
 
 /// If two covers (inputs of a CRC) differ in one part only, their CRCs differ. A part is the CRC_0 taken last, the
@@ -62,17 +62,29 @@ pub fn one_change_stepped_alike()
 {}
 
 /// Let frame A fit, and let frame B differ from A only in data and CRC fields, in one to five bits. Then B doesn't fit,
-/// provided that the data of the first group are equal, or that the extra increment comes for both or for neither. With
-/// the latter condition no frame fits that differs from A in one to three bits anywhere.
-#[tactic(auto, using(crate::proofs::FewTurned::groups_refused, crate::proofs::FewTurned::first_refused))]
+/// provided that there are two groups or more, that the data of the first group are equal, or that the extra increment
+/// comes for both or for neither. Where they differ in one or two bits, no condition is needed. With the last condition
+/// no frame fits that differs from A in one to three bits anywhere.
+#[tactic(auto, using(crate::proofs::FewTurned::groups_refused, crate::proofs::FewTurned::first_refused, crate::proofs::StepTurned::two_refused, crate::proofs::StepTurned::any_refused))]
 pub fn few_turned_bits()
+    ensures two_groups { (last : ℕ) (before : Option Link) (f g : Frame) → IfSome before (λ link. link.number < 65536) → 4 ≤ length f.load → AreBytes f.load → AreBytes g.load → IsTrue (fits last before f) → DifferInGroups f g → turned_in_frames f g < 6 → fits last before g ≡ false }
+    ensures any_groups { (last : ℕ) (before : Option Link) (f g : Frame) → IfSome before (λ link. link.number < 65536) → 0 < length f.load → AreBytes f.load → AreBytes g.load → IsTrue (fits last before f) → DifferInGroups f g → turned_in_frames f g < 3 → fits last before g ≡ false }
     ensures later_groups { (last : ℕ) (before : Option Link) (f g : Frame) → AreBytes f.load → AreBytes g.load → IsTrue (fits last before f) → DifferInGroups f g → take 2 f.load ≡ take 2 g.load → turned_in_frames f g < 6 → fits last before g ≡ false }
     ensures groups { (last : ℕ) (before : Option Link) (f g : Frame) → AreBytes f.load → AreBytes g.load → IsTrue (fits last before f) → DifferInGroups f g → SteppedAlike last before f g → turned_in_frames f g < 6 → fits last before g ≡ false }
     ensures anywhere { (last : ℕ) (before : Option Link) (f g : Frame) → f.cmd < 256 → g.cmd < 256 → f.conn < 65536 → g.conn < 65536 → 0 < length f.load → length f.load ≡ length g.load → AreBytes f.load → AreBytes g.load → IsTrue (fits last before f) → f ≢ g → SteppedAlike last before f g → turned_in_frames f g < 4 → fits last before g ≡ false }
 {}
 
-/// That condition is needed: there are two frames that differ only in the data of the first group and both fit after
-/// the same frames. Only one of their numbers is incremented once more.
+/// In state Data an end takes only data frames (ProcessData, FailSafeData) of its connection id. Let A and B be such
+/// frames that differ in one to five bits, wherever these are, and let A fit. Then B doesn't fit, provided that there
+/// are two groups or more. With one group it doesn't fit if they differ in one or two bits.
+#[tactic(auto, using(crate::proofs::StepTurned::two_refused_as_data, crate::proofs::StepTurned::any_refused_as_data))]
+pub fn few_turned_bits_in_data()
+    ensures two_groups { (last : ℕ) (before : Option Link) (f g : Frame) → IfSome before (λ link. link.number < 65536) → 4 ≤ length f.load → AreBytes f.load → AreBytes g.load → IsTrue (fits last before f) → DifferAsData f g → turned_in_frames f g < 6 → fits last before g ≡ false }
+    ensures any_groups { (last : ℕ) (before : Option Link) (f g : Frame) → IfSome before (λ link. link.number < 65536) → 0 < length f.load → AreBytes f.load → AreBytes g.load → IsTrue (fits last before f) → DifferAsData f g → turned_in_frames f g < 3 → fits last before g ≡ false }
+{}
+
+/// The condition on the extra increment is needed: there are two frames that differ only in the data of the first group
+/// and both fit after the same frames. Only one of their numbers is incremented once more.
 #[tactic(auto, using(crate::proofs::BothFit::stepped_fits, crate::proofs::BothFit::other_fits))]
 pub fn proviso_is_needed()
     ensures one_fits { IsTrue (fits 0x672D noted_before stepped_frame) }
@@ -88,6 +100,14 @@ pub fn another_last()
     ensures stepped_alike { (last last' : ℕ) (before : Option Link) (f : Frame) → last < 65536 → last' < 65536 → last ≢ last' → 0 < length f.load → SteppedAlikeAfter last last' before f → IsTrue (fits last before f) → fits last' before f ≡ false }
     ensures first { (last last' : ℕ) (f : Frame) → last < 65536 → last' < 65536 → last ≢ last' → 0 < length f.load → IsTrue (fits last None f) → fits last' None f ≡ false }
     ensures second { (last last' crc : ℕ) (f : Frame) → last < 65536 → last' < 65536 → last ≢ last' → bit_xor last last' ≢ step_in_last → 0 < length f.load → IsTrue (fits last (Some (record { number = 1; crc = crc })) f) → fits last' (Some (record { number = 1; crc = crc })) f ≡ false }
+{}
+
+/// A frame that fitted at one time fits at another in every group or in none: all its CRCs are right, or none is. And
+/// for each two numbers exactly one exclusive-or of the CRC_0 taken last, of 65,536, makes a frame fit under both.
+#[tactic(auto, using(crate::proofs::Misplaced::every_or_none, crate::proofs::Misplaced::one_cancels))]
+pub fn misplaced_frames()
+    ensures every_group_or_none { (last last' : ℕ) (before before' : Option Link) (f : Frame) → IsTrue (fits last before f) → IsTrue (fits last' before' f) ⊎ DifferEverywhere f.crcs (sealed last' before' f.conn f.cmd f.load).crcs }
+    ensures one_exclusive_or { (number number' : ℕ) → (change : ℕ) × CancelsOut change number number' }
 {}
 
 /// Loads of one length with different first groups have different CRC_0 under the same number. So have two candidates
