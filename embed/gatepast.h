@@ -13,6 +13,7 @@
  *
  *     void follow(void) {                                   (after each step)
  *         uint8_t outputs[MASTER_LEN] = {0};
+ *         if (did.used) fail();                             (before anything is sent)
  *         if (gp_slave_terms(&slave, &terms) == GP_OK && (terms.conn != CONNECTION || ..) &&
  *             gp_slave_reset(&slave, &out, &did) != GP_OK) fail();
  *         if (gp_slave_outputs(&slave, outputs, sizeof outputs) != GP_OK) fail();
@@ -38,9 +39,9 @@
  * A program that was late counts all ticks before it delivers what waited: else old data switch outputs on. A master's
  * loop is the same, with gp_master_accept and gp_master_reply if it decides in between. fail() switches off and ends.
  * A slave takes any connection id: compare the terms. The library never makes a session id: your program gives a fresh
- * one before each session. If it doesn't, nothing shows it: the old id comes again, and old frames may pass. Each
- * reset takes an id: stop after too many. Whole loops are examples/drive.c, controller.c; udp_drive.c,
- * udp_controller.c over UDP; cyclic.c over an image.
+ * one before each session. If it forgets that, the old id comes again, and old frames may pass. Nothing but did.used
+ * shows it, which knows only the session before, since gp_.._init. Each reset takes an id: stop after too many. Whole
+ * loops are examples/drive.c, controller.c; udp_drive.c, udp_controller.c over UDP; cyclic.c over an image.
  *
  * Frames
  *     A frame of n safe data bytes has 2 * n + 3 bytes, or 6 if n is 1. Deliver it whole, without what the bus adds.
@@ -58,17 +59,16 @@
  *     Each call returns a number of enum gp_answer, except gp_version, gp_.._size and gp_.._align. GP_OK says that the
  *     call was done. Every other number says why it was refused. A refused call changed nothing: neither the end, nor
  *     what the pointers lead to, so `out` still has the frame of the step before. If there are several reasons, GP_NO_END
- *     and GP_BUSY come first, then GP_FRAME_DUE.
+ *     and GP_BUSY come first, then GP_NO_ROOM and GP_FRAME_DUE.
  *
  * What you owe
  *     The code of each call is proved to do what this page says, provided that:
- *     1. A handle is set by GP_SLAVE_IN or GP_MASTER_IN before its first call, to memory that no other handle has. This is
- *        a gp_slave_memory or gp_master_memory, or as many bytes at an address that gp_.._align() divides; before
- *        gp_.._init it may contain anything. From then on only these calls change the handle, and the memory as long as an
- *        end is there. The memory stays where it is until gp_.._end; the handle may be moved. Memory without an end may be
- *        used again or freed. So may the memory of an end that is not needed any more, also without gp_.._end: then set
- *        its handle anew before any other call. A handle of zeros answers GP_NO_END, and lets gp_.._init write to null:
- *        that is tried, but not proved.
+ *     1. A handle is zeros, or is set by GP_SLAVE_IN or GP_MASTER_IN before its first call, to null or to memory that no
+ *        other handle has. This is a gp_slave_memory or gp_master_memory, or as many bytes at an address that
+ *        gp_.._align() divides; before gp_.._init it may contain anything. From then on only these calls change the
+ *        handle, and the memory as long as an end is there. The memory stays where it is until gp_.._end; the handle may
+ *        be moved. Memory without an end may be used again or freed. So may the memory of an end that is not needed any
+ *        more, also without gp_.._end: then set its handle anew before any other call.
  *     2. Each other pointer leads to an object of its type, or to as many bytes as the number beside it says. All of it has
  *        values, also what is only written to: `= {0}` and static storage give them. If that number is 0, the pointer is
  *        not followed; null there is tried, but not proved.
@@ -116,11 +116,11 @@ extern "C" {
 #endif
 
 /* The version of this header: one more with each change of a call, a number, a size or a struct in it. */
-#define GP_VERSION 1
+#define GP_VERSION 2
 
 /* The memory of an end. gp_slave_size() and gp_master_size() return the same numbers. */
-#define GP_SLAVE_SIZE 2872
-#define GP_MASTER_SIZE 2320
+#define GP_SLAVE_SIZE 2888
+#define GP_MASTER_SIZE 2336
 
 /* The most safe data bytes of a frame, bytes of a frame, and bytes of application parameters. */
 #define GP_MOST_DATA 126
@@ -145,7 +145,8 @@ enum gp_answer {
     GP_FRAME_DUE = 11,   /* deliver, accept, tick, reset of a master: a frame is due. Call reply, and then this again: a
                             refused tick is not counted */
     GP_NONE_DUE = 12,    /* reply: no frame is due */
-    GP_NOT_IN_DATA = 13  /* terms: the end is not in state GP_DATA */
+    GP_NOT_IN_DATA = 13, /* terms: the end is not in state GP_DATA */
+    GP_NO_ROOM = 14      /* init: the handle has no memory: it is null */
 };
 
 /* The states of an end, in the order of a session. */
@@ -210,6 +211,8 @@ typedef struct gp_did {
     uint8_t dropped;            /* enum gp_dropped */
     uint8_t load_len;           /* the safe data of the frame that was taken are the first load_len bytes of load */
     uint8_t load[GP_MOST_DATA]; /* those behind them are never written */
+    uint8_t used;               /* 1: a session begins with this step, and its id is that of this end's session before;
+                                   after accept as if reply followed at once. Then don't send: the id isn't fresh */
 } gp_did;
 
 /* What the ends of a session agreed on. */
@@ -285,9 +288,9 @@ size_t gp_slave_align(void);
 /* Creates a slave in its memory, in state GP_RESET, with offer and outputs of zeros, and fail-safe data off. It
    accepts as application parameters any app_len bytes, or only those at app. By the third call it accepts as many bytes as
    low and high have, each from low to high at its place.
-   The first fault is returned, here and by gp_master_init. GP_BUSY is first, then GP_BAD_APP for more than 512 bytes at
-   app, low or high. The others come by their numbers, so GP_BAD_APP for app_len of gp_slave_init, or for ranges that do
-   not match, is last. */
+   The first fault is returned, here and by gp_master_init. GP_BUSY is first, then GP_NO_ROOM, then GP_BAD_APP for more
+   than 512 bytes at app, low or high. The others come by their numbers, so GP_BAD_APP for app_len of gp_slave_init, or
+   for ranges that do not match, is last. */
 GP_CHECKED uint8_t gp_slave_init(gp_slave *slave, const gp_slave_settings *set, uint16_t app_len);
 GP_CHECKED uint8_t gp_slave_init_exact(gp_slave *slave, const gp_slave_settings *set, const uint8_t *app, size_t app_len);
 GP_CHECKED uint8_t gp_slave_init_ranges(gp_slave *slave, const gp_slave_settings *set, const uint8_t *low, size_t low_len,
@@ -316,7 +319,7 @@ GP_CHECKED uint8_t gp_slave_put(gp_slave *slave, const uint8_t *load, size_t loa
 GP_CHECKED uint8_t gp_slave_hold(gp_slave *slave, bool failsafe);
 
 /* Sets the id of all sessions whose first Session frame is sent after this call. It outlasts resets: give a fresh one
-   after each did.reset, else the next session has the same one again. */
+   after each did.reset, else the next session has the same one again, and did.used is 1 when it begins. */
 GP_CHECKED uint8_t gp_slave_nonce(gp_slave *slave, uint32_t id);
 
 /* Readers: they change nothing at the slave. */
@@ -406,9 +409,10 @@ GP_CHECKED uint8_t gp_master_held(gp_master *master, uint8_t *held);
 /* The library was built for this layout. */
 GP_ASSERT(sizeof(size_t) == 8 && sizeof(void *) == 8 && sizeof(bool) == 1, "a target with 64-bit pointers");
 GP_ASSERT(sizeof(gp_frame) == 264 && offsetof(gp_frame, bytes) == 8, "gp_frame");
-GP_ASSERT(sizeof(gp_did) == 133 && offsetof(gp_did, took) == 0 && offsetof(gp_did, passed) == 1 &&
+GP_ASSERT(sizeof(gp_did) == 134 && offsetof(gp_did, took) == 0 && offsetof(gp_did, passed) == 1 &&
               offsetof(gp_did, sent) == 2 && offsetof(gp_did, reset) == 3 && offsetof(gp_did, code) == 4 &&
-              offsetof(gp_did, dropped) == 5 && offsetof(gp_did, load_len) == 6 && offsetof(gp_did, load) == 7,
+              offsetof(gp_did, dropped) == 5 && offsetof(gp_did, load_len) == 6 && offsetof(gp_did, load) == 7 &&
+              offsetof(gp_did, used) == 133,
           "gp_did");
 GP_ASSERT(sizeof(gp_terms) == 524 && offsetof(gp_terms, conn) == 0 && offsetof(gp_terms, address) == 2 &&
               offsetof(gp_terms, watchdog) == 4 && offsetof(gp_terms, word) == 6 && offsetof(gp_terms, app_len) == 8 &&

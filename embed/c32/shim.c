@@ -73,7 +73,7 @@ static void put_number(size_t place, uint32_t number) {
 
 static void put_end(const void *end, size_t size, bool live) {
     begin();
-    put_number(HANDLE, END);
+    put_number(HANDLE, end == NULL ? 0 : END);
     put_number(HANDLE + LIVE, live);
     if (live) put(END, end, size);
 }

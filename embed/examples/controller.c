@@ -116,6 +116,7 @@ static void follow(void) {
 static void came(const uint8_t *frame, size_t len) {
     uint8_t is_due = 0;
     if (gp_master_accept(&master, frame, len, &did) != GP_OK) stop("no master");
+    if (did.used) stop("a session id comes again");
     if (gp_master_due(&master, &is_due) != GP_OK) stop("no master");
     decide();
     if (is_due) {

@@ -95,6 +95,7 @@ static void drive_motor(bool on) {
 static void drive_follows(struct image *image) {
     static uint16_t id = 2;
     uint8_t outputs[LEN] = {0};
+    if (did.used) stop("a session id comes again");
     if (gp_slave_outputs(&slave, outputs, LEN) != GP_OK) stop("no outputs");
     drive_motor(outputs[0] & 1);
     slot_write(&image->to_controller, &out);
@@ -139,6 +140,7 @@ static gp_master master = GP_MASTER_IN(&master_memory);
 
 static void controller_follows(struct image *image) {
     static uint16_t id = 1;
+    if (did.used) stop("a session id comes again");
     slot_write(&image->to_drive, &out);
     exchanges += did.took == GP_COMMAND_PROCESS_DATA;
     if (did.reset == GP_NO_RESET) return;

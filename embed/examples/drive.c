@@ -121,6 +121,7 @@ static void interlock(uint8_t outputs[MASTER_LEN]) {
 static void follow(void) {
     static unsigned resets;
     uint8_t outputs[MASTER_LEN] = {0};
+    if (did.used) stop("a session id comes again");
     look_at_terms();
     if (gp_slave_outputs(&slave, outputs, sizeof outputs) != GP_OK) stop("no outputs");
     interlock(outputs);

@@ -49,6 +49,7 @@ static void look_at_terms(void) {
 /* After each step: first the outputs, then the frame, and last what may take long. */
 static void follow(void) {
     uint8_t outputs[MASTER_LEN] = {0};
+    if (did.used) stop("a session id comes again");
     look_at_terms();
     if (gp_slave_outputs(&slave, outputs, sizeof outputs) != GP_OK) stop("no outputs");
     drive_motor(outputs);

@@ -51,7 +51,8 @@ static void stepped(int end, uint8_t answer) {
     add_number(answer);
     add_number((uint32_t)out.len);
     add(out.bytes, sizeof out.bytes);
-    const uint8_t parts[7] = {did.took, did.passed, did.sent, did.reset, did.code, did.dropped, did.load_len};
+    const uint8_t parts[8] = {did.took, did.passed,  did.sent,     did.reset,
+                              did.code, did.dropped, did.load_len, did.used};
     add(parts, sizeof parts);
     add(did.load, sizeof did.load);
     if (answer != GP_OK) return;

@@ -78,20 +78,26 @@ static void no_master(void) {
     MUST(out.len == 7 && did.took == 7 && terms.conn == 7 && flag == 7 && age == 7 && data[0] == 7);
 }
 
-/* The same at handles of zeros, as static storage gives them. */
+static const gp_slave_settings good_slave = {
+    .master_len = 2, .slave_len = 4, .address = 2, .hand = 200, .most = 1000, .profile = 1, .nonce = 2};
+static const gp_master_settings good_master = {
+    .master_len = 2, .slave_len = 4, .conn = 1, .address = 2, .watchdog = 100, .profile = 1, .nonce = 1};
+
+/* The same at handles of zeros, as static storage gives them; and no end is made there, whatever else is wrong. */
 static void no_memory(void) {
     slave = (gp_slave)GP_SLAVE_IN(NULL);
     master = (gp_master)GP_MASTER_IN(NULL);
     no_slave();
     no_master();
+    ANSWERS(GP_NO_ROOM, gp_slave_init(&slave, &good_slave, 0));
+    ANSWERS(GP_NO_ROOM, gp_slave_init_exact(&slave, &good_slave, data, GP_MOST_APP + 1));
+    ANSWERS(GP_NO_ROOM, gp_slave_init_ranges(&slave, &good_slave, data, 1, data, 2));
+    ANSWERS(GP_NO_ROOM, gp_master_init(&master, &good_master, data, GP_MOST_APP + 1));
+    no_slave();
+    no_master();
     slave = (gp_slave)GP_SLAVE_IN(&slave_memory);
     master = (gp_master)GP_MASTER_IN(&master_memory);
 }
-
-static const gp_slave_settings good_slave = {
-    .master_len = 2, .slave_len = 4, .address = 2, .hand = 200, .most = 1000, .profile = 1, .nonce = 2};
-static const gp_master_settings good_master = {
-    .master_len = 2, .slave_len = 4, .conn = 1, .address = 2, .watchdog = 100, .profile = 1, .nonce = 1};
 
 /* One setting is bad: the answer names it, and no slave is made. */
 #define BAD_SLAVE(wanted, field, value)                       \
@@ -310,6 +316,51 @@ static void terms_of_a_session(void) {
     ANSWERS(GP_OK, gp_master_end(&master));
 }
 
+/* Both ends reset, and a session begins: whether master and slave tell that it has the id of the one before. */
+static void session_begins(uint8_t at_master, uint8_t at_slave) {
+    ANSWERS(GP_OK, gp_master_reset(&master, &frame, &did));
+    MUST(did.used == 0);
+    ANSWERS(GP_OK, gp_slave_deliver(&slave, frame.bytes, frame.len, &out, &did));
+    MUST(did.used == 0 && out.bytes[0] == GP_COMMAND_RESET);
+    ANSWERS(GP_OK, gp_master_deliver(&master, out.bytes, out.len, &frame, &did));
+    MUST(did.used == at_master && frame.bytes[0] == GP_COMMAND_SESSION);
+    ANSWERS(GP_OK, gp_slave_deliver(&slave, frame.bytes, frame.len, &out, &did));
+    MUST(did.used == at_slave && out.bytes[0] == GP_COMMAND_SESSION);
+    ANSWERS(GP_OK, gp_slave_tick(&slave, &frame, &did));
+    MUST(did.used == 0);
+}
+
+/* An end tells that a session begins with the id of the one before, and knows no more of its ids. */
+static void used_ids(void) {
+    ANSWERS(GP_OK, gp_slave_init(&slave, &good_slave, 0));
+    ANSWERS(GP_OK, gp_master_init(&master, &good_master, NULL, 0));
+    session_begins(0, 0);
+    session_begins(1, 1);
+    ANSWERS(GP_OK, gp_slave_nonce(&slave, 4));
+    session_begins(1, 0);
+    ANSWERS(GP_OK, gp_master_nonce(&master, 3));
+    session_begins(0, 1);
+    ANSWERS(GP_OK, gp_master_nonce(&master, 5));
+    ANSWERS(GP_OK, gp_master_nonce(&master, 3));
+    ANSWERS(GP_OK, gp_slave_nonce(&slave, 2));
+    session_begins(1, 0);
+    /* after accept the id is told as it is then, and reply sends the one that was set last */
+    ANSWERS(GP_OK, gp_master_reset(&master, &frame, &did));
+    ANSWERS(GP_OK, gp_slave_deliver(&slave, frame.bytes, frame.len, &out, &did));
+    ANSWERS(GP_OK, gp_master_accept(&master, out.bytes, out.len, &did));
+    MUST(did.used == 1);
+    ANSWERS(GP_OK, gp_master_nonce(&master, 7));
+    ANSWERS(GP_OK, gp_master_reply(&master, &frame));
+    MUST(frame.bytes[0] == GP_COMMAND_SESSION && frame.bytes[1] == 7);
+    session_begins(1, 1);
+    /* a new end knows no session before */
+    ANSWERS(GP_OK, gp_master_end(&master));
+    ANSWERS(GP_OK, gp_master_init(&master, &good_master, NULL, 0));
+    session_begins(0, 1);
+    ANSWERS(GP_OK, gp_slave_end(&slave));
+    ANSWERS(GP_OK, gp_master_end(&master));
+}
+
 int main(void) {
     MUST(gp_version() == GP_VERSION && gp_slave_size() == GP_SLAVE_SIZE && gp_master_size() == GP_MASTER_SIZE);
     MUST(gp_slave_align() == _Alignof(gp_slave_memory) && gp_master_align() == _Alignof(gp_master_memory));
@@ -324,6 +375,7 @@ int main(void) {
     for (size_t i = 0; i < sizeof data; i++) data[i] = (uint8_t)i;
     greatest_numbers();
     terms_of_a_session();
+    used_ids();
     printf("%u answers as they are to be\n", tried);
     return 0;
 }

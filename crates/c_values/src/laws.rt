@@ -1,6 +1,6 @@
 //! Which numbers C code is answered by. The call does nothing: the law is its contract.
 ghost use Rattle.std.specs.Prelude.{◌≡◌};
-ghost use Rattle.c_values.specs.declared.numbers.TheConstants.{OK, NO_END, BUSY, BAD_LENGTH, BAD_PROFILE, BAD_NONCE, BAD_CONN, BAD_WATCHDOG, BAD_HAND, BAD_MOST, BAD_APP, FRAME_DUE, NONE_DUE, NOT_IN_DATA};
+ghost use Rattle.c_values.specs.declared.numbers.TheConstants.{OK, NO_END, BUSY, BAD_LENGTH, BAD_PROFILE, BAD_NONCE, BAD_CONN, BAD_WATCHDOG, BAD_HAND, BAD_MOST, BAD_APP, FRAME_DUE, NONE_DUE, NOT_IN_DATA, NO_ROOM};
 
 /// The answers are the numbers of `enum gp_answer` in `embed/gatepast.h`.
 pub fn answers()
@@ -18,4 +18,5 @@ pub fn answers()
     ensures frame_due { FRAME_DUE ≡ 11 }
     ensures none_due { NONE_DUE ≡ 12 }
     ensures not_in_data { NOT_IN_DATA ≡ 13 }
+    ensures no_room { NO_ROOM ≡ 14 }
 {}

@@ -48,6 +48,9 @@ pub const NONE_DUE: u8 = 12;
 /// The end isn't in state Data.
 pub const NOT_IN_DATA: u8 = 13;
 
+/// The handle has no memory.
+pub const NO_ROOM: u8 = 14;
+
 /// The number of why settings are refused.
 pub fn bad_number(why: BadSetting) -> u8
     ensures conn { why ≡ bad.Conn → result ≡ BAD_CONN }

@@ -33,6 +33,8 @@ pub struct GpDid {
     /// The safe data of the frame that was taken are the first `load_len` bytes of `load`.
     pub load_len: u8,
     pub load: [u8; 126],
+    /// 1 if a session begins with this step whose id is that of the session before it.
+    pub used: u8,
 }
 
 /// What the ends of a session agreed on.
@@ -71,7 +73,7 @@ impl GpFrame {
 
 impl GpDid {
     ghost use Rattle.std.specs.Prelude.{take};
-    ghost use Rattle.c_values.specs.Numbers.{took_number, reset_number, code_number};
+    ghost use Rattle.c_values.specs.Numbers.{flag, took_number, reset_number, code_number};
     ghost use Rattle.c_values.specs.Told.{took_load};
 
     /// Says this of the frame that was taken. The bytes behind its data stay.
@@ -95,12 +97,24 @@ impl GpDid {
         }
     }
 
-    /// Says what this step did. The bytes behind the data of a frame stay.
+    /// Says what this step did, with which no session begins with a used id. The bytes behind the data of a frame stay.
     pub fn set(&mut self, did: &Did)
         ensures did { ShowsDid self.new did.now }
+        ensures unused { self.new.used ≡ 0 }
+        ensures past { drop self.new.load_len self.new.load ≡ drop self.new.load_len self.old.load }
+    {
+        self.set_with_id(did, false);
+    }
+
+    /// Says what this step did, and whether the session that begins with it has a used id. The bytes behind the data of
+    /// a frame stay.
+    pub fn set_with_id(&mut self, did: &Did, used: bool)
+        ensures did { ShowsDid self.new did.now }
+        ensures used { self.new.used ≡ flag used }
         ensures past { drop self.new.load_len self.new.load ≡ drop self.new.load_len self.old.load }
     {
         self.set_took(&did.took);
+        self.used = flag(used);
         self.passed = flag(did.passed);
         self.sent = flag(did.sent);
         (self.reset, self.code) = match did.reset {

@@ -1,4 +1,5 @@
 pub mod Handle
+pub mod Ids
 pub mod Lent
 pub mod Settings
 pub mod Told

@@ -3,4 +3,4 @@ use Rattle.std.specs.Prelude.{ℕ}
 
 -- one more with each change of a call, a number, a size or a struct of the header
 abbrev pub version : ℕ
-version = 1
+version = 2

@@ -5,6 +5,7 @@
 //! do.
 #![tactic(auto)]
 
+mod ids;
 mod lent;
 pub mod master;
 mod master_place;

@@ -4,21 +4,22 @@ ghost use Rattle.param_load.specs.Profile.{allows_id};
 ghost use Rattle.param_load.specs.declared.entry.Move.TheVariants as event;
 ghost use Rattle.end_model.specs.Setup.{OfMaster, sends};
 ghost use Rattle.master_core.specs.Now.{is_due};
-ghost use Rattle.master_core.specs.Standing.{Follows};
+ghost use Rattle.master_core.specs.Standing.{Follows, MasterIsAfter};
 ghost use Rattle.master_core.specs.Waiting.{Keeps, Replies};
 ghost use Rattle.fsoe_c.specs.Handle.{IsAtRest, IsSoundMaster};
 ghost use Rattle.c_values.specs.Numbers.{flag};
-ghost use Rattle.c_values.specs.Place.{Between, IfThere, answered, served};
+ghost use Rattle.c_values.specs.Place.{Between, IfThere, answered, has_memory, served};
 ghost use Rattle.c_values.specs.Settings.{master_refusal};
+ghost use Rattle.fsoe_c.specs.Ids.{IdsFollow, IdsKeep, IdsReply};
 ghost use Rattle.fsoe_c.specs.Settings.{IsNewMaster};
 ghost use Rattle.c_values.specs.Told.{frame_of, leads_on};
 ghost use Rattle.fsoe_c.specs.Told.{AcceptsTelling, MasterTells};
 
-use crate::lent::lent;
+use crate::lent::{lent, vacant};
 use crate::master_place::MasterPlace;
 use crate::master_room::MasterRoom;
 use c_values::numbers::{
-    BAD_APP, BAD_LENGTH, BAD_NONCE, BUSY, FRAME_DUE, NO_END, NONE_DUE, OK, flag,
+    BAD_APP, BAD_LENGTH, BAD_NONCE, BUSY, FRAME_DUE, NO_END, NO_ROOM, NONE_DUE, OK, flag,
 };
 use c_values::settings::{GpMasterSettings, app_of, master_settings};
 use c_values::told::{GpDid, GpFrame};
@@ -34,7 +35,7 @@ pub struct GpMaster {
 /// The bytes of memory that a master takes, `GP_MASTER_SIZE` in the header.
 #[unsafe(no_mangle)]
 pub extern "C" fn gp_master_size() -> usize
-    ensures { result ≡ 2320 }
+    ensures { result ≡ 2336 }
 {
     size_of::<MasterRoom>()
 }
@@ -52,15 +53,13 @@ pub extern "C" fn gp_master_align() -> usize
 pub extern "C" fn gp_master_init(master: &mut GpMaster, set: &GpMasterSettings, app: &[u8]) -> u8
     requires { IsSoundMaster master.old }
     ensures sound { IsSoundMaster master.new }
-    ensures answer { result ≡ (if master.old.live then BUSY else if nat_le (length app.now) 512 then master_refusal set.now else BAD_APP) }
+    ensures answer { result ≡ (if master.old.live then BUSY else if has_memory master.old.place.at then if nat_le (length app.now) 512 then master_refusal set.now else BAD_APP else NO_ROOM) }
     ensures live { result ≡ OK → master.new.live ≡ true }
     ensures made { result ≡ OK → IfThere master.new.place.master (IsNewMaster set.now app.now) }
     ensures rest { result ≡ OK → IsAtRest master.new.place.master }
     ensures refused { result ≢ OK → master.new ≡ master.old }
 {
-    if master.live {
-        return BUSY;
-    }
+    vacant!(master);
     let Some(app) = app_of(app) else {
         return BAD_APP;
     };
@@ -94,7 +93,7 @@ pub extern "C" fn gp_master_end(master: &mut GpMaster) -> u8
 /// Delivers a frame of the slave, of any number of bytes. Writes the result to `did`, and the frame to send to `out`,
 /// empty if none is sent.
 #[unsafe(no_mangle)]
-#[tactic(auto, using(c_values::proofs::Places::vacuous, c_values::proofs::Places::unserved, c_values::proofs::Places::passes, c_values::proofs::Places::fails, crate::proofs::Places::tells))]
+#[tactic(auto, using(c_values::proofs::Places::vacuous, c_values::proofs::Places::unserved, c_values::proofs::Places::passes, c_values::proofs::Places::fails))]
 pub extern "C" fn gp_master_deliver(
     master: &mut GpMaster,
     frame: &[u8],
@@ -104,9 +103,10 @@ pub extern "C" fn gp_master_deliver(
     requires { IsSoundMaster master.old }
     ensures sound { IsSoundMaster master.new }
     ensures same { master.new.live ≡ master.old.live }
-    ensures answer { result ≡ answered master.old.place.master (λ old. not (is_due old.state)) FRAME_DUE }
+    ensures answer { result ≡ answered master.old.place.master (λ old. not (is_due old.core.state)) FRAME_DUE }
     ensures rest { result ≡ OK → IsAtRest master.new.place.master }
-    ensures follows { result ≡ OK → Between master.old.place.master master.new.place.master (λ old new. Follows old (event.Deliver frame.now) new) }
+    ensures follows { result ≡ OK → Between master.old.place.master master.new.place.master (λ old new. Follows old.core (event.Deliver frame.now) new.core) }
+    ensures ids { result ≡ OK → Between master.old.place.master master.new.place.master (λ old new. IdsFollow MasterIsAfter OfMaster old (event.Deliver frame.now) new) }
     ensures tells { result ≡ OK → IfThere master.old.place.master (λ old. MasterTells old (event.Deliver frame.now) did.old did.new out.old out.new) }
     ensures refused { result ≢ OK → (master.new ≡ master.old) × (out.new ≡ out.old) × (did.new ≡ did.old) }
 {
@@ -116,8 +116,9 @@ pub extern "C" fn gp_master_deliver(
     }
     room.master
         .deliver_into(frame, &mut room.heard, &mut room.sent);
+    let used = room.ids.note(room.master.state());
     out.set(&room.sent);
-    did.set(&room.heard);
+    did.set_with_id(&room.heard, used);
     OK
 }
 
@@ -129,9 +130,9 @@ pub extern "C" fn gp_master_accept(master: &mut GpMaster, frame: &[u8], did: &mu
     requires { IsSoundMaster master.old }
     ensures sound { IsSoundMaster master.new }
     ensures same { master.new.live ≡ master.old.live }
-    ensures answer { result ≡ answered master.old.place.master (λ old. not (is_due old.state)) FRAME_DUE }
+    ensures answer { result ≡ answered master.old.place.master (λ old. not (is_due old.core.state)) FRAME_DUE }
     ensures accepts { result ≡ OK → Between master.old.place.master master.new.place.master (λ old new. AcceptsTelling old frame.now did.new new) }
-    ensures due_told { result ≡ OK → IfThere master.new.place.master (λ new. is_due new.state ≡ leads_on did.new) }
+    ensures due_told { result ≡ OK → IfThere master.new.place.master (λ new. is_due new.core.state ≡ leads_on did.new) }
     ensures unsent { result ≡ OK → did.new.sent ≡ 0 }
     ensures past_load { drop did.new.load_len did.new.load ≡ drop did.new.load_len did.old.load }
     ensures refused { result ≢ OK → (master.new ≡ master.old) × (did.new ≡ did.old) }
@@ -141,7 +142,10 @@ pub extern "C" fn gp_master_accept(master: &mut GpMaster, frame: &[u8], did: &mu
         return FRAME_DUE;
     }
     room.master.accept_into(frame, &mut room.heard);
-    did.set(&room.heard);
+    let used = room
+        .ids
+        .note_accepted(room.master.state(), room.master.due());
+    did.set_with_id(&room.heard, used);
     OK
 }
 
@@ -152,7 +156,7 @@ pub extern "C" fn gp_master_due(master: &mut GpMaster, due: &mut u8) -> u8
     requires { IsSoundMaster master.old }
     ensures unchanged { master.new ≡ master.old }
     ensures answer { result ≡ served master.old.live }
-    ensures due { result ≡ OK → IfThere master.old.place.master (λ old. due.new ≡ flag (is_due old.state)) }
+    ensures due { result ≡ OK → IfThere master.old.place.master (λ old. due.new ≡ flag (is_due old.core.state)) }
     ensures refused { result ≢ OK → due.new ≡ due.old }
 {
     let room = lent!(master);
@@ -167,9 +171,10 @@ pub extern "C" fn gp_master_reply(master: &mut GpMaster, out: &mut GpFrame) -> u
     requires { IsSoundMaster master.old }
     ensures sound { IsSoundMaster master.new }
     ensures same { master.new.live ≡ master.old.live }
-    ensures answer { result ≡ answered master.old.place.master (λ old. is_due old.state) NONE_DUE }
+    ensures answer { result ≡ answered master.old.place.master (λ old. is_due old.core.state) NONE_DUE }
     ensures rest { result ≡ OK → IsAtRest master.new.place.master }
-    ensures replies { result ≡ OK → Between master.old.place.master master.new.place.master (λ old new. Replies old new (frame_of out.new)) }
+    ensures replies { result ≡ OK → Between master.old.place.master master.new.place.master (λ old new. Replies old.core new.core (frame_of out.new)) }
+    ensures ids { result ≡ OK → Between master.old.place.master master.new.place.master IdsReply }
     ensures len { result ≡ OK → out.new.len ≤ 255 }
     ensures past_out { drop out.new.len out.new.bytes ≡ drop out.new.len out.old.bytes }
     ensures refused { result ≢ OK → (master.new ≡ master.old) × (out.new ≡ out.old) }
@@ -179,20 +184,22 @@ pub extern "C" fn gp_master_reply(master: &mut GpMaster, out: &mut GpFrame) -> u
         return NONE_DUE;
     }
     room.master.reply(&mut room.sent);
+    room.ids.note(room.master.state());
     out.set(&room.sent);
     OK
 }
 
 /// Counts a tick. Writes the result to `did`, and the frame to send to `out`, empty if none is sent.
 #[unsafe(no_mangle)]
-#[tactic(auto, using(c_values::proofs::Places::vacuous, c_values::proofs::Places::unserved, c_values::proofs::Places::passes, c_values::proofs::Places::fails, crate::proofs::Places::tells))]
+#[tactic(auto, using(c_values::proofs::Places::vacuous, c_values::proofs::Places::unserved, c_values::proofs::Places::passes, c_values::proofs::Places::fails))]
 pub extern "C" fn gp_master_tick(master: &mut GpMaster, out: &mut GpFrame, did: &mut GpDid) -> u8
     requires { IsSoundMaster master.old }
     ensures sound { IsSoundMaster master.new }
     ensures same { master.new.live ≡ master.old.live }
-    ensures answer { result ≡ answered master.old.place.master (λ old. not (is_due old.state)) FRAME_DUE }
+    ensures answer { result ≡ answered master.old.place.master (λ old. not (is_due old.core.state)) FRAME_DUE }
     ensures rest { result ≡ OK → IsAtRest master.new.place.master }
-    ensures follows { result ≡ OK → Between master.old.place.master master.new.place.master (λ old new. Follows old event.Tick new) }
+    ensures follows { result ≡ OK → Between master.old.place.master master.new.place.master (λ old new. Follows old.core event.Tick new.core) }
+    ensures ids { result ≡ OK → Between master.old.place.master master.new.place.master (λ old new. IdsFollow MasterIsAfter OfMaster old event.Tick new) }
     ensures tells { result ≡ OK → IfThere master.old.place.master (λ old. MasterTells old event.Tick did.old did.new out.old out.new) }
     ensures refused { result ≢ OK → (master.new ≡ master.old) × (out.new ≡ out.old) × (did.new ≡ did.old) }
 {
@@ -201,21 +208,23 @@ pub extern "C" fn gp_master_tick(master: &mut GpMaster, out: &mut GpFrame, did: 
         return FRAME_DUE;
     }
     room.master.tick_into(&mut room.ticked, &mut room.sent);
+    let used = room.ids.note(room.master.state());
     out.set(&room.sent);
-    did.set(&room.ticked);
+    did.set_with_id(&room.ticked, used);
     OK
 }
 
 /// Ends the session, if there is one. Writes the result to `did`, and the Reset frame to send to `out`.
 #[unsafe(no_mangle)]
-#[tactic(auto, using(c_values::proofs::Places::vacuous, c_values::proofs::Places::unserved, c_values::proofs::Places::passes, c_values::proofs::Places::fails, crate::proofs::Places::tells))]
+#[tactic(auto, using(c_values::proofs::Places::vacuous, c_values::proofs::Places::unserved, c_values::proofs::Places::passes, c_values::proofs::Places::fails))]
 pub extern "C" fn gp_master_reset(master: &mut GpMaster, out: &mut GpFrame, did: &mut GpDid) -> u8
     requires { IsSoundMaster master.old }
     ensures sound { IsSoundMaster master.new }
     ensures same { master.new.live ≡ master.old.live }
-    ensures answer { result ≡ answered master.old.place.master (λ old. not (is_due old.state)) FRAME_DUE }
+    ensures answer { result ≡ answered master.old.place.master (λ old. not (is_due old.core.state)) FRAME_DUE }
     ensures rest { result ≡ OK → IsAtRest master.new.place.master }
-    ensures follows { result ≡ OK → Between master.old.place.master master.new.place.master (λ old new. Follows old event.Local new) }
+    ensures follows { result ≡ OK → Between master.old.place.master master.new.place.master (λ old new. Follows old.core event.Local new.core) }
+    ensures ids { result ≡ OK → Between master.old.place.master master.new.place.master (λ old new. IdsFollow MasterIsAfter OfMaster old event.Local new) }
     ensures tells { result ≡ OK → IfThere master.old.place.master (λ old. MasterTells old event.Local did.old did.new out.old out.new) }
     ensures refused { result ≢ OK → (master.new ≡ master.old) × (out.new ≡ out.old) × (did.new ≡ did.old) }
 {
@@ -224,22 +233,24 @@ pub extern "C" fn gp_master_reset(master: &mut GpMaster, out: &mut GpFrame, did:
         return FRAME_DUE;
     }
     let done = room.master.reset(&mut room.sent);
+    let used = room.ids.note(room.master.state());
     out.set(&room.sent);
-    did.set(&done);
+    did.set_with_id(&done, used);
     OK
 }
 
 /// Sets the safe data to send from now on, as many bytes as the master's frames carry. The offer outlasts resets.
 #[unsafe(no_mangle)]
-#[tactic(auto, using(c_values::proofs::Places::vacuous, c_values::proofs::Places::unserved, c_values::proofs::Places::passes, c_values::proofs::Places::fails))]
+#[tactic(auto, using(c_values::proofs::Places::vacuous, c_values::proofs::Places::unserved, c_values::proofs::Places::passes, c_values::proofs::Places::fails, crate::proofs::Places::ids_keep))]
 pub extern "C" fn gp_master_put(master: &mut GpMaster, load: &[u8]) -> u8
     requires { IsSoundMaster master.old }
     ensures sound { IsSoundMaster master.new }
     ensures same { master.new.live ≡ master.old.live }
-    ensures answer { result ≡ answered master.old.place.master (λ old. length load.now == sends (OfMaster old.kit.settings)) BAD_LENGTH }
-    ensures follows { result ≡ OK → Between master.old.place.master master.new.place.master (λ old new. Follows old (event.Put load.now) new) }
-    ensures keeps { result ≡ OK → Between master.old.place.master master.new.place.master (λ old new. Keeps old (event.Put load.now) new) }
-    ensures due { Between master.old.place.master master.new.place.master (λ old new. is_due new.state ≡ is_due old.state) }
+    ensures answer { result ≡ answered master.old.place.master (λ old. length load.now == sends (OfMaster old.core.kit.settings)) BAD_LENGTH }
+    ensures follows { result ≡ OK → Between master.old.place.master master.new.place.master (λ old new. Follows old.core (event.Put load.now) new.core) }
+    ensures ids { result ≡ OK → Between master.old.place.master master.new.place.master (λ old new. IdsKeep OfMaster old.ids (event.Put load.now) new.ids) }
+    ensures keeps { result ≡ OK → Between master.old.place.master master.new.place.master (λ old new. Keeps old.core (event.Put load.now) new.core) }
+    ensures due { Between master.old.place.master master.new.place.master (λ old new. is_due new.core.state ≡ is_due old.core.state) }
     ensures refused { result ≢ OK → master.new ≡ master.old }
 {
     let room = lent!(master);
@@ -252,15 +263,16 @@ pub extern "C" fn gp_master_put(master: &mut GpMaster, load: &[u8]) -> u8
 
 /// Switches fail-safe data on or off: while on, zeros are sent in place of the offer. It outlasts resets.
 #[unsafe(no_mangle)]
-#[tactic(auto, using(c_values::proofs::Places::vacuous))]
+#[tactic(auto, using(c_values::proofs::Places::vacuous, crate::proofs::Places::ids_keep))]
 pub extern "C" fn gp_master_hold(master: &mut GpMaster, failsafe: bool) -> u8
     requires { IsSoundMaster master.old }
     ensures sound { IsSoundMaster master.new }
     ensures same { master.new.live ≡ master.old.live }
     ensures answer { result ≡ served master.old.live }
-    ensures follows { result ≡ OK → Between master.old.place.master master.new.place.master (λ old new. Follows old (event.Hold failsafe) new) }
-    ensures keeps { result ≡ OK → Between master.old.place.master master.new.place.master (λ old new. Keeps old (event.Hold failsafe) new) }
-    ensures due { Between master.old.place.master master.new.place.master (λ old new. is_due new.state ≡ is_due old.state) }
+    ensures follows { result ≡ OK → Between master.old.place.master master.new.place.master (λ old new. Follows old.core (event.Hold failsafe) new.core) }
+    ensures ids { result ≡ OK → Between master.old.place.master master.new.place.master (λ old new. IdsKeep OfMaster old.ids (event.Hold failsafe) new.ids) }
+    ensures keeps { result ≡ OK → Between master.old.place.master master.new.place.master (λ old new. Keeps old.core (event.Hold failsafe) new.core) }
+    ensures due { Between master.old.place.master master.new.place.master (λ old new. is_due new.core.state ≡ is_due old.core.state) }
     ensures refused { result ≢ OK → master.new ≡ master.old }
 {
     let room = lent!(master);
@@ -271,15 +283,16 @@ pub extern "C" fn gp_master_hold(master: &mut GpMaster, failsafe: bool) -> u8
 /// Sets the id of all sessions whose first Session frame is sent after this call, at most 65,535 in profile One. It
 /// outlasts resets: give a fresh one before each session.
 #[unsafe(no_mangle)]
-#[tactic(auto, using(c_values::proofs::Places::vacuous, c_values::proofs::Places::unserved, c_values::proofs::Places::passes, c_values::proofs::Places::fails))]
+#[tactic(auto, using(c_values::proofs::Places::vacuous, c_values::proofs::Places::unserved, c_values::proofs::Places::passes, c_values::proofs::Places::fails, crate::proofs::Places::ids_keep))]
 pub extern "C" fn gp_master_nonce(master: &mut GpMaster, id: u32) -> u8
     requires { IsSoundMaster master.old }
     ensures sound { IsSoundMaster master.new }
     ensures same { master.new.live ≡ master.old.live }
-    ensures answer { result ≡ answered master.old.place.master (λ old. allows_id old.kit.settings.profile id) BAD_NONCE }
-    ensures follows { result ≡ OK → Between master.old.place.master master.new.place.master (λ old new. Follows old (event.Nonce id) new) }
-    ensures keeps { result ≡ OK → Between master.old.place.master master.new.place.master (λ old new. Keeps old (event.Nonce id) new) }
-    ensures due { Between master.old.place.master master.new.place.master (λ old new. is_due new.state ≡ is_due old.state) }
+    ensures answer { result ≡ answered master.old.place.master (λ old. allows_id old.core.kit.settings.profile id) BAD_NONCE }
+    ensures follows { result ≡ OK → Between master.old.place.master master.new.place.master (λ old new. Follows old.core (event.Nonce id) new.core) }
+    ensures ids { result ≡ OK → Between master.old.place.master master.new.place.master (λ old new. IdsKeep OfMaster old.ids (event.Nonce id) new.ids) }
+    ensures keeps { result ≡ OK → Between master.old.place.master master.new.place.master (λ old new. Keeps old.core (event.Nonce id) new.core) }
+    ensures due { Between master.old.place.master master.new.place.master (λ old new. is_due new.core.state ≡ is_due old.core.state) }
     ensures refused { result ≢ OK → master.new ≡ master.old }
 {
     let room = lent!(master);
@@ -287,5 +300,6 @@ pub extern "C" fn gp_master_nonce(master: &mut GpMaster, id: u32) -> u8
         return BAD_NONCE;
     }
     room.master.nonce(id);
+    room.ids.nonce = id;
     OK
 }

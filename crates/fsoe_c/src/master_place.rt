@@ -1,8 +1,9 @@
-//! Memory of the caller's that holds a master, or has room for one.
-ghost use Rattle.std.specs.Prelude.{◌≡◌, Option, Some, None, IsSome};
+//! Memory of the caller's that holds a master, or has room for one. A place at null has none.
+ghost use Rattle.std.specs.Prelude.{◌≡◌, not, Option, Some, None, IsSome, IsTrue};
 ghost use Rattle.std.specs.Coded.{coded_option};
 ghost use Rattle.std.specs.Borrow.{sem};
 ghost use Rattle.master_core.specs.MasterView.{MasterView};
+ghost use Rattle.fsoe_c.specs.Ids.{WithIds};
 ghost use Rattle.fsoe_c.specs.contracts.master_room.MasterRoom.{the_row};
 
 use crate::master_room::MasterRoom;
@@ -12,7 +13,7 @@ use std::marker::Model;
 #[repr(C)]
 pub struct MasterPlace {
     at: *mut u8,
-    pub ghost master: { Option MasterView } by { coded_option the_row.coded },
+    pub ghost master: { Option (WithIds MasterView) } by { coded_option the_row.coded },
 }
 
 impl Model for MasterPlace {
@@ -23,7 +24,15 @@ impl Model for MasterPlace {
 }
 
 impl MasterPlace {
+    ghost use Rattle.c_values.specs.Place.{has_memory};
     ghost use Rattle.fsoe_c.specs.Lent.{lends_master};
+
+    /// Whether it has no memory.
+    pub(crate) fn is_null(&mut self) -> bool
+        ensures { (self.new ≡ self.old) × (result ≡ not (has_memory self.old.at)) }
+    {
+        self.at.is_null()
+    }
 
     /// Lets the master go: its memory is room again.
     pub(crate) fn clear(&mut self)
@@ -33,7 +42,7 @@ impl MasterPlace {
 
     /// Moves a master in.
     pub(crate) fn put(&mut self, x: MasterRoom)
-        requires { self.old.master ≡ None }
+        requires { (self.old.master ≡ None) × IsTrue (has_memory self.old.at) }
         ensures { self.new ≡ record self.old { master = Some x } }
     {
         unsafe { (self.at as *mut MasterRoom).write(x) }

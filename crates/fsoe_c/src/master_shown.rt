@@ -22,8 +22,8 @@ pub extern "C" fn gp_master_state(master: &mut GpMaster, state: &mut u8) -> u8
     requires { IsSoundMaster master.old }
     ensures unchanged { master.new ≡ master.old }
     ensures answer { result ≡ served master.old.live }
-    ensures shown { result ≡ OK → IfThere master.old.place.master (λ old. Shows old state.new (λ setup deeds. state_number (model.state_of setup deeds))) }
-    ensures shown_due { result ≡ OK → IfThere master.old.place.master (λ old. ShowsDue old state.new (λ setup deeds. state_number (model.state_of setup deeds))) }
+    ensures shown { result ≡ OK → IfThere master.old.place.master (λ old. Shows old.core state.new (λ setup deeds. state_number (model.state_of setup deeds))) }
+    ensures shown_due { result ≡ OK → IfThere master.old.place.master (λ old. ShowsDue old.core state.new (λ setup deeds. state_number (model.state_of setup deeds))) }
     ensures refused { result ≢ OK → state.new ≡ state.old }
 {
     let room = lent!(master);
@@ -37,9 +37,9 @@ pub extern "C" fn gp_master_state(master: &mut GpMaster, state: &mut u8) -> u8
 pub extern "C" fn gp_master_outputs(master: &mut GpMaster, outputs: &mut [u8]) -> u8
     requires { IsSoundMaster master.old }
     ensures unchanged { master.new ≡ master.old }
-    ensures answer { result ≡ answered master.old.place.master (λ old. length outputs.old == receives (OfMaster old.kit.settings)) BAD_LENGTH }
-    ensures shown { result ≡ OK → IfThere master.old.place.master (λ old. Shows old outputs.new looking_back.out) }
-    ensures shown_due { result ≡ OK → IfThere master.old.place.master (λ old. ShowsDue old outputs.new looking_back.out) }
+    ensures answer { result ≡ answered master.old.place.master (λ old. length outputs.old == receives (OfMaster old.core.kit.settings)) BAD_LENGTH }
+    ensures shown { result ≡ OK → IfThere master.old.place.master (λ old. Shows old.core outputs.new looking_back.out) }
+    ensures shown_due { result ≡ OK → IfThere master.old.place.master (λ old. ShowsDue old.core outputs.new looking_back.out) }
     ensures refused { result ≢ OK → outputs.new ≡ outputs.old }
 {
     let room = lent!(master);
@@ -55,9 +55,9 @@ pub extern "C" fn gp_master_outputs(master: &mut GpMaster, outputs: &mut [u8]) -
 pub extern "C" fn gp_master_offer(master: &mut GpMaster, offer: &mut [u8]) -> u8
     requires { IsSoundMaster master.old }
     ensures unchanged { master.new ≡ master.old }
-    ensures answer { result ≡ answered master.old.place.master (λ old. length offer.old == sends (OfMaster old.kit.settings)) BAD_LENGTH }
-    ensures shown { result ≡ OK → IfThere master.old.place.master (λ old. Shows old offer.new model.offer) }
-    ensures shown_due { result ≡ OK → IfThere master.old.place.master (λ old. ShowsDue old offer.new model.offer) }
+    ensures answer { result ≡ answered master.old.place.master (λ old. length offer.old == sends (OfMaster old.core.kit.settings)) BAD_LENGTH }
+    ensures shown { result ≡ OK → IfThere master.old.place.master (λ old. Shows old.core offer.new model.offer) }
+    ensures shown_due { result ≡ OK → IfThere master.old.place.master (λ old. ShowsDue old.core offer.new model.offer) }
     ensures refused { result ≢ OK → offer.new ≡ offer.old }
 {
     let room = lent!(master);
@@ -75,10 +75,10 @@ pub extern "C" fn gp_master_terms(master: &mut GpMaster, terms: &mut GpTerms) ->
     ensures unchanged { master.new ≡ master.old }
     ensures none { master.old.live ≡ false → result ≡ NO_END }
     ensures either { master.old.live ≡ true → IsTrue (result == OK || result == NOT_IN_DATA) }
-    ensures other { result ≡ NOT_IN_DATA → IfThere master.old.place.master (λ old. Shows old None model.told_terms) }
-    ensures other_due { result ≡ NOT_IN_DATA → IfThere master.old.place.master (λ old. ShowsDue old None model.told_terms) }
-    ensures shown { result ≡ OK → IfThere master.old.place.master (λ old. MasterShowsTerms old terms.new) }
-    ensures shown_due { result ≡ OK → IfThere master.old.place.master (λ old. MasterShowsTermsDue old terms.new) }
+    ensures other { result ≡ NOT_IN_DATA → IfThere master.old.place.master (λ old. Shows old.core None model.told_terms) }
+    ensures other_due { result ≡ NOT_IN_DATA → IfThere master.old.place.master (λ old. ShowsDue old.core None model.told_terms) }
+    ensures shown { result ≡ OK → IfThere master.old.place.master (λ old. MasterShowsTerms old.core terms.new) }
+    ensures shown_due { result ≡ OK → IfThere master.old.place.master (λ old. MasterShowsTermsDue old.core terms.new) }
     ensures past { drop terms.new.app_len terms.new.app ≡ drop terms.new.app_len terms.old.app }
     ensures refused { result ≢ OK → terms.new ≡ terms.old }
 {
@@ -96,8 +96,8 @@ pub extern "C" fn gp_master_age(master: &mut GpMaster, age: &mut u16) -> u8
     requires { IsSoundMaster master.old }
     ensures unchanged { master.new ≡ master.old }
     ensures answer { result ≡ served master.old.live }
-    ensures shown { result ≡ OK → IfThere master.old.place.master (λ old. Shows old age.new model.age) }
-    ensures shown_due { result ≡ OK → IfThere master.old.place.master (λ old. ShowsDue old age.new model.age) }
+    ensures shown { result ≡ OK → IfThere master.old.place.master (λ old. Shows old.core age.new model.age) }
+    ensures shown_due { result ≡ OK → IfThere master.old.place.master (λ old. ShowsDue old.core age.new model.age) }
     ensures refused { result ≢ OK → age.new ≡ age.old }
 {
     let room = lent!(master);
@@ -112,8 +112,8 @@ pub extern "C" fn gp_master_held(master: &mut GpMaster, held: &mut u8) -> u8
     requires { IsSoundMaster master.old }
     ensures unchanged { master.new ≡ master.old }
     ensures answer { result ≡ served master.old.live }
-    ensures shown { result ≡ OK → IfThere master.old.place.master (λ old. Shows old held.new (λ setup deeds. flag (model.held deeds))) }
-    ensures shown_due { result ≡ OK → IfThere master.old.place.master (λ old. ShowsDue old held.new (λ setup deeds. flag (model.held deeds))) }
+    ensures shown { result ≡ OK → IfThere master.old.place.master (λ old. Shows old.core held.new (λ setup deeds. flag (model.held deeds))) }
+    ensures shown_due { result ≡ OK → IfThere master.old.place.master (λ old. ShowsDue old.core held.new (λ setup deeds. flag (model.held deeds))) }
     ensures refused { result ≢ OK → held.new ≡ held.old }
 {
     let room = lent!(master);

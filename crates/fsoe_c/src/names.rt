@@ -33,7 +33,7 @@ pub fn ranges(slave: &mut GpSlave, set: &GpSlaveSettings, low: &[u8], high: &[u8
 /// A slave counts a tick, or else ends its session.
 pub fn slave_step(ticks: bool, slave: &mut GpSlave, out: &mut GpFrame, did: &mut GpDid) -> u8
     requires { IsSoundSlave slave.old }
-    ensures { result ≡ OK → Between slave.old.place.slave slave.new.place.slave (λ old new. of_slave.Follows old (if ticks then event.Tick else event.Local) new) }
+    ensures { result ≡ OK → Between slave.old.place.slave slave.new.place.slave (λ old new. of_slave.Follows old.core (if ticks then event.Tick else event.Local) new.core) }
 {
     if ticks {
         gp_slave_tick(slave, out, did)
@@ -45,7 +45,7 @@ pub fn slave_step(ticks: bool, slave: &mut GpSlave, out: &mut GpFrame, did: &mut
 /// A master counts a tick, or else ends its session.
 pub fn master_step(ticks: bool, master: &mut GpMaster, out: &mut GpFrame, did: &mut GpDid) -> u8
     requires { IsSoundMaster master.old }
-    ensures { result ≡ OK → Between master.old.place.master master.new.place.master (λ old new. of_master.Follows old (if ticks then event.Tick else event.Local) new) }
+    ensures { result ≡ OK → Between master.old.place.master master.new.place.master (λ old new. of_master.Follows old.core (if ticks then event.Tick else event.Local) new.core) }
 {
     if ticks {
         gp_master_tick(master, out, did)
@@ -63,10 +63,10 @@ pub fn slave_readers(
     held: &mut u8,
 ) -> (u8, u8, u8, u8)
     requires { IsSoundSlave slave.old }
-    ensures outputs { result.0 ≡ OK → IfThere slave.old.place.slave (λ old. of_slave.Shows old outputs.new looking_back.out) }
-    ensures offer { result.1 ≡ OK → IfThere slave.old.place.slave (λ old. of_slave.Shows old offer.new model.offer) }
-    ensures state { result.2 ≡ OK → IfThere slave.old.place.slave (λ old. of_slave.Shows old state.new (λ setup deeds. state_number (model.state_of setup deeds))) }
-    ensures held { result.3 ≡ OK → IfThere slave.old.place.slave (λ old. of_slave.Shows old held.new (λ setup deeds. flag (model.held deeds))) }
+    ensures outputs { result.0 ≡ OK → IfThere slave.old.place.slave (λ old. of_slave.Shows old.core outputs.new looking_back.out) }
+    ensures offer { result.1 ≡ OK → IfThere slave.old.place.slave (λ old. of_slave.Shows old.core offer.new model.offer) }
+    ensures state { result.2 ≡ OK → IfThere slave.old.place.slave (λ old. of_slave.Shows old.core state.new (λ setup deeds. state_number (model.state_of setup deeds))) }
+    ensures held { result.3 ≡ OK → IfThere slave.old.place.slave (λ old. of_slave.Shows old.core held.new (λ setup deeds. flag (model.held deeds))) }
 {
     (
         gp_slave_outputs(slave, outputs),
@@ -86,11 +86,11 @@ pub fn master_readers(
     due: &mut u8,
 ) -> (u8, u8, u8, u8, u8)
     requires { IsSoundMaster master.old }
-    ensures outputs { result.0 ≡ OK → IfThere master.old.place.master (λ old. of_master.Shows old outputs.new looking_back.out) }
-    ensures offer { result.1 ≡ OK → IfThere master.old.place.master (λ old. of_master.Shows old offer.new model.offer) }
-    ensures state { result.2 ≡ OK → IfThere master.old.place.master (λ old. of_master.Shows old state.new (λ setup deeds. state_number (model.state_of setup deeds))) }
-    ensures held { result.3 ≡ OK → IfThere master.old.place.master (λ old. of_master.Shows old held.new (λ setup deeds. flag (model.held deeds))) }
-    ensures due { result.4 ≡ OK → IfThere master.old.place.master (λ old. due.new ≡ flag (is_due old.state)) }
+    ensures outputs { result.0 ≡ OK → IfThere master.old.place.master (λ old. of_master.Shows old.core outputs.new looking_back.out) }
+    ensures offer { result.1 ≡ OK → IfThere master.old.place.master (λ old. of_master.Shows old.core offer.new model.offer) }
+    ensures state { result.2 ≡ OK → IfThere master.old.place.master (λ old. of_master.Shows old.core state.new (λ setup deeds. state_number (model.state_of setup deeds))) }
+    ensures held { result.3 ≡ OK → IfThere master.old.place.master (λ old. of_master.Shows old.core held.new (λ setup deeds. flag (model.held deeds))) }
+    ensures due { result.4 ≡ OK → IfThere master.old.place.master (λ old. due.new ≡ flag (is_due old.core.state)) }
 {
     (
         gp_master_outputs(master, outputs),

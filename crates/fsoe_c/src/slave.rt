@@ -1,20 +1,21 @@
 //! The calls that C code makes of a slave.
-ghost use Rattle.std.specs.Prelude.{◌≡◌, ◌≢◌, ◌==◌, ◌&&◌, true, false, length, nat_le, if◌then◌else◌};
+ghost use Rattle.std.specs.Prelude.{◌≡◌, ◌≢◌, ◌==◌, ◌&&◌, IsTrue, true, false, length, nat_le, if◌then◌else◌};
 ghost use Rattle.param_load.specs.Profile.{allows_id};
 ghost use Rattle.param_load.specs.declared.app_rule.AppRule.TheVariants as rule;
 ghost use Rattle.param_load.specs.declared.entry.Move.TheVariants as event;
 ghost use Rattle.end_model.specs.Setup.{OfSlave, sends};
-ghost use Rattle.slave_core.specs.Standing.{Follows};
+ghost use Rattle.slave_core.specs.Standing.{Follows, SlaveIsAfter};
 ghost use Rattle.fsoe_c.specs.Handle.{IsSoundSlave};
-ghost use Rattle.c_values.specs.Place.{Between, IfThere, answered, served};
+ghost use Rattle.c_values.specs.Place.{Between, IfThere, answered, has_memory, served};
 ghost use Rattle.c_values.specs.Settings.{slave_refusal};
+ghost use Rattle.fsoe_c.specs.Ids.{IdsFollow, IdsKeep};
 ghost use Rattle.fsoe_c.specs.Settings.{IsNewSlave};
 ghost use Rattle.fsoe_c.specs.Told.{SlaveTells};
 
-use crate::lent::lent;
+use crate::lent::{lent, vacant};
 use crate::slave_place::SlavePlace;
 use crate::slave_room::SlaveRoom;
-use c_values::numbers::{BAD_APP, BAD_LENGTH, BAD_NONCE, BUSY, NO_END, OK};
+use c_values::numbers::{BAD_APP, BAD_LENGTH, BAD_NONCE, BUSY, NO_END, NO_ROOM, OK};
 use c_values::settings::{GpSlaveSettings, app_of, slave_settings};
 use c_values::told::{GpDid, GpFrame};
 use param_load::AppRule;
@@ -30,7 +31,7 @@ pub struct GpSlave {
 /// The bytes of memory that a slave takes, `GP_SLAVE_SIZE` in the header.
 #[unsafe(no_mangle)]
 pub extern "C" fn gp_slave_size() -> usize
-    ensures { result ≡ 2872 }
+    ensures { result ≡ 2888 }
 {
     size_of::<SlaveRoom>()
 }
@@ -47,6 +48,7 @@ pub extern "C" fn gp_slave_align() -> usize
 fn start(slave: &mut GpSlave, set: &GpSlaveSettings, rule: AppRule) -> u8
     requires sound { IsSoundSlave slave.old }
     requires free { slave.old.live ≡ false }
+    requires memory { IsTrue (has_memory slave.old.place.at) }
     ensures sound { IsSoundSlave slave.new }
     ensures refusal { result ≡ slave_refusal set.now rule }
     ensures live { result ≡ OK → slave.new.live ≡ true }
@@ -68,14 +70,12 @@ fn start(slave: &mut GpSlave, set: &GpSlaveSettings, rule: AppRule) -> u8
 pub extern "C" fn gp_slave_init(slave: &mut GpSlave, set: &GpSlaveSettings, app_len: u16) -> u8
     requires { IsSoundSlave slave.old }
     ensures sound { IsSoundSlave slave.new }
-    ensures answer { result ≡ (if slave.old.live then BUSY else slave_refusal set.now (rule.Any app_len)) }
+    ensures answer { result ≡ (if slave.old.live then BUSY else if has_memory slave.old.place.at then slave_refusal set.now (rule.Any app_len) else NO_ROOM) }
     ensures live { result ≡ OK → slave.new.live ≡ true }
     ensures made { result ≡ OK → IfThere slave.new.place.slave (IsNewSlave set.now (rule.Any app_len)) }
     ensures refused { result ≢ OK → slave.new ≡ slave.old }
 {
-    if slave.live {
-        return BUSY;
-    }
+    vacant!(slave);
     start(slave, set, AppRule::Any(app_len))
 }
 
@@ -84,14 +84,12 @@ pub extern "C" fn gp_slave_init(slave: &mut GpSlave, set: &GpSlaveSettings, app_
 pub extern "C" fn gp_slave_init_exact(slave: &mut GpSlave, set: &GpSlaveSettings, app: &[u8]) -> u8
     requires { IsSoundSlave slave.old }
     ensures sound { IsSoundSlave slave.new }
-    ensures answer { result ≡ (if slave.old.live then BUSY else if nat_le (length app.now) 512 then slave_refusal set.now (rule.Exact app.now) else BAD_APP) }
+    ensures answer { result ≡ (if slave.old.live then BUSY else if has_memory slave.old.place.at then if nat_le (length app.now) 512 then slave_refusal set.now (rule.Exact app.now) else BAD_APP else NO_ROOM) }
     ensures live { result ≡ OK → slave.new.live ≡ true }
     ensures made { result ≡ OK → IfThere slave.new.place.slave (IsNewSlave set.now (rule.Exact app.now)) }
     ensures refused { result ≢ OK → slave.new ≡ slave.old }
 {
-    if slave.live {
-        return BUSY;
-    }
+    vacant!(slave);
     let Some(want) = app_of(app) else {
         return BAD_APP;
     };
@@ -108,14 +106,12 @@ pub extern "C" fn gp_slave_init_ranges(
 ) -> u8
     requires { IsSoundSlave slave.old }
     ensures sound { IsSoundSlave slave.new }
-    ensures answer { result ≡ (if slave.old.live then BUSY else if nat_le (length low.now) 512 && nat_le (length high.now) 512 then slave_refusal set.now (rule.Ranges low.now high.now) else BAD_APP) }
+    ensures answer { result ≡ (if slave.old.live then BUSY else if has_memory slave.old.place.at then if nat_le (length low.now) 512 && nat_le (length high.now) 512 then slave_refusal set.now (rule.Ranges low.now high.now) else BAD_APP else NO_ROOM) }
     ensures live { result ≡ OK → slave.new.live ≡ true }
     ensures made { result ≡ OK → IfThere slave.new.place.slave (IsNewSlave set.now (rule.Ranges low.now high.now)) }
     ensures refused { result ≢ OK → slave.new ≡ slave.old }
 {
-    if slave.live {
-        return BUSY;
-    }
+    vacant!(slave);
     let Some(lowest) = app_of(low) else {
         return BAD_APP;
     };
@@ -145,7 +141,7 @@ pub extern "C" fn gp_slave_end(slave: &mut GpSlave) -> u8
 /// Delivers a frame of the master, of any number of bytes. Writes the result to `did`, and the frame to send to `out`,
 /// empty if none is sent.
 #[unsafe(no_mangle)]
-#[tactic(auto, using(c_values::proofs::Places::vacuous, crate::proofs::Places::tells))]
+#[tactic(auto, using(c_values::proofs::Places::vacuous))]
 pub extern "C" fn gp_slave_deliver(
     slave: &mut GpSlave,
     frame: &[u8],
@@ -156,65 +152,72 @@ pub extern "C" fn gp_slave_deliver(
     ensures sound { IsSoundSlave slave.new }
     ensures same { slave.new.live ≡ slave.old.live }
     ensures answer { result ≡ served slave.old.live }
-    ensures follows { result ≡ OK → Between slave.old.place.slave slave.new.place.slave (λ old new. Follows old (event.Deliver frame.now) new) }
+    ensures follows { result ≡ OK → Between slave.old.place.slave slave.new.place.slave (λ old new. Follows old.core (event.Deliver frame.now) new.core) }
+    ensures ids { result ≡ OK → Between slave.old.place.slave slave.new.place.slave (λ old new. IdsFollow SlaveIsAfter OfSlave old (event.Deliver frame.now) new) }
     ensures tells { result ≡ OK → IfThere slave.old.place.slave (λ old. SlaveTells old (event.Deliver frame.now) did.old did.new out.old out.new) }
     ensures refused { result ≢ OK → (slave.new ≡ slave.old) × (out.new ≡ out.old) × (did.new ≡ did.old) }
 {
     let room = lent!(slave);
     room.slave
         .deliver_into(frame, &mut room.heard, &mut room.sent);
+    let used = room.ids.note(room.slave.state());
     out.set(&room.sent);
-    did.set(&room.heard);
+    did.set_with_id(&room.heard, used);
     OK
 }
 
 /// Counts a tick. Writes the result to `did`, and the frame to send to `out`, empty if none is sent.
 #[unsafe(no_mangle)]
-#[tactic(auto, using(c_values::proofs::Places::vacuous, crate::proofs::Places::tells))]
+#[tactic(auto, using(c_values::proofs::Places::vacuous))]
 pub extern "C" fn gp_slave_tick(slave: &mut GpSlave, out: &mut GpFrame, did: &mut GpDid) -> u8
     requires { IsSoundSlave slave.old }
     ensures sound { IsSoundSlave slave.new }
     ensures same { slave.new.live ≡ slave.old.live }
     ensures answer { result ≡ served slave.old.live }
-    ensures follows { result ≡ OK → Between slave.old.place.slave slave.new.place.slave (λ old new. Follows old event.Tick new) }
+    ensures follows { result ≡ OK → Between slave.old.place.slave slave.new.place.slave (λ old new. Follows old.core event.Tick new.core) }
+    ensures ids { result ≡ OK → Between slave.old.place.slave slave.new.place.slave (λ old new. IdsFollow SlaveIsAfter OfSlave old event.Tick new) }
     ensures tells { result ≡ OK → IfThere slave.old.place.slave (λ old. SlaveTells old event.Tick did.old did.new out.old out.new) }
     ensures refused { result ≢ OK → (slave.new ≡ slave.old) × (out.new ≡ out.old) × (did.new ≡ did.old) }
 {
     let room = lent!(slave);
     room.slave.tick_into(&mut room.ticked, &mut room.sent);
+    let used = room.ids.note(room.slave.state());
     out.set(&room.sent);
-    did.set(&room.ticked);
+    did.set_with_id(&room.ticked, used);
     OK
 }
 
 /// Ends the session, if there is one. Writes the result to `did`, and the Reset frame to send to `out`.
 #[unsafe(no_mangle)]
-#[tactic(auto, using(c_values::proofs::Places::vacuous, crate::proofs::Places::tells))]
+#[tactic(auto, using(c_values::proofs::Places::vacuous))]
 pub extern "C" fn gp_slave_reset(slave: &mut GpSlave, out: &mut GpFrame, did: &mut GpDid) -> u8
     requires { IsSoundSlave slave.old }
     ensures sound { IsSoundSlave slave.new }
     ensures same { slave.new.live ≡ slave.old.live }
     ensures answer { result ≡ served slave.old.live }
-    ensures follows { result ≡ OK → Between slave.old.place.slave slave.new.place.slave (λ old new. Follows old event.Local new) }
+    ensures follows { result ≡ OK → Between slave.old.place.slave slave.new.place.slave (λ old new. Follows old.core event.Local new.core) }
+    ensures ids { result ≡ OK → Between slave.old.place.slave slave.new.place.slave (λ old new. IdsFollow SlaveIsAfter OfSlave old event.Local new) }
     ensures tells { result ≡ OK → IfThere slave.old.place.slave (λ old. SlaveTells old event.Local did.old did.new out.old out.new) }
     ensures refused { result ≢ OK → (slave.new ≡ slave.old) × (out.new ≡ out.old) × (did.new ≡ did.old) }
 {
     let room = lent!(slave);
     let done = room.slave.reset(&mut room.sent);
+    let used = room.ids.note(room.slave.state());
     out.set(&room.sent);
-    did.set(&done);
+    did.set_with_id(&done, used);
     OK
 }
 
 /// Sets the safe data to send from now on, as many bytes as the slave's frames carry. The offer outlasts resets.
 #[unsafe(no_mangle)]
-#[tactic(auto, using(c_values::proofs::Places::vacuous, c_values::proofs::Places::unserved, c_values::proofs::Places::passes, c_values::proofs::Places::fails))]
+#[tactic(auto, using(c_values::proofs::Places::vacuous, c_values::proofs::Places::unserved, c_values::proofs::Places::passes, c_values::proofs::Places::fails, crate::proofs::Places::ids_keep))]
 pub extern "C" fn gp_slave_put(slave: &mut GpSlave, load: &[u8]) -> u8
     requires { IsSoundSlave slave.old }
     ensures sound { IsSoundSlave slave.new }
     ensures same { slave.new.live ≡ slave.old.live }
-    ensures answer { result ≡ answered slave.old.place.slave (λ old. length load.now == sends (OfSlave old.kit.settings)) BAD_LENGTH }
-    ensures follows { result ≡ OK → Between slave.old.place.slave slave.new.place.slave (λ old new. Follows old (event.Put load.now) new) }
+    ensures answer { result ≡ answered slave.old.place.slave (λ old. length load.now == sends (OfSlave old.core.kit.settings)) BAD_LENGTH }
+    ensures follows { result ≡ OK → Between slave.old.place.slave slave.new.place.slave (λ old new. Follows old.core (event.Put load.now) new.core) }
+    ensures ids { result ≡ OK → Between slave.old.place.slave slave.new.place.slave (λ old new. IdsKeep OfSlave old.ids (event.Put load.now) new.ids) }
     ensures refused { result ≢ OK → slave.new ≡ slave.old }
 {
     let room = lent!(slave);
@@ -227,13 +230,14 @@ pub extern "C" fn gp_slave_put(slave: &mut GpSlave, load: &[u8]) -> u8
 
 /// Switches fail-safe data on or off: while on, zeros are sent in place of the offer. It outlasts resets.
 #[unsafe(no_mangle)]
-#[tactic(auto, using(c_values::proofs::Places::vacuous))]
+#[tactic(auto, using(c_values::proofs::Places::vacuous, crate::proofs::Places::ids_keep))]
 pub extern "C" fn gp_slave_hold(slave: &mut GpSlave, failsafe: bool) -> u8
     requires { IsSoundSlave slave.old }
     ensures sound { IsSoundSlave slave.new }
     ensures same { slave.new.live ≡ slave.old.live }
     ensures answer { result ≡ served slave.old.live }
-    ensures follows { result ≡ OK → Between slave.old.place.slave slave.new.place.slave (λ old new. Follows old (event.Hold failsafe) new) }
+    ensures follows { result ≡ OK → Between slave.old.place.slave slave.new.place.slave (λ old new. Follows old.core (event.Hold failsafe) new.core) }
+    ensures ids { result ≡ OK → Between slave.old.place.slave slave.new.place.slave (λ old new. IdsKeep OfSlave old.ids (event.Hold failsafe) new.ids) }
     ensures refused { result ≢ OK → slave.new ≡ slave.old }
 {
     let room = lent!(slave);
@@ -244,13 +248,14 @@ pub extern "C" fn gp_slave_hold(slave: &mut GpSlave, failsafe: bool) -> u8
 /// Sets the id of all sessions whose first Session frame is sent after this call, at most 65,535 in profile One. It
 /// outlasts resets: give a fresh one before each session.
 #[unsafe(no_mangle)]
-#[tactic(auto, using(c_values::proofs::Places::vacuous, c_values::proofs::Places::unserved, c_values::proofs::Places::passes, c_values::proofs::Places::fails))]
+#[tactic(auto, using(c_values::proofs::Places::vacuous, c_values::proofs::Places::unserved, c_values::proofs::Places::passes, c_values::proofs::Places::fails, crate::proofs::Places::ids_keep))]
 pub extern "C" fn gp_slave_nonce(slave: &mut GpSlave, id: u32) -> u8
     requires { IsSoundSlave slave.old }
     ensures sound { IsSoundSlave slave.new }
     ensures same { slave.new.live ≡ slave.old.live }
-    ensures answer { result ≡ answered slave.old.place.slave (λ old. allows_id old.kit.settings.profile id) BAD_NONCE }
-    ensures follows { result ≡ OK → Between slave.old.place.slave slave.new.place.slave (λ old new. Follows old (event.Nonce id) new) }
+    ensures answer { result ≡ answered slave.old.place.slave (λ old. allows_id old.core.kit.settings.profile id) BAD_NONCE }
+    ensures follows { result ≡ OK → Between slave.old.place.slave slave.new.place.slave (λ old new. Follows old.core (event.Nonce id) new.core) }
+    ensures ids { result ≡ OK → Between slave.old.place.slave slave.new.place.slave (λ old new. IdsKeep OfSlave old.ids (event.Nonce id) new.ids) }
     ensures refused { result ≢ OK → slave.new ≡ slave.old }
 {
     let room = lent!(slave);
@@ -258,5 +263,6 @@ pub extern "C" fn gp_slave_nonce(slave: &mut GpSlave, id: u32) -> u8
         return BAD_NONCE;
     }
     room.slave.nonce(id);
+    room.ids.nonce = id;
     OK
 }

@@ -21,7 +21,7 @@ pub extern "C" fn gp_slave_state(slave: &mut GpSlave, state: &mut u8) -> u8
     requires { IsSoundSlave slave.old }
     ensures unchanged { slave.new ≡ slave.old }
     ensures answer { result ≡ served slave.old.live }
-    ensures shown { result ≡ OK → IfThere slave.old.place.slave (λ old. Shows old state.new (λ setup deeds. state_number (model.state_of setup deeds))) }
+    ensures shown { result ≡ OK → IfThere slave.old.place.slave (λ old. Shows old.core state.new (λ setup deeds. state_number (model.state_of setup deeds))) }
     ensures refused { result ≢ OK → state.new ≡ state.old }
 {
     let room = lent!(slave);
@@ -35,8 +35,8 @@ pub extern "C" fn gp_slave_state(slave: &mut GpSlave, state: &mut u8) -> u8
 pub extern "C" fn gp_slave_outputs(slave: &mut GpSlave, outputs: &mut [u8]) -> u8
     requires { IsSoundSlave slave.old }
     ensures unchanged { slave.new ≡ slave.old }
-    ensures answer { result ≡ answered slave.old.place.slave (λ old. length outputs.old == receives (OfSlave old.kit.settings)) BAD_LENGTH }
-    ensures shown { result ≡ OK → IfThere slave.old.place.slave (λ old. Shows old outputs.new looking_back.out) }
+    ensures answer { result ≡ answered slave.old.place.slave (λ old. length outputs.old == receives (OfSlave old.core.kit.settings)) BAD_LENGTH }
+    ensures shown { result ≡ OK → IfThere slave.old.place.slave (λ old. Shows old.core outputs.new looking_back.out) }
     ensures refused { result ≢ OK → outputs.new ≡ outputs.old }
 {
     let room = lent!(slave);
@@ -52,8 +52,8 @@ pub extern "C" fn gp_slave_outputs(slave: &mut GpSlave, outputs: &mut [u8]) -> u
 pub extern "C" fn gp_slave_offer(slave: &mut GpSlave, offer: &mut [u8]) -> u8
     requires { IsSoundSlave slave.old }
     ensures unchanged { slave.new ≡ slave.old }
-    ensures answer { result ≡ answered slave.old.place.slave (λ old. length offer.old == sends (OfSlave old.kit.settings)) BAD_LENGTH }
-    ensures shown { result ≡ OK → IfThere slave.old.place.slave (λ old. Shows old offer.new model.offer) }
+    ensures answer { result ≡ answered slave.old.place.slave (λ old. length offer.old == sends (OfSlave old.core.kit.settings)) BAD_LENGTH }
+    ensures shown { result ≡ OK → IfThere slave.old.place.slave (λ old. Shows old.core offer.new model.offer) }
     ensures refused { result ≢ OK → offer.new ≡ offer.old }
 {
     let room = lent!(slave);
@@ -71,8 +71,8 @@ pub extern "C" fn gp_slave_terms(slave: &mut GpSlave, terms: &mut GpTerms) -> u8
     ensures unchanged { slave.new ≡ slave.old }
     ensures none { slave.old.live ≡ false → result ≡ NO_END }
     ensures either { slave.old.live ≡ true → IsTrue (result == OK || result == NOT_IN_DATA) }
-    ensures other { result ≡ NOT_IN_DATA → IfThere slave.old.place.slave (λ old. Shows old None model.told_terms) }
-    ensures shown { result ≡ OK → IfThere slave.old.place.slave (λ old. SlaveShowsTerms old terms.new) }
+    ensures other { result ≡ NOT_IN_DATA → IfThere slave.old.place.slave (λ old. Shows old.core None model.told_terms) }
+    ensures shown { result ≡ OK → IfThere slave.old.place.slave (λ old. SlaveShowsTerms old.core terms.new) }
     ensures past { drop terms.new.app_len terms.new.app ≡ drop terms.new.app_len terms.old.app }
     ensures refused { result ≢ OK → terms.new ≡ terms.old }
 {
@@ -90,7 +90,7 @@ pub extern "C" fn gp_slave_age(slave: &mut GpSlave, age: &mut u16) -> u8
     requires { IsSoundSlave slave.old }
     ensures unchanged { slave.new ≡ slave.old }
     ensures answer { result ≡ served slave.old.live }
-    ensures shown { result ≡ OK → IfThere slave.old.place.slave (λ old. Shows old age.new model.age) }
+    ensures shown { result ≡ OK → IfThere slave.old.place.slave (λ old. Shows old.core age.new model.age) }
     ensures refused { result ≢ OK → age.new ≡ age.old }
 {
     let room = lent!(slave);
@@ -105,7 +105,7 @@ pub extern "C" fn gp_slave_held(slave: &mut GpSlave, held: &mut u8) -> u8
     requires { IsSoundSlave slave.old }
     ensures unchanged { slave.new ≡ slave.old }
     ensures answer { result ≡ served slave.old.live }
-    ensures shown { result ≡ OK → IfThere slave.old.place.slave (λ old. Shows old held.new (λ setup deeds. flag (model.held deeds))) }
+    ensures shown { result ≡ OK → IfThere slave.old.place.slave (λ old. Shows old.core held.new (λ setup deeds. flag (model.held deeds))) }
     ensures refused { result ≢ OK → held.new ≡ held.old }
 {
     let room = lent!(slave);

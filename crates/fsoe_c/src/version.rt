@@ -7,5 +7,5 @@ ghost use Rattle.fsoe_c.specs.Version.{version};
 pub extern "C" fn gp_version() -> u32
     ensures { result ≡ version }
 {
-    1
+    2
 }

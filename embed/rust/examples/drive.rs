@@ -171,6 +171,9 @@ impl<'m> Drive<'m> {
 
     /// After each step: first the outputs, then the frame, and last what may take its time.
     fn follow(&mut self) -> Result<(), Stop> {
+        if self.slave.last_step().used_id() {
+            return Err("a session id comes again");
+        }
         self.look_at_terms();
         let outputs = self.interlocked();
         self.device.drive_motor(outputs);

@@ -7,9 +7,9 @@ pub const OK: u8 = 0;
 pub const FRAME_DUE: u8 = 11;
 pub const NOT_IN_DATA: u8 = 13;
 
-pub const VERSION: u32 = 1;
-pub const SLAVE_SIZE: usize = 2872;
-pub const MASTER_SIZE: usize = 2320;
+pub const VERSION: u32 = 2;
+pub const SLAVE_SIZE: usize = 2888;
+pub const MASTER_SIZE: usize = 2336;
 
 #[repr(C)]
 pub struct Handle {
@@ -35,6 +35,7 @@ pub struct Did {
     pub dropped: u8,
     pub load_len: u8,
     pub load: [u8; 126],
+    pub used: u8,
 }
 
 #[repr(C)]
@@ -76,14 +77,18 @@ const _: () = {
     assert!(size_of::<usize>() == 8 && size_of::<Handle>() == 16);
     assert!(offset_of!(Handle, memory) == 0 && offset_of!(Handle, live) == 8);
     assert!(size_of::<Frame>() == 264 && offset_of!(Frame, bytes) == 8);
-    assert!(size_of::<Did>() == 133 && align_of::<Did>() == 1);
+    assert!(size_of::<Did>() == 134 && align_of::<Did>() == 1);
     assert!(
         offset_of!(Did, took) == 0 && offset_of!(Did, passed) == 1 && offset_of!(Did, sent) == 2
     );
     assert!(
         offset_of!(Did, reset) == 3 && offset_of!(Did, code) == 4 && offset_of!(Did, dropped) == 5
     );
-    assert!(offset_of!(Did, load_len) == 6 && offset_of!(Did, load) == 7);
+    assert!(
+        offset_of!(Did, load_len) == 6
+            && offset_of!(Did, load) == 7
+            && offset_of!(Did, used) == 133
+    );
     assert!(
         size_of::<Terms>() == 524
             && offset_of!(Terms, conn) == 0

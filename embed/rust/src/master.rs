@@ -266,6 +266,11 @@ impl<'a, 'm, P: Profile, const M: usize, const S: usize> Due<'a, 'm, P, M, S> {
         reset(&self.master.did)
     }
 
+    /// Whether the frame that is due begins a session with the id of the session before it: give a fresh one first.
+    pub fn used_id(&self) -> bool {
+        self.master.did.used != 0
+    }
+
     /// Calls [`Master::put`], also for the frame that is due.
     pub fn put(&mut self, load: &[u8; M]) {
         self.master.put(load);

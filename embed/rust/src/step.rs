@@ -108,6 +108,7 @@ pub(crate) const NOTHING: ffi::Did = ffi::Did {
     dropped: 0,
     load_len: 0,
     load: [0; 126],
+    used: 0,
 };
 
 pub(crate) fn bytes_of(frame: &ffi::Frame) -> &[u8] {
@@ -182,6 +183,12 @@ impl<'a> Step<'a> {
     /// Whether a frame that is no Reset frame passed its CRC test.
     pub fn passed(&self) -> bool {
         self.did.passed != 0
+    }
+
+    /// Whether a session begins with this step that has the id of the session before it at this end: no fresh id was
+    /// set.
+    pub fn used_id(&self) -> bool {
+        self.did.used != 0
     }
 }
 

@@ -170,7 +170,7 @@ fn a_frame_that_is_due_and_let_go_is_lost() {
     let answer = slave.deliver(&reset).send().unwrap().to_vec();
     assert_eq!(slave.state(), State::Reset);
     let accepted = master.accept(&answer);
-    assert!(matches!(accepted, Accepted::Due(_)));
+    assert!(matches!(&accepted, Accepted::Due(due) if due.used_id()));
     std::mem::forget(accepted);
     assert!(master.tick().send().is_none());
 }

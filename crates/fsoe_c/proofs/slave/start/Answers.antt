@@ -4,4 +4,4 @@ use Rattle.fsoe_c.proofs.Places.{new_end}
 use Rattle.fsoe_c.proofs.slave.start.Goals as goal
 
 pub returns-in-Ok-clause-made : goal.returns-in-Ok-clause-made
-returns-in-Ok-clause-made c ok v there = new_end _ _ c.in-Ok.settings _ c.new.result v c.in-Ok.ensures.settings c.new.ensures (ap (λ (p : SlavePlace). p.slave) c.put.ensures) there
+returns-in-Ok-clause-made c ok v there = new_end _ _ _ c.in-Ok.settings _ c.new.result v c.in-Ok.ensures.settings c.new.ensures.stands c.new.ensures.ids (ap (λ (p : SlavePlace). p.slave) c.put.ensures) there

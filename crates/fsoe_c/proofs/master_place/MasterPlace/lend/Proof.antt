@@ -1,7 +1,7 @@
 -- `lend` lends the slave, and the place follows it.
-use Rattle.c_values.proofs.Steps.{◌≡◌, ℕ, List, [], ◌∷◌, refl, sym, ap, ◌∙◌, Option, Some, IsSome, proved, full_share, ent, sep, id⊢, Fml, GName, ftrue, fsep, flft, named, Val, vptr, fact, tables, Logic, sem, ‵, raw, ◌⊛◌, some, later, at_ret, ◌$◌, ◌∵◌, !, qed, done, move, keep, use1, split, join, pick, await, split3, fsplit, fsplit3, fjoin, fpack, rewrite, suffices, frame, group, enter, of_opd, addr, load, stop, fld, first, blocks, exec, returns, alloc_all, pass_all, free_all, look_at, get, through, sets, sets_last, env, whole, sub, look_in, no, follows, Part, lends_Part, shows, cell_at, mem, part_at, part_of, Ptr, block_ptr, lies_at, in_a_block, MutRef, mut_vals, mut_Tells, plain, mut_ref_to, nothing, opens, peeks, heard, shape, Struct, Stays, walk_of, stay_dropped, Goes-spent_ref, ends_at, says, after, found, Ura}
+use Rattle.c_values.proofs.Steps.{◌≡◌, ◌^◌, ℕ, List, [], ◌∷◌, refl, sym, ap, ◌∙◌, Option, Some, IsSome, proved, full_share, ent, sep, id⊢, Fml, GName, ftrue, fsep, flft, named, Val, vptr, fact, tables, Logic, sem, ‵, raw, ◌⊛◌, some, later, at_ret, ◌$◌, ◌∵◌, !, qed, done, move, keep, use1, split, join, pick, await, split3, fsplit, fsplit3, fjoin, fpack, rewrite, suffices, frame, group, enter, of_opd, addr, load, stop, fld, first, blocks, exec, returns, alloc_all, pass_all, free_all, look_at, get, through, sets, sets_last, env, whole, sub, look_in, no, follows, Part, lends_Part, shows, cell_at, mem, part_at, part_of, Ptr, Testable, block_ptr, count_of, flt_i, flt_l, lies_at, in_a_block, MutRef, mut_vals, mut_Tells, plain, mut_ref_to, nothing, opens, peeks, heard, shape, Struct, Stays, walk_of, stay_dropped, Goes-spent_ref, ends_at, says, after, found, Ura}
 use Rattle.fsoe_c.specs.contracts.master_room.MasterRoom.{the_row as F}
-use Rattle.c_values.specs.Place.{place_owns}
+use Rattle.c_values.specs.Place.{memory_at}
 use Rattle.fsoe_c.specs.declared.master_place.MasterPlace.{MasterPlace}
 use Rattle.fsoe_c.specs.contracts.master_place.MasterPlace.lend as f
 use Rattle.fsoe_c.proofs.master_place.MasterPlace.lend.Statement.{statement}
@@ -19,12 +19,13 @@ with h w = record h { master = Some w }
 abbrev Rest : MasterPlace → List Val → ℕ → ℕ → Fml
 Rest h us b o = fsep ((Struct (shape R-type)).own_val (h.at, tt) us) (cell_at full_share R.mir us b o)
 
-module _ {M : Type 1} {𝓤 : Ura M} (𝓛 : Logic 𝓤) (h : MasterPlace) (us : List Val) (b o b' o' : ℕ) where
+module _ {M : Type 1} {𝓤 : Ura M} (𝓛 : Logic 𝓤) (h : MasterPlace) (us : List Val) (b o b' o' : ℕ) (near : Testable h.at) where
   back : h.at ≡ block_ptr b' o' → (w : F.Denot) → ent 𝓤 (sep 𝓤 (sem 𝓛 ((mem F).own_at w b' o')) (sem 𝓛 (Rest h us b o))) (sem 𝓛 ((mem R).own_at (with h w) b o))
   unfolding part_of
   back e w =
       qed 𝓛 (‵ (part_at F full_share w b' o') ∷ ‵ (Rest h us b o) ∷ []) ∵ move ! (1 ∷ []) $ fsplit ! $
-      rewrite ! 2 (λ (p : Ptr). ‵ (lies_at F full_share p w)) (sym e) refl $ move ! (0 ∷ 2 ∷ []) $ fjoin ! $ move ! (1 ∷ 0 ∷ []) $ fjoin ! $
+      rewrite ! 2 (λ (p : Ptr). ‵ (lies_at F full_share p w)) (sym e) refl $ move ! (2 ∷ []) $ flt_i ! (count_of h.at) (2 ^ 63) near $ fjoin ! $
+      move ! (1 ∷ []) $ fjoin ! $ move ! (1 ∷ 0 ∷ []) $ fjoin ! $
       fpack ! (List Val) (λ us. fsep (cell_at full_share R.mir us b o) (R.own_val (with h w) us)) us $ done !
 
 pub lend_spec : {M : Type 1} → statement M
@@ -40,8 +41,8 @@ lend_spec 𝓤 𝓛 𝓜 𝓡 wired =
     split ! $ split ! $ move ! (2 ∷ []) $ split ! $ keep ! (0 ∷ 2 ∷ []) $
     enter ! _ _ _ _ _ $ alloc_all ! (λ l. pass_all ! refl ((tt, tt), tt) $
     fsplit3 ! $ move ! (1 ∷ 2 ∷ 3 ∷ []) $ opens ! tt R b o (λ us.
-    move ! (1 ∷ []) $ peeks ! R _ (shows 𝓛 R) h us (λ is. fsplit ! $ move ! (1 ∷ []) $
-    rewrite ! 0 (λ (v : Option F.Denot). ‵ (place_owns F h.at v)) there.is refl $
+    move ! (1 ∷ []) $ peeks ! R _ (shows 𝓛 R) h us (λ is. fsplit ! $ move ! (1 ∷ []) $ fsplit ! $ flt_l ! (λ near.
+    rewrite ! 0 (λ (v : Option F.Denot). ‵ (memory_at F h.at v)) there.is refl $
     in_a_block ! h.at (λ p. lies_at F full_share p x) (id⊢ 𝓤 _) (λ b' o' e.
     let word = lowers.val_is h us is ∙ ap (λ (q : Ptr). lowers.lowered (record h { at = q }) ∷ []) e in
     let Cell = λ (ws : List Val). ‵ (cell_at full_share R.mir ws b o) in
@@ -54,10 +55,10 @@ lend_spec 𝓤 𝓛 𝓜 𝓡 wired =
     exec ! 𝓣.C 𝓣.Λ (env code.Mir.locals l) (after 1 (code.function).body) (at_ret _ (W.post y)) $
     sets ! (of_opd ! (get ! refl)) refl (tt, tt) $
     rewrite ! 2 Cell (sym word) refl $ move ! (1 ∷ 2 ∷ []) $ fjoin ! $ move ! (2 ∷ 3 ∷ 4 ∷ 1 ∷ 0 ∷ []) $ group ! 5 $
-    let Lent = Part 𝓛 R F (with h) (named 0) κs.0 qs.0 b o b' o' a.0.ghost_name (sem 𝓛 (Rest h us b o)) (back 𝓛 h us b o b' o' e) x in
+    let Lent = Part 𝓛 R F (with h) (named 0) κs.0 qs.0 b o b' o' a.0.ghost_name (sem 𝓛 (Rest h us b o)) (back 𝓛 h us b o b' o' near e) x in
     use1 𝓛 (later (some (λ (γ : GName). raw (Lent γ))))
-    (lends_Part 𝓛 R F (with h) (named 0) κs.0 qs.0 b o b' o' a.0.ghost_name (sem 𝓛 (Rest h us b o)) (back 𝓛 h us b o b' o' e) (R.coded.code h) (R.coded.code h) x) $ await ! tt $ pick ! (λ γ.
+    (lends_Part 𝓛 R F (with h) (named 0) κs.0 qs.0 b o b' o' a.0.ghost_name (sem 𝓛 (Rest h us b o)) (back 𝓛 h us b o b' o' near e) (R.coded.code h) (R.coded.code h) x) $ await ! tt $ pick ! (λ γ.
     returns ! (look_at ! 0 refl) $ free_all ! refl $ keep ! (0 ∷ []) $
     use1 𝓛 (‵ ((MutRef (named 0) κs.0 F).own_val (record { ref_ptr = (b', o'); ghost_name = γ; now = x }) (vptr b' o' ∷ [])) ⊛ ‵ (flft κs.0 qs.0) ⊛ ‵ (follows R F a.0.ghost_name γ (with h))) (id⊢ 𝓤 _) $ split3 ! $
     suffices ! _ (ends_at 𝓛 f.ended stayed c y (vptr b' o') (record { ref_ptr = (b', o'); ghost_name = γ; now = x }) (tt, tt) (tt, tt)) $
-    nothing ! $ nothing ! $ fjoin ! $ join ! $ nothing ! $ move ! (2 ∷ 0 ∷ []) $ join ! $ join ! $ frame ! $ says ! (there.is, ap (λ (v : Option F.Denot). record h { master = v }) (sym there.is)) $ done !)))))))
+    nothing ! $ nothing ! $ fjoin ! $ join ! $ nothing ! $ move ! (2 ∷ 0 ∷ []) $ join ! $ join ! $ frame ! $ says ! (there.is, ap (λ (v : Option F.Denot). record h { master = v }) (sym there.is)) $ done !))))))))

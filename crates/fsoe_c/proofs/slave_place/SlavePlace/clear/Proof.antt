@@ -1,7 +1,7 @@
 -- `clear` makes the value's memory room.
-use Rattle.c_values.proofs.Steps.{[], ◌∷◌, refl, sym, Option, None, IsSome, proved, full_share, id⊢, ftrue, fat, flft, froom, Ty, named, Val, vunit, fact, tables, ‵, raw, ◌⊛◌, some, ◌$◌, ◌∵◌, !, qed, done, drop, move, keep, use1, split, join, pick, fsplit, fsplit3, fjoin, feq_i, rewrite, suffices, frame, group, enter, of_opd, unit_lit, returns, alloc_all, pass_all, free_all, look_at, sets, part_out, lone, Ptr, lies_at, room_at, in_a_block, MutRef, mut_vals, mut_Tells, plain, nothing, opens, closes, heard, Stays, walk_of, stay_ref, Goes-ref, ends_at, says, found}
+use Rattle.c_values.proofs.Steps.{◌^◌, [], ◌∷◌, refl, sym, Option, None, IsSome, proved, full_share, id⊢, ftrue, fat, flft, froom, Ty, named, Val, vunit, fact, tables, ‵, raw, ◌⊛◌, some, ◌$◌, ◌∵◌, !, qed, done, drop, move, keep, use1, split, join, pick, fsplit, fsplit3, fjoin, feq_i, rewrite, suffices, frame, group, enter, of_opd, unit_lit, returns, alloc_all, pass_all, free_all, look_at, sets, part_out, lone, Ptr, count_of, flt_i, flt_l, lies_at, in_a_block, MutRef, mut_vals, mut_Tells, plain, nothing, opens, closes, heard, Stays, walk_of, stay_ref, Goes-ref, ends_at, says, found}
 use Rattle.fsoe_c.specs.contracts.slave_room.SlaveRoom.{the_row as F}
-use Rattle.c_values.specs.Place.{place_owns}
+use Rattle.c_values.specs.Place.{memory_at}
 use Rattle.fsoe_c.specs.contracts.slave_place.SlavePlace.clear as f
 use Rattle.fsoe_c.proofs.slave_place.SlavePlace.clear.Statement.{statement}
 use Rattle.fsoe_c.proofs.slave_place.SlavePlace.clear.Code as code
@@ -26,15 +26,15 @@ clear_spec 𝓤 𝓛 𝓜 𝓡 wired =
     split ! $ split ! $ move ! (2 ∷ []) $ split ! $ keep ! (0 ∷ 2 ∷ []) $
     enter ! _ _ _ _ _ $ alloc_all ! (λ l. pass_all ! refl ((tt, tt), tt) $
     fsplit3 ! $ move ! (1 ∷ 2 ∷ 3 ∷ []) $ opens ! tt R b o (λ us.
-    move ! (1 ∷ []) $ fsplit ! $ move ! (1 ∷ []) $
-    rewrite ! 0 (λ (v : Option F.Denot). ‵ (place_owns F h.at v)) there.is refl $
+    move ! (1 ∷ []) $ fsplit ! $ move ! (1 ∷ []) $ fsplit ! $ flt_l ! (λ near.
+    rewrite ! 0 (λ (v : Option F.Denot). ‵ (memory_at F h.at v)) there.is refl $
     in_a_block ! h.at (λ p. lies_at F full_share p x) (id⊢ 𝓤 _) (λ b' o' e.
     use1 𝓛 (some (λ (v : Val). ‵ (fat full_share τ b' o' v) ⊛ ‵ (F.own_val x (v ∷ [])))) (part_out 𝓛 F refl full_share x b' o') $ pick ! (λ v. split ! $
     move ! (1 ∷ []) $ drop ! $ use1 𝓛 (‵ (froom τ b' o')) (𝓛.laws.at_room τ b' o' v) $
-    rewrite ! 0 (λ (q : Ptr). ‵ (room_at F q)) (sym e) refl $
+    rewrite ! 0 (λ (q : Ptr). ‵ (memory_at F q None)) (sym e) refl $ flt_i ! (count_of h.at) (2 ^ 63) near $ fjoin ! $
     -- [the room; what the fields own; the struct's cell; the open borrow, in three entries]
     move ! (1 ∷ []) $ fjoin ! $ move ! (1 ∷ []) $ closes ! tt R (record h { slave = None }) us b o $
     sets ! (of_opd ! (unit_lit !)) refl (tt, tt) $ returns ! (look_at ! 0 refl) $ free_all ! refl $ move ! (3 ∷ []) $
     suffices ! _ (ends_at 𝓛 f.ended stayed c y vunit tt (record h { slave = None }, tt) (tt, tt)) $ says ! refl $
     group ! 3 $ nothing ! $ move ! (1 ∷ 0 ∷ []) $ join ! $ nothing ! $ move ! (2 ∷ 0 ∷ []) $ join ! $ frame ! $ frame ! $
-    feq_i ! _ (vunit ∷ []) _ refl $ done !))))))
+    feq_i ! _ (vunit ∷ []) _ refl $ done !)))))))
