@@ -95,7 +95,7 @@ extern "C" {
 #endif
 
 /* The memory of a controller. gp_controller_size() returns the same number. */
-#define GP_CONTROLLER_SIZE 1080
+#define GP_CONTROLLER_SIZE 1160
 
 /* The most connections, blocks, inputs of a block, and drives. */
 #define GP_MOST_CONNECTIONS 64

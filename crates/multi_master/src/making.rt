@@ -1,7 +1,6 @@
 //! Whether there is such a master of many connections, and what it is made of.
-ghost use Rattle.std.specs.Prelude.{◌≡◌, ◌≤◌, [], ◌∷◌, ◌++◌, length, map, option_map, IfOk, OnErr, OnOk};
-ghost use Rattle.param_load.specs.SameConn.{same_conn};
-ghost use Rattle.multi_master.specs.New.{first_fault, same_id};
+ghost use Rattle.std.specs.Prelude.{◌≡◌, ◌≤◌, [], ◌∷◌, ◌++◌, length, map, IfOk, OnErr, OnOk};
+ghost use Rattle.multi_master.specs.New.{first_fault, ids_fault};
 ghost use Rattle.multi_master.specs.Standing.{settings_in};
 ghost use Rattle.multi_master.specs.Puts.{AddsOne, AreNew};
 
@@ -42,7 +41,7 @@ fn ids_in(masters: &[Master]) -> ArrayVec<u16, MOST_LINKS>
 /// The first two of these connection ids that are the same, as a fault.
 fn same_id(ids: &[u16]) -> Option<NewFault>
     requires { length ids.now ≤ MOST_LINKS }
-    ensures { result ≡ same_id ids.now }
+    ensures { result ≡ ids_fault ids.now }
 {
     let (a, b) = same_conn(ids)?;
     Some(NewFault::SameConn { a, b })

@@ -79,21 +79,17 @@ impl<A: Application, M: Allocator> MultiMaster<A, M> {
         }
     }
 
-    /// Creates a master of no connection yet, with this application, and room for `most` connections: for their masters,
-    /// their outputs, and the results of a cycle for them. Without memory for it, the application is dropped.
-    pub fn within(
-        masters: M,
-        outputs: M,
-        results: M,
-        most: usize,
-        app: A,
-    ) -> Result<MultiMaster<A, M>, AllocError>
+    /// Creates a master of no connection yet, with this application, and room for `most` connections. Without memory for
+    /// it, the application is dropped.
+    pub fn within(alloc: M, most: usize, app: A) -> Result<MultiMaster<A, M>, AllocError>
+    where
+        M: Copy,
         ensures { IfOk result (λ m. m ≡ record { masters = []; app = app; inputs = []; changed = [] }) }
     {
         let connections = Connections {
-            masters: Vec::with_capacity(masters, most)?,
-            inputs: Vec::with_capacity(outputs, most)?,
-            answers: Vec::with_capacity(results, most)?,
+            masters: Vec::with_capacity(alloc, most)?,
+            inputs: Vec::with_capacity(alloc, most)?,
+            answers: Vec::with_capacity(alloc, most)?,
             changed: ArrayVec::new(),
         };
         Ok(MultiMaster { connections, app })
@@ -121,6 +117,13 @@ impl<A: Application, M: Allocator> MultiMaster<A, M> {
         Ok(())
     }
 
+    /// Returns the fault for which `add` refuses these settings, if they have one.
+    pub fn fault_with(&self, settings: &MasterSettings) -> Option<NewFault>
+        ensures { result ≡ first_fault (settings_of self.now ++ settings.now ∷ []) }
+    {
+        first_fault_with(self.connections.masters.as_slice(), settings)
+    }
+
     /// Adds a connection with these settings, the last one. Nothing else changes, and no cycle is run: add connections
     /// before the first call. After a refusal, as that of `new` for the settings of all, nothing is changed, and the
     /// settings are dropped.
@@ -132,7 +135,7 @@ impl<A: Application, M: Allocator> MultiMaster<A, M> {
         ensures settings { OnOk result (settings_of self.new ≡ settings_of self.old ++ settings ∷ []) }
         ensures kept { OnErr result (self.new ≡ self.old) }
     {
-        if let Some(found) = first_fault_with(self.connections.masters.as_slice(), &settings) {
+        if let Some(found) = self.fault_with(&settings) {
             return Err(found);
         }
         let Ok(()) = self.connections.add(settings) else {
@@ -265,7 +268,8 @@ impl<A: Application, M: Allocator> MultiMaster<A, M> {
 
     /// The number of connections, which are numbered from 1.
     pub fn links(&self) -> u16
-        ensures { result ≡ links self.now }
+        ensures count { result ≡ links self.now }
+        ensures most { result ≤ 64 }
     {
         self.connections.masters.len() as u16
     }

@@ -1,0 +1,9 @@
+pub mod Answers
+pub mod ControllerView
+pub mod Counts
+pub mod Handle
+pub mod Lent
+pub mod Making
+pub mod Shown
+pub mod Told
+pub mod Wire

@@ -1,0 +1,88 @@
+//! The handle of a controller.
+ghost use Rattle.std.specs.Prelude.{◌≡◌, ◌≢◌, false, true, Some};
+ghost use Rattle.c_values.specs.Place.{served};
+ghost use Rattle.controller_c.specs.Handle.{IsSoundController, open_answer};
+ghost use Rattle.controller_c.specs.Making.{empty_controller};
+
+use crate::controller_place::ControllerPlace;
+use crate::controller_room::ControllerRoom;
+use crate::most::GpMost;
+use crate::numbers::NO_MEMORY;
+use c_values::numbers::{BUSY, NO_END, NO_ROOM, OK};
+use region::{Memory, Region};
+use std::mem::{align_of, size_of};
+
+/// The handle of a controller: where its memory lies, and whether a controller is there.
+#[repr(C)]
+pub struct GpController {
+    pub place: ControllerPlace,
+    pub live: bool,
+}
+
+/// The bytes of memory that a controller takes, besides the region in which its connections and blocks lie.
+#[unsafe(no_mangle)]
+pub extern "C" fn gp_controller_size() -> usize
+    ensures { result ≡ 1160 }
+{
+    size_of::<ControllerRoom>()
+}
+
+/// The alignment of that memory.
+#[unsafe(no_mangle)]
+pub extern "C" fn gp_controller_align() -> usize
+    ensures { result ≡ 8 }
+{
+    align_of::<ControllerRoom>()
+}
+
+/// Makes a controller of no connection and no block, which doesn't run, with room in this memory for so many. The
+/// memory is the controller's for good.
+#[unsafe(no_mangle)]
+pub extern "C" fn gp_controller_open(
+    controller: &mut GpController,
+    memory: Memory,
+    size: usize,
+    most: &GpMost,
+) -> u8
+    requires sound { IsSoundController controller.old }
+    requires memory { memory.size ≡ size }
+    ensures sound { IsSoundController controller.new }
+    ensures answer { result ≢ NO_MEMORY → result ≡ open_answer controller.old }
+    ensures memory_alone { result ≡ NO_MEMORY → open_answer controller.old ≡ OK }
+    ensures live { result ≡ OK → controller.new.live ≡ true }
+    ensures made { result ≡ OK → controller.new.place.controller ≡ Some empty_controller }
+    ensures refused { result ≢ OK → controller.new ≡ controller.old }
+{
+    if controller.live {
+        return BUSY;
+    }
+    if controller.place.is_null() {
+        return NO_ROOM;
+    }
+    let Ok(region) = Region::forever(memory, size) else {
+        return NO_MEMORY;
+    };
+    let Ok(room) = ControllerRoom::empty(region, most) else {
+        return NO_MEMORY;
+    };
+    controller.place.put(room);
+    controller.live = true;
+    OK
+}
+
+/// Ends the use of the controller. Its memory is the caller's again, and its region isn't used any more.
+#[unsafe(no_mangle)]
+pub extern "C" fn gp_controller_end(controller: &mut GpController) -> u8
+    requires { IsSoundController controller.old }
+    ensures sound { IsSoundController controller.new }
+    ensures over { controller.new.live ≡ false }
+    ensures answer { result ≡ served controller.old.live }
+    ensures refused { result ≢ OK → controller.new ≡ controller.old }
+{
+    if !controller.live {
+        return NO_END;
+    }
+    let _ended = controller.place.take();
+    controller.live = false;
+    OK
+}
