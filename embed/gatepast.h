@@ -146,7 +146,7 @@ enum gp_answer {
                             refused tick is not counted */
     GP_NONE_DUE = 12,    /* reply: no frame is due */
     GP_NOT_IN_DATA = 13, /* terms: the end is not in state GP_DATA */
-    GP_NO_ROOM = 14      /* init: the handle has no memory: it is null */
+    GP_NO_ROOM = 14      /* init, open: the handle has no memory: it is null */
 };
 
 /* The states of an end, in the order of a session. */

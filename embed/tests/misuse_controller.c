@@ -109,6 +109,9 @@ static void no_controller(void) {
     ANSWERS(GP_NO_END, gp_controller_connections(&controller, &number));
     ANSWERS(GP_NO_END, gp_controller_value(&controller, 1, &flag));
     ANSWERS(GP_NO_END, gp_controller_guards(&controller, &output_bit, &input_bit, &flag));
+    gp_controller nowhere = GP_CONTROLLER_IN(NULL);
+    ANSWERS(GP_NO_ROOM, gp_controller_open(&nowhere, region, sizeof region, &all));
+    ANSWERS(GP_NO_END, gp_controller_end(&nowhere));
     MUST(nothing_was_written());
 }
 
