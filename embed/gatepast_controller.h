@@ -3,7 +3,7 @@
  * what they send from what they received. For C11 and C++11 on, over the ends' header, whose text holds here too.
  *
  *     static gp_controller_memory memory;
- *     static gp_unit region[4096];
+ *     static gp_unit region[GP_REGION_UNITS(CONNECTIONS, BLOCKS, DRIVES)];
  *     static gp_controller controller = GP_CONTROLLER_IN(&memory);
  *     static gp_frame out, last[CONNECTIONS + 1];
  *     static gp_did did;
@@ -58,7 +58,7 @@
  *     A controller lies in a gp_controller_memory, and what it has for its connections and blocks in a region that the
  *     program hands in: an array of gp_unit. open takes room there for as many as `most` says, and block for a
  *     block's inputs; connect, block and drive take more if there are more than that. If there is no room, they answer
- *     GP_NO_MEMORY. Nothing is given back before end. docs/embedding.md says how many bytes are enough.
+ *     GP_NO_MEMORY. Nothing is given back before end. GP_REGION_UNITS is tried to be enough.
  *
  * Answers
  *     Each call returns a number of enum gp_answer or enum gp_controller_answer, except gp_.._size and gp_.._align. A
@@ -157,6 +157,10 @@ typedef struct gp_bit {
 typedef struct gp_unit {
     GP_ALIGNED_16 uint8_t bytes[16];
 } gp_unit;
+
+/* The units of a region that are enough for so many, whatever they are. */
+#define GP_REGION_UNITS(connections, blocks, drives)                                                                      \
+    (9 + 161 * (size_t)(connections) + 6 * (size_t)(blocks) + (5 * (size_t)(drives) + 7) / 8)
 
 /* How many of each a controller is to have room for. */
 typedef struct gp_most {

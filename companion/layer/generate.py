@@ -25,13 +25,13 @@ HEAD = """\
 /*
  * The controller of {name}, written by gatepast generate, which isn't proved: compare each row with that file.
  *
- * plant_make makes the controller in a handle that GP_CONTROLLER_IN set, and starts it. It returns GP_OK, or the first
- * answer that isn't. The session ids are those of the file: before the first tick give each connection a fresh one by
+ * plant_make makes the controller in a handle that GP_CONTROLLER_IN set, and starts it. A region of
+ * GP_REGION_UNITS({counts}) units is enough; size is its bytes. It returns GP_OK, or the first answer that isn't. The session ids are those of the file: before the first tick give each connection a fresh one by
  * gp_controller_nonce.
  */
 #include <gatepast_controller.h>
 
-uint8_t plant_make(gp_controller *controller, gp_fault *fault);
+uint8_t plant_make(gp_controller *controller, gp_unit *region, size_t size, gp_fault *fault);
 """
 CONNECT = """\
     for (size_t at = 0; at < sizeof connections / sizeof connections[0]; at++) {
@@ -125,14 +125,16 @@ def source_of(name: str, tables: dict[str, Rows]) -> str:
     parts = [connections_in_c(tables["connection"])]
     parts += [blocks_in_c(blocks)] if blocks else []
     parts += [drives_in_c(drives)] if drives else []
+    counts = f"{len(tables['connection'])}, {len(blocks)}, {len(drives)}"
     body = "".join((CONNECT, BLOCK if blocks else "", DRIVE if drives else ""))
     return "\n".join(
         [
-            HEAD.format(name=re.sub(r"[^\w.-]", "_", name, flags=re.ASCII)),
+            HEAD.format(name=re.sub(r"[^\w.-]", "_", name, flags=re.ASCII), counts=counts),
             *(line for part in parts for line in (*part, "")),
-            "uint8_t plant_make(gp_controller *controller, gp_fault *fault) {",
+            "uint8_t plant_make(gp_controller *controller, gp_unit *region, size_t size, gp_fault *fault) {",
+            f"    static const gp_most most = {{{counts}}};",
             "    uint16_t number = 0;",
-            "    uint8_t answer = gp_controller_open(controller);",
+            "    uint8_t answer = gp_controller_open(controller, region, size, &most);",
             "    if (answer != GP_OK) return answer;",
             body + "    return gp_controller_start(controller, fault);",
             "}",

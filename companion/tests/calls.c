@@ -3,10 +3,11 @@
 #include <stdio.h>
 #include <stdlib.h>
 
-uint8_t plant_make(gp_controller *controller, gp_fault *fault);
+uint8_t plant_make(gp_controller *controller, gp_unit *region, size_t size, gp_fault *fault);
 
 enum { REFUSED = 77 };
 static gp_controller the_controller;
+static gp_unit the_region[4];
 static gp_fault the_fault;
 static long calls, refused;
 
@@ -24,8 +25,9 @@ static void wire(const gp_wire *given) {
     }
 }
 
-uint8_t gp_controller_open(gp_controller *controller) {
-    printf("open");
+uint8_t gp_controller_open(gp_controller *controller, gp_unit *memory, size_t size, const gp_most *most) {
+    printf("open %u %u %u", most->connections, most->blocks, most->drives);
+    if (memory != the_region || size != sizeof the_region) exit(1);
     return answer(controller);
 }
 
@@ -61,5 +63,5 @@ uint8_t gp_controller_start(gp_controller *controller, gp_fault *fault) {
 
 int main(int count, char **words) {
     refused = count > 1 ? atol(words[1]) : 0;
-    return plant_make(&the_controller, &the_fault);
+    return plant_make(&the_controller, the_region, sizeof the_region, &the_fault);
 }

@@ -58,7 +58,7 @@ def made(folder, text, refused=0):
 @strategies.composite
 def plants(draw):
     """The text of a configuration, and the calls that it means."""
-    lines, calls, inputs, outputs = ['[plant]\napp = "net"\nchannel = "hostile"'], ["open"], [], []
+    lines, calls, inputs, outputs = ['[plant]\napp = "net"\nchannel = "hostile"'], [], [], []
     ids = strategies.lists(POSITIVE, min_size=1, max_size=4, unique=True)
     for number, conn in enumerate(draw(ids), 1):
         master, slave, address, watchdog = draw(LENGTH), draw(LENGTH), draw(NUMBER), draw(POSITIVE)
@@ -84,7 +84,8 @@ def plants(draw):
         wire = draw(strategies.sampled_from(wires))
         lines += ["[[drive]]", f'from = "{wire}"', f"out = '{out}'"]
         calls.append(f"drive {out} {wire}")
-    return "\n".join(lines), [*calls, "start"]
+    counts = [sum(call.startswith(kind) for call in calls) for kind in ("connect", "block", "drive")]
+    return "\n".join(lines), [" ".join(map(str, ["open", *counts])), *calls, "start"]
 
 
 @settings(max_examples=15)
@@ -98,7 +99,7 @@ def test_the_example_is_made_as_it_stands(tmp_path):
     tables = tomllib.loads(text)
     calls, code = made(tmp_path, text)
     assert code == 0 and calls == [
-        "open",
+        "open 2 6 1",
         "connect 2 2 1 11 5 1 1 0 app ",
         "connect 2 2 2 12 5 1 1 0 app ",
         *(f"block {list(KINDS).index(block['kind'])} 0 {' '.join(block['ins'])}" for block in tables["block"]),

@@ -15,7 +15,7 @@ enum { STOP = 1, DRIVE = 2, CONNECTIONS = 2, LEN = 2, WATCHDOG = 5 };
 enum { MOST_RESETS = 100 }; /* of a connection; after so many a person has to look */
 
 static gp_controller_memory memory;
-static gp_unit region[1024]; /* more than it needs */
+static gp_unit region[GP_REGION_UNITS(2, 6, 1)];
 static gp_controller controller = GP_CONTROLLER_IN(&memory);
 static gp_frame out;
 static gp_did did;

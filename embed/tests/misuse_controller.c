@@ -243,6 +243,26 @@ static uint8_t call_that_allocates(int which) {
     return gp_controller_drive(&controller, &output_bit, &input);
 }
 
+/* GP_REGION_UNITS is enough, also where each block has all inputs. */
+static void region_that_is_enough(void) {
+    static const gp_most sizes[] = {{1, 0, 0}, {1, 1, 1}, {1, 2, 7}, {3, 17, 100}, {64, 256, 1024}};
+    gp_wire inputs[GP_MOST_INPUTS];
+    for (size_t i = 0; i < GP_MOST_INPUTS; i++) inputs[i] = (gp_wire)GP_INPUT(1, 0);
+    for (size_t i = 0; i < sizeof sizes / sizeof *sizes; i++) {
+        const gp_most *most = &sizes[i];
+        size_t units = GP_REGION_UNITS(most->connections, most->blocks, most->drives);
+        ANSWERS(GP_OK, gp_controller_open(&controller, region, units * sizeof *region, most));
+        for (uint16_t k = 1; k <= most->connections; k++) connected(k);
+        for (uint16_t k = 0; k < most->blocks; k++)
+            ANSWERS(GP_OK, gp_controller_block(&controller, GP_OR, 0, inputs, GP_MOST_INPUTS, &number));
+        for (uint16_t k = 0; k < most->drives; k++) {
+            gp_bit output = {(uint16_t)(k % most->connections + 1), (uint16_t)(k / most->connections)};
+            ANSWERS(GP_OK, gp_controller_drive(&controller, &output, inputs));
+        }
+        ANSWERS(GP_OK, gp_controller_end(&controller));
+    }
+}
+
 /* While the region has no room a call is refused, and nothing is changed. Each is tried over regions of all sizes up to
    the first that is enough. */
 static void no_memory(void) {
@@ -386,6 +406,7 @@ int main(void) {
     bad_connections();
     too_many();
     bad_nets();
+    region_that_is_enough();
     no_memory();
     while_it_runs();
     steps();

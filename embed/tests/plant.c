@@ -13,7 +13,7 @@
 enum { MOST_TEXT = 4096, MOST_BITS = 16 };
 
 static gp_controller_memory memory;
-static gp_unit region[1 << 16];
+static gp_unit region[GP_REGION_UNITS(GP_MOST_CONNECTIONS, GP_MOST_BLOCKS, GP_MOST_DRIVES)];
 static gp_controller controller = GP_CONTROLLER_IN(&memory);
 static gp_frame out;
 static gp_did did;
