@@ -249,14 +249,14 @@ static void region_that_is_enough(void) {
     gp_wire inputs[GP_MOST_INPUTS];
     for (size_t i = 0; i < GP_MOST_INPUTS; i++) inputs[i] = (gp_wire)GP_INPUT(1, 0);
     for (size_t i = 0; i < sizeof sizes / sizeof *sizes; i++) {
-        const gp_most *most = &sizes[i];
-        size_t units = GP_REGION_UNITS(most->connections, most->blocks, most->drives);
-        ANSWERS(GP_OK, gp_controller_open(&controller, region, units * sizeof *region, most));
-        for (uint16_t k = 1; k <= most->connections; k++) connected(k);
-        for (uint16_t k = 0; k < most->blocks; k++)
+        const gp_most *room = &sizes[i];
+        size_t units = GP_REGION_UNITS(room->connections, room->blocks, room->drives);
+        ANSWERS(GP_OK, gp_controller_open(&controller, region, units * sizeof *region, room));
+        for (uint16_t k = 1; k <= room->connections; k++) connected(k);
+        for (uint16_t k = 0; k < room->blocks; k++)
             ANSWERS(GP_OK, gp_controller_block(&controller, GP_OR, 0, inputs, GP_MOST_INPUTS, &number));
-        for (uint16_t k = 0; k < most->drives; k++) {
-            gp_bit output = {(uint16_t)(k % most->connections + 1), (uint16_t)(k / most->connections)};
+        for (uint16_t k = 0; k < room->drives; k++) {
+            gp_bit output = {(uint16_t)(k % room->connections + 1), (uint16_t)(k / room->connections)};
             ANSWERS(GP_OK, gp_controller_drive(&controller, &output, inputs));
         }
         ANSWERS(GP_OK, gp_controller_end(&controller));
