@@ -10,3 +10,4 @@ pub mod Backwards
 pub mod Xored
 pub mod Far
 pub mod Weight
+pub mod Counting

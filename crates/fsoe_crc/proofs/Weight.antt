@@ -5,6 +5,7 @@ use Rattle.std.specs.Int.Bits.{xor_shr, xor_mod, xor_lt}
 use lib.Count.{ones, ones_in, ones_cat}
 use Rattle.fsoe_crc.specs.Remainder.{computing, rem}
 use Rattle.fsoe_crc.specs.Turned.{turned_bits}
+use Rattle.fsoe_crc.specs.Weights.{bits_turned_by}
 use Rattle.fsoe_crc.proofs.Xor.{xor_zero_eq}
 use Rattle.fsoe_crc.proofs.Linear.{xored}
 use Rattle.fsoe_crc.proofs.Xored.{rem-xored}
@@ -84,3 +85,22 @@ byte_turned before a c ha hc other =
 pub six_reached : turned_bits 0x2C 0 + turned_bits 4 0 + turned_bits (rem (0x2C ∷ 4 ∷ 0 ∷ 0 ∷ 0 ∷ [])) (rem (0 ∷ 0 ∷ 0 ∷ 0 ∷ 0 ∷ [])) ≡ 6
 unfolding computing ones ones_in
 six_reached = refl
+
+change_of : (x y : ℕ) → x < 256 → y < 256 → count_ones x + count_ones y + count_ones (rem (x ∷ y ∷ 0 ∷ 0 ∷ 0 ∷ [])) ≡ bits_turned_by (x * 256 + y)
+change_of x y hx hy =
+    let high : (x * 256 + y) / 256 ≡ x = omega arith in
+    let low : (x * 256 + y) % 256 ≡ y = omega arith in
+    rw (high, low, ones_cat 8 x y hy) refl
+
+pub pair_change : (before : List ℕ) (a b c d : ℕ) → a < 256 → b < 256 → c < 256 → d < 256
+    → turned_bits a c + turned_bits b d + turned_bits (rem (before ++ a ∷ b ∷ 0 ∷ 0 ∷ 0 ∷ [])) (rem (before ++ c ∷ d ∷ 0 ∷ 0 ∷ 0 ∷ [])) ≡ bits_turned_by (bit_xor a c * 256 + bit_xor b d)
+pair_change before a b c d ha hb hc hd =
+    rw (rem-xored before (a ∷ b ∷ 0 ∷ 0 ∷ 0 ∷ []) (c ∷ d ∷ 0 ∷ 0 ∷ 0 ∷ []) refl) (change_of (bit_xor a c) (bit_xor b d) (xor_lt 8 a c ha hc) (xor_lt 8 b d hb hd))
+
+pub byte_change : (before : List ℕ) (a c : ℕ) → a < 256 → c < 256
+    → turned_bits a c + turned_bits (rem (before ++ a ∷ 0 ∷ 0 ∷ 0 ∷ [])) (rem (before ++ c ∷ 0 ∷ 0 ∷ 0 ∷ [])) ≡ bits_turned_by (bit_xor a c)
+byte_change before a c ha hc =
+    let low = xor_lt 8 a c ha hc in
+    let high : bit_xor a c / 256 ≡ 0 = omega arith in
+    let same : bit_xor a c % 256 ≡ bit_xor a c = omega arith in
+    rw (rem-xored before (a ∷ 0 ∷ 0 ∷ 0 ∷ []) (c ∷ 0 ∷ 0 ∷ 0 ∷ []) refl) (ap (λ r. count_ones (bit_xor a c) + count_ones r) (sym (zero_first (bit_xor a c)) ∙ ap (λ x. rem (x ∷ bit_xor a c ∷ 0 ∷ 0 ∷ 0 ∷ [])) (sym high) ∙ ap (λ x. rem (bit_xor a c / 256 ∷ x ∷ 0 ∷ 0 ∷ 0 ∷ [])) (sym same)))

@@ -10,8 +10,10 @@
 
 pub use bitwise::crc_bitwise;
 pub use register::{Register, crc};
+pub use weights::changes_by_bits;
 
 mod bitwise;
 pub mod laws;
 mod register;
 mod table;
+mod weights;

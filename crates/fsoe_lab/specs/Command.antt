@@ -1,5 +1,5 @@
 -- The words that name the command of the program, and what it does.
-use Rattle.std.specs.Prelude.{ℕ, ◌+◌, nat_le, List, [], ◌∷◌, codes, Option, Some, None, if◌then◌else◌}
+use Rattle.std.specs.Prelude.{ℕ, ◌+◌, nat_le, List, [], ◌∷◌, Bool, true, false, bytes_eq, codes, Option, Some, None, if◌then◌else◌}
 use Rattle.fsoe_io.specs.declared.status.Ended.{Ended}
 use Rattle.fsoe_io.specs.declared.status.Status.TheVariants as status
 use Rattle.file_run.specs.Outside.{Outside}
@@ -10,6 +10,7 @@ use Rattle.plant_file.specs.declared.noted.Wanted.{Wanted}
 use Rattle.plant_file.specs.declared.noted.Wanted.TheVariants as wanted
 use Rattle.rate_channel.specs.declared.rate_channel.Rates.{Rates}
 use Rattle.schedule_file.specs.Field.{number_said, word_in}
+use Rattle.fsoe_lab.specs.Counts.{counts_text}
 use Rattle.fsoe_lab.specs.declared.command.Trial.{Trial}
 
 -- numbers that are at most 10,000 together
@@ -44,9 +45,16 @@ file_named words = []
 
 -- the line that is written where the words name nothing
 abbrev pub usage_line : List ℕ
-usage_line = codes "usage: fsoe_lab journal|rates <file> [<lose> <alter> <repeat> <late>]\n"
+usage_line = codes "usage: fsoe_lab crc, journal|rates <file> [<lose> <alter> <repeat> <late>]\n"
 
--- what holds of the run of what the words name: a plant ran by the file; without one the usage line was written
-abbrev pub Runs : {C S : Type 0} → Option Trial → Ended → Outside → DeskTold → Handed C S → Type 0
-Runs None ended o desk h = WroteLine usage_line status.Usage ended o h
-Runs (Some trial) ended o desk h = RanFile (RanWanted trial.wanted) ended o desk h
+-- whether they ask for the counts of the changes of data
+abbrev pub counts_asked : List (List ℕ) → Bool
+counts_asked (word ∷ []) = bytes_eq word (codes "crc")
+counts_asked words = false
+
+-- what holds of the run of what the words name: the counts were written, or a plant ran by the file; without either the
+-- usage line was written
+abbrev pub Runs : {C S : Type 0} → Bool → Option Trial → Ended → Outside → DeskTold → Handed C S → Type 0
+Runs true trial ended o desk h = WroteLine counts_text status.Ok ended o h
+Runs false None ended o desk h = WroteLine usage_line status.Usage ended o h
+Runs false (Some trial) ended o desk h = RanFile (RanWanted trial.wanted) ended o desk h

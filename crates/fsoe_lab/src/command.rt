@@ -1,6 +1,6 @@
-//! The arguments that name a plant.
+//! The arguments that name a command.
 ghost use Rattle.std.specs.Prelude.{◌≡◌, ◌≤◌, IfSome, map, string_bytes};
-ghost use Rattle.fsoe_lab.specs.Command.{file_named, rates_of, rates_said, trial_said};
+ghost use Rattle.fsoe_lab.specs.Command.{counts_asked, file_named, rates_of, rates_said, trial_said};
 
 use plant_file::Wanted;
 use rate_channel::Rates;
@@ -72,6 +72,16 @@ pub fn trial_said(words: &[String]) -> Option<Trial>
             rates: rates_said(rates)?,
         }),
         _ => None,
+    }
+}
+
+/// Whether the arguments ask for the counts of the changes of data.
+pub fn counts_asked(words: &[String]) -> bool
+    ensures { result ≡ counts_asked (map string_bytes words.now) }
+{
+    match words {
+        [word] => word.as_bytes() == b"crc".as_slice(),
+        _ => false,
     }
 }
 

@@ -1,13 +1,15 @@
 //! A second program for trials. Its commands `rates` and `journal` run a plant over a script from standard input. The
 //! user may give four rates: about how many of 10,000 frames are lost, altered and repeated, and about how many of
-//! 10,000 pulls give nothing. `rates` writes the report of the plant, `journal` its journal.
+//! 10,000 pulls give nothing. `rates` writes the report of the plant, `journal` its journal. A third command, `crc`, only
+//! writes how many changes of data turn how many bits of them and of their CRC.
 #![tactic(auto)]
 
-ghost use Rattle.std.specs.Prelude.{◌≡◌, ◌⊎◌, IfSome, None, map, string_bytes};
+ghost use Rattle.std.specs.Prelude.{◌≡◌, ◌⊎◌, IfSome, None, false, map, string_bytes};
 ghost use Rattle.fsoe_io.specs.declared.status.Status.TheVariants.{Usage, Write};
-ghost use Rattle.fsoe_lab.specs.Command.{trial_said};
+ghost use Rattle.fsoe_lab.specs.Command.{counts_asked, trial_said};
 
 mod command;
+mod counts;
 mod run;
 
 use black_channel::{HostileChannel, PerfectChannel};
@@ -24,7 +26,7 @@ use std::process::ExitCode;
 /// Runs the command of all these words, with the applications and the channels that the program has for plants. None if
 /// there is no memory for these.
 fn run_program(rt: HostRuntime, words: &[String]) -> Option<Status>
-    ensures usage { trial_said (map string_bytes words.now) ≡ None → IfSome result (λ s. (s ≡ Usage) ⊎ (s ≡ Write)) }
+    ensures usage { trial_said (map string_bytes words.now) ≡ None → counts_asked (map string_bytes words.now) ≡ false → IfSome result (λ s. (s ≡ Usage) ⊎ (s ≡ Write)) }
 {
     let alloc = rt.alloc();
     let zeros = Box::new(alloc, Zeros).ok()?;

@@ -11,4 +11,4 @@ usage_told line ended sink (inl whole) = inl (ap (λ (e : Ended). e.status) whol
 usage_told line ended sink (inr cut) = inr cut.status_is
 
 pub returns : goal.returns
-returns c = record { usage = λ none. usage_told _ _ _ (rw none at c.run-ended.ensures.runs).wrote }
+returns c = record { usage = λ none other. usage_told _ _ _ (rw (none, other) at c.run-ended.ensures.runs).wrote }
