@@ -1,5 +1,5 @@
-use Rattle.multi_master.proofs.Common.{MasterView, common_steps, new_connection, connection_outputs, own_len}
-use Rattle.std.proofs.Common.{◌≡◌, List, length, replicate, refl, ap, ◌∙◌, arith}
+use Rattle.multi_master.proofs.Common.{MasterView, common_steps, own_len}
+use Rattle.std.proofs.Common.{◌≡◌, length, arith}
 use Rattle.multi_master.proofs.making.Connections.add.Goals as goal
 
 pub returns-clause-added : goal.returns-clause-added
