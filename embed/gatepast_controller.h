@@ -209,7 +209,7 @@ size_t gp_controller_align(void);
 /* Creates a controller in its memory, without a connection, a block or a drive. It doesn't run. `size` is the bytes of
    the region, which may be more than most needs. Answers GP_BUSY, then GP_NO_ROOM for a handle without memory, then
    GP_NO_MEMORY. */
-GP_CHECKED uint8_t gp_controller_open(gp_controller *controller, gp_unit *memory, size_t size, const gp_most *most);
+GP_CHECKED uint8_t gp_controller_open(gp_controller *controller, gp_unit *region, size_t size, const gp_most *most);
 
 /* Adds a connection, as gp_master_init sets a master, and tells its number, from 1. Answers GP_BAD_APP for more than
    512 bytes, then what gp_master_init answers, then GP_TOO_MANY, GP_SAME_CONN, GP_NO_MEMORY. */

@@ -38,11 +38,12 @@ place_in xs links link from x fits number f read =
     record { within = within; at = rw (← same) (slice_get_read xs (length xs) (from - 1) x refl within read); place_is = same }
 
 -- what shows what was done and sent tells the step
-pub tells : (is_done : Did → List ℕ → Type 0) (d : Did) (sent : List ℕ) (was g : GpDid) (had f : GpFrame) → is_done d sent → ShowsDid g d → frame_of f ≡ sent → f.len ≤ 255
+pub tells : (is_done : Did → List ℕ → Type 0) (d : Did) (sent : List ℕ) (was g : GpDid) (had f : GpFrame) → is_done d sent → ShowsDid g d → g.used ≡ 0 → frame_of f ≡ sent → f.len ≤ 255
     → drop g.load_len g.load ≡ drop g.load_len was.load → drop f.len f.bytes ≡ drop f.len had.bytes → TellsStep is_done was g had f
-tells is_done d sent was g had f done shows is within past_load past_out = record {
+tells is_done d sent was g had f done shows unused is within past_load past_out = record {
   did = d;
   told = shows;
+  unused = unused;
   done = subst (λ (s : List ℕ). is_done d s) (sym is) done;
   len = within;
   past_load = past_load;
@@ -102,12 +103,12 @@ shows_app v told word e = record { shows = λ settings app calls h. e ∙ ap wor
 -- a step that is told, and counted at its connection
 pub tells_counted : (answers : ControllerView → Did → List ℕ → Type 0) (was old left new : ControllerView) (link place : ℕ) (before after : GpCounts) (d : Did) (sent : List ℕ) (had g : GpDid) (out f : GpFrame) → was ≡ old → left ≡ new
     → answers was d sent → PlaceIn was.counts link place before → CountsStep before d after → left.counts ≡ slice_set was.counts place after
-    → ShowsDid g d → frame_of f ≡ sent → f.len ≤ 255 → drop g.load_len g.load ≡ drop g.load_len had.load → drop f.len f.bytes ≡ drop f.len out.bytes
+    → ShowsDid g d → g.used ≡ 0 → frame_of f ≡ sent → f.len ≤ 255 → drop g.load_len g.load ≡ drop g.load_len had.load → drop f.len f.bytes ≡ drop f.len out.bytes
     → TellsStep (AnswersCounted (answers old) link old new) had g out f
-tells_counted answers was old left new link place before after d sent had g out f w l answered at counted is shows sent_is len past_load past_out =
+tells_counted answers was old left new link place before after d sent had g out f w l answered at counted is shows unused sent_is len past_load past_out =
     tells (AnswersCounted (answers old) link old new) d sent had g out f
     (rw (← w, ← l) (record { answered = answered; counted = record { before = before; after = after; was = at.at; counted = counted; is = rw (← at.place_is) is } }))
-    shows sent_is len past_load past_out
+    shows unused sent_is len past_load past_out
 
 -- the same counts of the same steps
 pub counts_each : (was old : List GpCounts) (dids done : List Did) (now new : List GpCounts) → CountsEach was dids now → was ≡ old → dids ≡ done → now ≡ new → CountsEach old done new

@@ -13,10 +13,12 @@ use Rattle.controller_c.specs.ControllerView.{ControllerView}
 use Rattle.controller_c.specs.Counts.{CountsStand, CountsStep}
 use Rattle.controller_c.specs.declared.counts.GpCounts.{GpCounts}
 
--- the fields and the frame are those of a step of which this holds; what lay behind the data and the frame stays
+-- the fields and the frame are those of a step of which this holds, and no id is told as used again; what lay behind the
+-- data and the frame stays
 pub record TellsStep (is_done : Did → List ℕ → Type 0) (was g : GpDid) (had f : GpFrame) : Type 0 where
   pub did : Did
   pub told : ShowsDid g did
+  pub unused : g.used ≡ 0
   pub done : is_done did (frame_of f)
   pub len : f.len ≤ 255
   pub past_load : drop g.load_len g.load ≡ drop g.load_len was.load

@@ -35,17 +35,17 @@ pub extern "C" fn gp_controller_align() -> usize
     align_of::<ControllerRoom>()
 }
 
-/// Makes a controller of no connection and no block, which doesn't run, with room in this memory for so many. The
-/// memory is the controller's for good.
+/// Makes a controller of no connection and no block, which doesn't run, with room in this region for so many. By this
+/// contract the region is given for good.
 #[unsafe(no_mangle)]
 pub extern "C" fn gp_controller_open(
     controller: &mut GpController,
-    memory: Memory,
+    region: Memory,
     size: usize,
     most: &GpMost,
 ) -> u8
     requires sound { IsSoundController controller.old }
-    requires memory { memory.size ≡ size }
+    requires region { region.size ≡ size }
     ensures sound { IsSoundController controller.new }
     ensures answer { result ≢ NO_MEMORY → result ≡ open_answer controller.old }
     ensures memory_alone { result ≡ NO_MEMORY → open_answer controller.old ≡ OK }
@@ -59,10 +59,10 @@ pub extern "C" fn gp_controller_open(
     if controller.place.is_null() {
         return NO_ROOM;
     }
-    let Ok(region) = Region::forever(memory, size) else {
+    let Ok(taken) = Region::forever(region, size) else {
         return NO_MEMORY;
     };
-    let Ok(room) = ControllerRoom::empty(region, most) else {
+    let Ok(room) = ControllerRoom::empty(taken, most) else {
         return NO_MEMORY;
     };
     controller.place.put(room);

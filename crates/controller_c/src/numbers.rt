@@ -1,6 +1,6 @@
 //! The numbers by which only a controller answers. `embed/gatepast_controller.h` has them as `GP_NO_MEMORY` and so on.
 
-/// The heap has no room. No other refusal applies.
+/// The region has no room. No other refusal applies.
 pub const NO_MEMORY: u8 = 20;
 
 /// The controller runs already.

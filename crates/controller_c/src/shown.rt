@@ -117,8 +117,8 @@ pub extern "C" fn gp_controller_inputs(
     OK
 }
 
-/// Copies the safe data that this connection's next data frame carries, the last result of its net, as many bytes as its
-/// master's frames carry.
+/// Copies the last result of the net for this connection, which its next data frame carries unless it is held, as many
+/// bytes as its master's frames carry.
 #[unsafe(no_mangle)]
 #[tactic(auto, using(c_values::proofs::Places::vacuous))]
 pub extern "C" fn gp_controller_offer(

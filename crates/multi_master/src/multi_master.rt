@@ -16,8 +16,8 @@ use std::alloc::{AllocError, Allocator, Global};
 use std::marker::Model;
 
 /// The masters of up to 64 connections. In each cycle the application computes the offers of all of them from the
-/// outputs of all. An event of one connection changes another one only in this way. Only `new`, `connect` and `add`
-/// allocate.
+/// outputs of all. An event of one connection changes another one only in this way. Only `new`, `within`,
+/// `connect` and `add` allocate.
 #[derive(Drop)]
 pub struct MultiMaster<A, M: Allocator = Global> {
     connections: Connections<M>,
@@ -325,8 +325,8 @@ impl<A: Application, M: Allocator> MultiMaster<A, M> {
         self.connections.masters[usize::from(link) - 1].held()
     }
 
-    /// Returns the safe data that this connection's next data frame carries: the last result of the application, or
-    /// zeros before the first cycle. They have as many bytes as its master's frames.
+    /// Returns the last result of the application for this connection, or zeros before the first cycle. Its next data
+    /// frame carries this, unless it is held. It has as many bytes as its master's frames.
     pub fn offer(&self, link: u16) -> &[u8]
         requires { HasLink self.now link }
         ensures shown { ShowsAt (seen A.rule A.holds A.guards self.now) link result.now offer_at }
