@@ -58,7 +58,8 @@
  *     A controller lies in a gp_controller_memory, and what it has for its connections and blocks in a region that the
  *     program hands in: an array of gp_unit. open takes room there for as many as `most` says, and block for a
  *     block's inputs; connect, block and drive take more if there are more than that. If there is no room, they answer
- *     GP_NO_MEMORY. Nothing is given back before end. GP_REGION_UNITS is tried to be enough.
+ *     GP_NO_MEMORY, and may have used up some of it. Nothing is given back before end. GP_REGION_UNITS is tried to be
+ *     enough.
  *
  * Answers
  *     Each call returns a number of enum gp_answer or enum gp_controller_answer, except gp_.._size and gp_.._align. A
@@ -69,8 +70,10 @@
  * What you owe
  *     What gatepast.h lists, for handles of controllers as for those of ends, with gp_controller_end,
  *     gp_controller_size and GP_CONTROLLER_IN. gp_version is of the ends' archive: compare gp_controller_size() with
- *     GP_CONTROLLER_SIZE in its place. From gp_controller_open on the region is the controller's, as its memory is.
- *     That nothing uses it after gp_controller_end, or after open answered GP_NO_MEMORY, is tried, but not proved.
+ *     GP_CONTROLLER_SIZE in its place, and take header and archive of one build, since the size alone isn't a
+ *     version. From gp_controller_open on the region is the controller's, whatever open answers. That nothing uses it
+ *     after gp_controller_end or after a refused open, and that open refuses a controller that is there also if it
+ *     is given this controller's own region, is tried, but not proved.
  */
 #ifndef GATEPAST_CONTROLLER_H
 #define GATEPAST_CONTROLLER_H
@@ -158,8 +161,9 @@ typedef struct gp_unit {
     GP_ALIGNED_16 uint8_t bytes[16];
 } gp_unit;
 
-/* The units of a region that are enough for so many, whatever they are. */
-#define GP_REGION_UNITS(connections, blocks, drives)                                                                      \
+/* The units of a region that are enough for a controller that is opened with these numbers and gets no more, whatever
+   its lengths, inputs and kinds are. */
+#define GP_REGION_UNITS(connections, blocks, drives) \
     (9 + 161 * (size_t)(connections) + 6 * (size_t)(blocks) + (5 * (size_t)(drives) + 7) / 8)
 
 /* How many of each a controller is to have room for. */
@@ -243,8 +247,9 @@ GP_CHECKED uint8_t gp_controller_deliver(gp_controller *controller, uint16_t con
 /* Counts a tick at all connections in order, and then runs a cycle. */
 GP_CHECKED uint8_t gp_controller_tick(gp_controller *controller);
 
-/* Tells what the last tick did at this connection, and its frame to send; before the first tick nothing and no frame.
-   Ask for each connection after each tick. */
+/* Tells what the last tick did at this connection, and its frame to send; before the first tick nothing and no frame
+   (tried). Ask once for each connection after each tick, before its next deliver or reset: later it still tells the old
+   frame. */
 GP_CHECKED uint8_t gp_controller_ticked(gp_controller *controller, uint16_t connection, gp_frame *out, gp_did *did);
 
 /* Ends the session of this connection, if there is one, and runs a cycle. out is the Reset frame to send. */
@@ -282,7 +287,7 @@ GP_CHECKED uint8_t gp_controller_terms(gp_controller *controller, uint16_t conne
 GP_CHECKED uint8_t gp_controller_age(gp_controller *controller, uint16_t connection, uint16_t *age);
 GP_CHECKED uint8_t gp_controller_held(gp_controller *controller, uint16_t connection, uint8_t *held);
 
-/* 1: the last call of start, deliver, tick, reset, hold or nonce changed what this connection is to send. */
+/* 1: the last call of start, deliver, tick or reset changed the offer of this connection; 0 after hold and nonce. */
 GP_CHECKED uint8_t gp_controller_changed(gp_controller *controller, uint16_t connection, uint8_t *changed);
 
 /* The counts of this connection. gp_controller_clear_counts makes them zeros, and changes nothing else. */
@@ -292,8 +297,9 @@ GP_CHECKED uint8_t gp_controller_clear_counts(gp_controller *controller, uint16_
 /* The value of a block in the last cycle. GP_NOT_RUNNING, then GP_NO_BLOCK. */
 GP_CHECKED uint8_t gp_controller_value(gp_controller *controller, uint16_t block, uint8_t *value);
 
-/* 1: this output bit is 0 after each cycle in which this input bit is 0, by the blocks on its way, or no drive sets it.
-   0 doesn't say that it isn't. GP_NOT_RUNNING, then GP_NO_CONNECTION for either bit. */
+/* 1: this output bit is 0 after each cycle in which this input bit is 0, by the blocks on its way, or no drive sets it,
+   so also if there is no such bit: name the bit as its drive does. 0 doesn't say that it isn't. GP_NOT_RUNNING, then
+   GP_NO_CONNECTION for either bit. */
 GP_CHECKED uint8_t gp_controller_guards(gp_controller *controller, const gp_bit *output, const gp_bit *input,
                                         uint8_t *guards);
 
