@@ -5,6 +5,9 @@ use std::path::PathBuf;
 fn main() {
     println!("cargo:rerun-if-env-changed=GATEPAST_LIB");
     link("gatepast", "fsoe_c");
+    if std::env::var_os("CARGO_FEATURE_CONTROLLER").is_some() {
+        link("gatepast_controller", "controller_c");
+    }
     if std::env::var_os("CARGO_FEATURE_REPLAY").is_some() {
         link("gatepast_replay", "replay_c");
     }

@@ -3,9 +3,12 @@
 //! An end has no clock and no communication interface: your program passes in frames and ticks, and sends its frames.
 //! It lies in memory that you lend it, allocates none, and needs no operating system. The source of the archive is
 //! proved to do what the profile says; this package is a thin layer over it, and isn't proved. The archive refuses no
-//! call that the types allow. Lengths are part of the type of an end, a session id has the bits that its profile
-//! allows, and a master that owes a frame sends it first. Your other duties are in `docs/duties.md`: send each step's
-//! frame, give a fresh id before each session, tick, apply the outputs. `examples/drive.rs` is a whole loop.
+//! call of an end that the types allow. Lengths are part of the type of an end, a session id has the bits that its
+//! profile allows, and a master that owes a frame sends it first. Your other duties are in `docs/duties.md`: send each
+//! step's frame, give a fresh id before each session, tick, apply the outputs. `examples/drive.rs` is a whole loop.
+//!
+//! With the feature `controller` a `Plan` of connections and function blocks becomes a `Controller`, over an archive of
+//! its own. Its lengths and numbers are those of the run, and a call that may be refused returns a `Result`.
 //!
 //! Keep the last frame, and send it again until a step gives the next, but never an older one: an end drops the frame
 //! that it took last, so that a lost frame is no stop. Datagrams may overtake each other, and an older frame ends its
@@ -35,6 +38,8 @@
 #![no_std]
 #![warn(missing_docs)]
 
+#[cfg(feature = "controller")]
+mod controller;
 mod ffi;
 mod master;
 #[cfg(feature = "replay")]
@@ -43,6 +48,11 @@ mod settings;
 mod slave;
 mod step;
 
+#[cfg(feature = "controller")]
+pub use controller::{
+    Bit, Block, Connection, Controller, ControllerMemory, Counts, Fault, Kind, Lengths, Most, Plan,
+    Refused, Unit, Wire,
+};
 pub use master::{Accepted, Due, Master, MasterMemory};
 #[cfg(feature = "replay")]
 pub use replay::{replay, Ending, Replayed};
@@ -88,7 +98,8 @@ fn done(answer: u8) {
 /// # use gatepast::{One, Rule, Slave, SlaveMemory, SlaveSettings};
 /// # let one = NonZeroU16::MIN;
 /// let settings = SlaveSettings { address: 2, hand: one, most: one, profile: One { nonce: 2 } };
-/// let mut slave = Slave::<One, 3, 2>::new(&mut SlaveMemory::new(), &settings, Rule::any::<0>());
+/// let mut memory = SlaveMemory::new();
+/// let mut slave = Slave::<One, 3, 2>::new(&mut memory, &settings, Rule::any::<0>());
 /// ```
 ///
 /// a put of a wrong length,

@@ -62,16 +62,7 @@ impl<'m, P: Profile, const M: usize, const S: usize> Master<'m, P, M, S> {
             lent: PhantomData,
             profile: PhantomData,
         };
-        let set = ffi::MasterSettings {
-            master_len: M as u16,
-            slave_len: S as u16,
-            conn: settings.conn.get(),
-            address: settings.address,
-            watchdog: settings.watchdog.get(),
-            profile: P::NUMBER,
-            nonce: settings.profile.nonce().into(),
-            word: settings.profile.word(),
-        };
+        let set = settings.in_c(M as u16, S as u16);
         let app = settings.app.bytes();
         // SAFETY: the handle is new, its memory is a master's and lent for as long as it lives; the slice is valid.
         done(unsafe { ffi::gp_master_init(&mut master.handle, &set, app.as_ptr(), app.len()) });

@@ -2,6 +2,8 @@
 
 use core::num::NonZeroU16;
 
+use crate::ffi;
+
 /// A profile of parameters: [`One`] or [`Two`].
 pub trait Profile: Copy + private::Sealed {
     /// A session id.
@@ -92,6 +94,21 @@ pub struct MasterSettings<'a, P> {
     pub app: App<'a>,
     /// The profile, with the first session id.
     pub profile: P,
+}
+
+impl<P: Profile> MasterSettings<'_, P> {
+    pub(crate) fn in_c(&self, master_len: u16, slave_len: u16) -> ffi::MasterSettings {
+        ffi::MasterSettings {
+            master_len,
+            slave_len,
+            conn: self.conn.get(),
+            address: self.address,
+            watchdog: self.watchdog.get(),
+            profile: P::NUMBER,
+            nonce: self.profile.nonce().into(),
+            word: self.profile.word(),
+        }
+    }
 }
 
 /// Application parameters: at most 512 bytes that the application gives a meaning.
