@@ -6,8 +6,7 @@
  *     estop <examples/emergency_stop.script
  *
  * It writes what `fsoe_tool plant` writes of the same, but for the last line. plant.h has the machine: replace its
- * calls by those of your bus. Over a bus that loses frames send each connection's last frame again, as udp_controller.c
- * does.
+ * calls by those of your bus. Over a bus that loses frames send each connection's last frame again, as udp_estop.c does.
  */
 #include "plant.h"
 

@@ -1,13 +1,14 @@
 /*
- * A bus over UDP between two processes, for udp_drive.c and udp_controller.c. Each datagram has one frame.
+ * A bus over UDP between two processes, for udp_drive.c, udp_controller.c and udp_estop.c, which has one for each
+ * connection. Each datagram has one frame.
  *
  * UDP may lose a datagram, and it may deliver one after a later one. Against the first, the last frame is sent again
  * until there is a new one: an end drops the frame that it took last, if it comes again. Against the second, each
  * datagram begins with a number. It rises with each datagram, also when a frame is sent again and when the program
  * starts anew, and a datagram whose number doesn't rise is thrown away. A late frame would end the session.
  *
- * Within one machine UDP does neither, so the bus itself does both, by chance. A folder has the ports, which the system
- * chooses, and the session ids that were used last.
+ * Within one machine UDP does neither, so the bus itself does both, by chance. A folder has files with the ports, which
+ * the system chooses, and the session ids that were used last: drive2.port is the port of the slave of connection 2.
  */
 #ifndef UDP_H
 #define UDP_H
@@ -24,32 +25,43 @@
 #include <time.h>
 #include <unistd.h>
 
-enum { MASTER_LEN = 2, SLAVE_LEN = 2, ADDRESS = 2, CONNECTION = 1 };
+enum { MASTER_LEN = 2, SLAVE_LEN = 2 };
+enum { ADDRESS = 1 };               /* of the slave of connection k: k more */
 enum { MOST_FRAMES = 4 };           /* delivered in a millisecond, so that ticks never wait for frames */
 enum { MOST_RESETS = 100 };         /* after so many a person has to look */
 enum { MOST_MILLISECONDS = 20000 }; /* before the example gives up */
 enum { WATCHDOG = 1000 };           /* long, so that a busy machine doesn't stop the example */
 enum { MOTOR = 1, LEAVING = 2 };    /* bits of an order: the motor is enabled; the controller will end its session */
+enum { READY = 0x80 };              /* the bit by which a drive says that it is ready */
 enum { LATE = 2, OVERTAKING = 5 };  /* of a hundred datagrams so many come late, after so many others */
 enum { NUMBER_LEN = 8, MOST_DATAGRAM = NUMBER_LEN + GP_MOST_FRAME };
 
-static const char *folder, *name, *peer;
-static unsigned lost = 10; /* of a hundred datagrams */
-static unsigned again = 3; /* the last frame is sent again after so many milliseconds; 0: it isn't */
-static uint32_t seed = 1;
-static int bus = -1;
-static bool connected;
-static unsigned now;    /* the time in milliseconds */
-static uint64_t number; /* of the last datagram that was sent */
-static struct timespec wake; /* when the last millisecond that was counted came */
-static gp_frame last;   /* the last frame that was sent, and when */
-static unsigned last_time;
+/* This end of a connection. All zeros but for the connection before bus_open. */
+typedef struct udp_bus {
+    uint16_t connection; /* its id, and its number in the names of files */
+    int socket;
+    bool connected;
+    uint64_t number, newest; /* of the last datagram that was sent, and that came */
+    gp_frame last;           /* the last frame that was sent, and when */
+    unsigned last_time;
+    uint8_t late[MOST_DATAGRAM]; /* a datagram that waits until so many were sent */
+    size_t late_len;
+    unsigned late_after;
+    unsigned resets; /* since the program started */
+} udp_bus;
 
-/* A number in a file of the folder: 0 if there is no such file. False if it can't be read. */
-static bool read_number(const char *of, const char *what, unsigned long *value) {
+static const char *folder, *name, *peer; /* name and peer: "drive" and "controller", or the other way round */
+static uint16_t connection = 1;          /* of a program that has one */
+static unsigned lost = 10;               /* of a hundred datagrams */
+static unsigned again = 3;               /* the last frame is sent again after so many milliseconds; 0: it isn't */
+static uint32_t seed = 1;
+static unsigned now;                     /* the time in milliseconds */
+static struct timespec wake;             /* when the last millisecond that was counted came */
+
+/* Reads a number from a file of the folder. It stays as it is if there is no such file. False if it can't be read. */
+static bool read_number(const udp_bus *bus, const char *of, const char *what, unsigned long *value) {
     char path[4096];
-    *value = 0;
-    const int len = snprintf(path, sizeof path, "%s/%s.%s", folder, of, what);
+    const int len = snprintf(path, sizeof path, "%s/%s%u.%s", folder, of, bus->connection, what);
     if (len < 0 || (size_t)len >= sizeof path) return false;
     FILE *file = fopen(path, "r");
     if (file == NULL) return errno == ENOENT;
@@ -67,10 +79,10 @@ static bool names_are_stored(void) {
 }
 
 /* Puts a new file in the place of the old one, so that whoever reads finds one of them whole. */
-static bool write_number(const char *what, unsigned long value) {
+static bool write_number(const udp_bus *bus, const char *what, unsigned long value) {
     char path[4096], fresh[4096];
-    const int len = snprintf(path, sizeof path, "%s/%s.%s", folder, name, what);
-    const int fresh_len = snprintf(fresh, sizeof fresh, "%s/%s.%s.new", folder, name, what);
+    const int len = snprintf(path, sizeof path, "%s/%s%u.%s", folder, name, bus->connection, what);
+    const int fresh_len = snprintf(fresh, sizeof fresh, "%s/%s%u.%s.new", folder, name, bus->connection, what);
     if (len < 0 || fresh_len < 0 || (size_t)fresh_len >= sizeof fresh) return false;
     FILE *file = fopen(fresh, "w");
     if (file == NULL) return false;
@@ -78,12 +90,23 @@ static bool write_number(const char *what, unsigned long value) {
     return fclose(file) == 0 && done && rename(fresh, path) == 0 && names_are_stored();
 }
 
-/* A session id that no session of this end had, stored before it is used; 0 if there is none. This begins anew if the
-   file is gone, as no device may: see docs/duties.md. */
-static uint16_t fresh_id(unsigned step) {
+/* Ends this program, which says how: safely. */
+static void stop(const char *why);
+
+/* A session id that no session of this end had, stored before it is used. A slave counts by 2, a master by 1. This
+   begins anew if the file is gone, as no device may: see docs/duties.md. */
+static uint16_t fresh_id(const udp_bus *bus, unsigned step) {
     unsigned long used = 0;
-    if (!read_number(name, "id", &used) || used + step > 0xFFFF || !write_number("id", used + step)) return 0;
+    if (!read_number(bus, name, "id", &used) || used + step > 0xFFFF) stop("no session id is left");
+    if (!write_number(bus, "id", used + step)) stop("the session id can't be kept");
     return (uint16_t)(used + step);
+}
+
+/* Tells a reset, and returns the id of the session after it. */
+static uint16_t id_after_reset(udp_bus *bus, unsigned step, uint8_t code) {
+    printf("the session of connection %u ended with code %02x\n", bus->connection, code);
+    if (++bus->resets > MOST_RESETS) stop("too many resets");
+    return fresh_id(bus, step);
 }
 
 /* The address of a port of this machine. */
@@ -95,24 +118,25 @@ static struct sockaddr_in at_port(unsigned long port) {
 
 /* Opens the bus at the port that this end had before, else at one that the system chooses. Its datagrams have higher
    numbers than those of earlier starts, since the id is higher. */
-static bool bus_open(uint32_t id) {
+static bool bus_open(udp_bus *bus, uint32_t id) {
     unsigned long port = 0;
-    if (!read_number(name, "port", &port)) return false;
+    if (!read_number(bus, name, "port", &port)) return false;
     struct sockaddr_in own = at_port(port);
     socklen_t len = sizeof own;
-    bus = socket(AF_INET, SOCK_DGRAM | SOCK_NONBLOCK, 0);
-    number = (uint64_t)id << 32;
-    return bus >= 0 && bind(bus, (struct sockaddr *)&own, sizeof own) == 0 &&
-           getsockname(bus, (struct sockaddr *)&own, &len) == 0 && write_number("port", ntohs(own.sin_port));
+    bus->socket = socket(AF_INET, SOCK_DGRAM | SOCK_NONBLOCK, 0);
+    bus->number = (uint64_t)id << 32;
+    return bus->socket >= 0 && bind(bus->socket, (struct sockaddr *)&own, sizeof own) == 0 &&
+           getsockname(bus->socket, (struct sockaddr *)&own, &len) == 0 &&
+           write_number(bus, "port", ntohs(own.sin_port));
 }
 
 /* Looks for the peer's port until there is one. From then on the bus takes no datagram of anybody else. */
-static bool bus_connected(void) {
+static bool bus_connected(udp_bus *bus) {
     unsigned long port = 0;
-    if (connected || !read_number(peer, "port", &port) || port == 0) return connected;
+    if (bus->connected || !read_number(bus, peer, "port", &port) || port == 0) return bus->connected;
     const struct sockaddr_in other = at_port(port);
-    connected = connect(bus, (const struct sockaddr *)&other, sizeof other) == 0;
-    return connected;
+    bus->connected = connect(bus->socket, (const struct sockaddr *)&other, sizeof other) == 0;
+    return bus->connected;
 }
 
 static uint32_t by_chance(void) {
@@ -123,58 +147,45 @@ static uint32_t by_chance(void) {
 }
 
 /* Loses a datagram, or keeps it until some later ones were sent, or sends it. What can't be sent is lost, too. */
-static void pass(const uint8_t *datagram, size_t len) {
-    static uint8_t late[MOST_DATAGRAM];
-    static size_t late_len;
-    static unsigned first; /* so many go before the late one */
+static void pass(udp_bus *bus, const uint8_t *datagram, size_t len) {
     const uint32_t chance = by_chance() % 100;
     if (chance < lost) return;
-    if (chance < lost + LATE && first == 0) {
-        memcpy(late, datagram, len);
-        late_len = len;
-        first = OVERTAKING;
+    if (chance < lost + LATE && bus->late_after == 0) {
+        memcpy(bus->late, datagram, len);
+        bus->late_len = len;
+        bus->late_after = OVERTAKING;
         return;
     }
-    (void)send(bus, datagram, len, 0);
-    if (first != 0 && --first == 0) (void)send(bus, late, late_len, 0);
+    (void)send(bus->socket, datagram, len, 0);
+    if (bus->late_after != 0 && --bus->late_after == 0) (void)send(bus->socket, bus->late, bus->late_len, 0);
 }
 
 /* Sends the last frame, in a datagram with the next number. */
-static void send_last(void) {
+static void send_last(udp_bus *bus) {
     uint8_t datagram[MOST_DATAGRAM];
-    last_time = now;
-    if (last.len == 0 || !bus_connected()) return;
-    number++;
-    for (int i = 0; i < NUMBER_LEN; i++) datagram[i] = (uint8_t)(number >> (8 * (NUMBER_LEN - 1 - i)));
-    memcpy(datagram + NUMBER_LEN, last.bytes, last.len);
-    pass(datagram, NUMBER_LEN + last.len);
+    bus->last_time = now;
+    if (bus->last.len == 0 || !bus_connected(bus)) return;
+    bus->number++;
+    for (int i = 0; i < NUMBER_LEN; i++) datagram[i] = (uint8_t)(bus->number >> (8 * (NUMBER_LEN - 1 - i)));
+    memcpy(datagram + NUMBER_LEN, bus->last.bytes, bus->last.len);
+    pass(bus, datagram, NUMBER_LEN + bus->last.len);
 }
 
 /* Keeps a frame, and sends it. */
-static void bus_send(const gp_frame *frame) {
-    last = *frame;
-    send_last();
+static void bus_send(udp_bus *bus, const gp_frame *frame) {
+    bus->last = *frame;
+    send_last(bus);
+}
+
+/* Sends a program's last frame some times at once, since no loop is left that sends it again. */
+static inline void bus_send_end(udp_bus *bus, const gp_frame *frame) {
+    for (int i = 0; i < 10; i++) bus_send(bus, frame);
 }
 
 /* Sends the last frame again, if it was sent long enough ago. */
-static void bus_send_again(void) {
-    if (again != 0 && now - last_time >= again) send_last();
+static void bus_send_again(udp_bus *bus) {
+    if (again != 0 && now - bus->last_time >= again) send_last(bus);
 }
-
-/* A frame that came, or NULL at once: if none came, the peer isn't there, or the number didn't rise. */
-static const uint8_t *bus_receive(size_t *len) {
-    static uint8_t datagram[MOST_DATAGRAM + 1]; /* one byte more, so that what is too long stays too long */
-    static uint64_t newest;
-    uint64_t its_number = 0;
-    const ssize_t got = bus_connected() ? recv(bus, datagram, sizeof datagram, 0) : -1;
-    if (got < NUMBER_LEN) return NULL;
-    for (int i = 0; i < NUMBER_LEN; i++) its_number = its_number << 8 | datagram[i];
-    if (its_number <= newest) return NULL;
-    newest = its_number;
-    *len = (size_t)got - NUMBER_LEN;
-    return datagram + NUMBER_LEN;
-}
-
 /* Waits for the next millisecond, or not if one was missed: each is ticked. False if the program is to end. */
 static bool next_millisecond(void) {
     if (now == 0 && clock_gettime(CLOCK_MONOTONIC, &wake) != 0) return false;
@@ -195,13 +206,38 @@ static bool is_late(void) {
     return (time.tv_sec - wake.tv_sec) * 1000000000LL + (time.tv_nsec - wake.tv_nsec) >= 1000000;
 }
 
-/* The words of the command: FOLDER [LOST [AGAIN [SEED]]]. False if there are too few or too many. */
+/* A frame that came, or NULL at once: if ticks come first, none came, no peer is there, or the number didn't rise. */
+static const uint8_t *bus_receive(udp_bus *bus, size_t *len) {
+    static uint8_t datagram[MOST_DATAGRAM + 1]; /* one byte more, so that what is too long stays too long */
+    uint64_t its_number = 0;
+    const ssize_t got = !is_late() && bus_connected(bus) ? recv(bus->socket, datagram, sizeof datagram, 0) : -1;
+    if (got < NUMBER_LEN) return NULL;
+    for (int i = 0; i < NUMBER_LEN; i++) its_number = its_number << 8 | datagram[i];
+    if (its_number <= bus->newest) return NULL;
+    bus->newest = its_number;
+    *len = (size_t)got - NUMBER_LEN;
+    return datagram + NUMBER_LEN;
+}
+
+/* The settings of a connection's master, with a fresh id. */
+static inline gp_master_settings master_settings(const udp_bus *bus) {
+    return (gp_master_settings){.master_len = MASTER_LEN,
+                                .slave_len = SLAVE_LEN,
+                                .conn = bus->connection,
+                                .address = (uint16_t)(ADDRESS + bus->connection),
+                                .watchdog = WATCHDOG,
+                                .profile = 1,
+                                .nonce = fresh_id(bus, 1)};
+}
+
+/* The words of the command: FOLDER [LOST [AGAIN [SEED [CONNECTION]]]]. False if there are too few or too many. */
 static bool read_words(int count, char **words) {
-    if (count < 2 || count > 5) return false;
+    if (count < 2 || count > 6) return false;
     folder = words[1];
     if (count > 2) lost = (unsigned)strtoul(words[2], NULL, 10);
     if (count > 3) again = (unsigned)strtoul(words[3], NULL, 10);
     if (count > 4) seed = (uint32_t)strtoul(words[4], NULL, 10);
+    if (count > 5) connection = (uint16_t)strtoul(words[5], NULL, 10);
     seed = 2 * seed + 1; /* never 0 */
     return true;
 }

@@ -1,5 +1,6 @@
 /*
- * The controller of controller.c over UDP, where frames get lost: udp_controller FOLDER [LOST [AGAIN [SEED]]]
+ * The controller of controller.c over UDP, where frames get lost:
+ * udp_controller FOLDER [LOST [AGAIN [SEED [CONNECTION]]]]
  *
  * udp_drive is the other end, over the same folder; its source says what the words are. The program tells each reset.
  * After EXCHANGES of data it orders the motor off and says that it leaves. It leaves when the drive has answered that.
@@ -8,20 +9,20 @@
 
 enum { EXCHANGES = 200 };
 
+static udp_bus bus;
 static gp_master_memory memory;
 static gp_master master = GP_MASTER_IN(&memory);
 static gp_frame out;
 static gp_did did;
-static unsigned exchanges, resets;
+static unsigned exchanges;
 
-/* Ends the session at both ends. No loop is left that sends the last frame again, so it goes out some times at once. A
-   frame that is due isn't sent: its order may no longer be right. */
+/* Ends the session at both ends. A frame that is due isn't sent: its order may no longer be right. */
 static void leave(void) {
     uint8_t answer = gp_master_reset(&master, &out, &did);
     if (answer == GP_FRAME_DUE && gp_master_reply(&master, &out) == GP_OK) {
         answer = gp_master_reset(&master, &out, &did);
     }
-    for (int i = 0; i < 10 && answer == GP_OK; i++) bus_send(&out);
+    if (answer == GP_OK) bus_send_end(&bus, &out);
 }
 
 static void stop(const char *why) {
@@ -30,27 +31,19 @@ static void stop(const char *why) {
     exit(1);
 }
 
-static uint16_t next_id(void) {
-    const uint16_t id = fresh_id(1);
-    if (id == 0) stop("no session id is left, or it can't be kept");
-    return id;
-}
-
-/* Enables the motor if the drive says in bit 7 that it is ready. The inputs are zeros in every state but GP_DATA, so
-   after a reset the first order is off. */
+/* Enables the motor if the drive says that it is ready. The inputs are zeros in every state but GP_DATA, so after a
+   reset the first order is off. */
 static void decide(void) {
     uint8_t inputs[SLAVE_LEN] = {0}, order[MASTER_LEN] = {0};
     if (gp_master_inputs(&master, inputs, sizeof inputs) != GP_OK) stop("no inputs");
-    if (inputs[0] & 0x80) order[0] = exchanges < EXCHANGES ? MOTOR : LEAVING;
+    if (inputs[0] & READY) order[0] = exchanges < EXCHANGES ? MOTOR : LEAVING;
     if (gp_master_put(&master, order, sizeof order) != GP_OK) stop("the order is refused");
 }
 
 /* After each step, when its frame is sent: what may take long. */
 static void follow(void) {
     if (did.reset == GP_NO_RESET) return;
-    printf("the session ended with code %02x\n", did.code);
-    if (++resets > MOST_RESETS) stop("too many resets");
-    if (gp_master_nonce(&master, next_id()) != GP_OK) stop("no session id");
+    if (gp_master_nonce(&master, id_after_reset(&bus, 1, did.code)) != GP_OK) stop("no session id");
 }
 
 /* Accepts a frame, decides, and sends the frame that is due. */
@@ -63,7 +56,7 @@ static void came(const uint8_t *frame, size_t len) {
     decide();
     if (is_due) {
         if (gp_master_reply(&master, &out) != GP_OK) stop("no answer");
-        bus_send(&out);
+        bus_send(&bus, &out);
     }
     follow();
 }
@@ -72,37 +65,32 @@ static void came(const uint8_t *frame, size_t len) {
 static void passed(void) {
     if (gp_master_tick(&master, &out, &did) != GP_OK) stop("no master");
     decide();
-    if (out.len != 0) bus_send(&out);
+    if (out.len != 0) bus_send(&bus, &out);
     follow();
 }
 
 static void start(void) {
-    const gp_master_settings settings = {.master_len = MASTER_LEN,
-                                         .slave_len = SLAVE_LEN,
-                                         .conn = CONNECTION,
-                                         .address = ADDRESS,
-                                         .watchdog = WATCHDOG,
-                                         .profile = 1,
-                                         .nonce = next_id()};
+    bus.connection = connection;
+    const gp_master_settings settings = master_settings(&bus);
     static const uint8_t app[1]; /* no application parameters: none of these bytes */
     if (gp_version() != GP_VERSION) stop("header and archive are of two versions");
     if (gp_master_init(&master, &settings, app, 0) != GP_OK) stop("the settings are refused");
-    if (!bus_open(settings.nonce)) stop("no bus");
+    if (!bus_open(&bus, settings.nonce)) stop("no bus");
 }
 
 int main(int argc, char **argv) {
     name = "controller", peer = "drive";
     (void)setvbuf(stdout, NULL, _IOLBF, 0);
-    if (!read_words(argc, argv)) stop("usage: udp_controller FOLDER [LOST [AGAIN [SEED]]]");
+    if (!read_words(argc, argv)) stop("usage: udp_controller FOLDER [LOST [AGAIN [SEED [CONNECTION]]]]");
     start();
     while (exchanges <= EXCHANGES && next_millisecond()) { /* one more, for the answer to LEAVING */
         const uint8_t *frame = NULL;
         size_t len = 0;
         passed();
-        for (int i = 0; i < MOST_FRAMES && !is_late() && (frame = bus_receive(&len)) != NULL; i++) came(frame, len);
-        bus_send_again();
+        for (int i = 0; i < MOST_FRAMES && (frame = bus_receive(&bus, &len)) != NULL; i++) came(frame, len);
+        bus_send_again(&bus);
     }
     leave();
-    printf("%u resets\n", resets);
+    printf("%u resets\n", bus.resets);
     return exchanges > EXCHANGES ? 0 : 1;
 }
