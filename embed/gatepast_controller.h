@@ -43,8 +43,8 @@
  * A program that was late counts all ticks before it delivers what waited. fail() resets each connection, sends the
  * frames that this gives, and ends; gp_controller_hold keeps a connection at zeros without a reset. guards says that
  * the output is 0 whenever the input is: ask for each output that moves something and each stop that has to stop it,
- * and don't run if one answers 0. Whole programs are examples/estop.c and udp_estop.c. What gatepast.h says of frames, of ids
- * and of resets holds for each connection, but that did.used is always 0: nothing shows here that an id comes again.
+ * and don't run if one answers 0. Whole programs are examples/estop.c and udp_estop.c. What gatepast.h says of frames,
+ * of ids and of resets holds for each connection, but did.used is always 0: nothing shows here that an id comes again.
  *
  * Cycles
  *     In a cycle the net reads the inputs of all connections and sets their outputs: each output bit that a drive names
