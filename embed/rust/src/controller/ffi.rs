@@ -76,7 +76,7 @@ extern "C" {
     pub fn gp_controller_align() -> usize;
     pub fn gp_controller_open(
         controller: *mut Handle,
-        memory: *mut Unit,
+        region: *mut Unit,
         size: usize,
         most: *const Most,
     ) -> u8;
