@@ -41,7 +41,10 @@
  * A slave takes any connection id: compare the terms. The library never makes a session id: your program gives a fresh
  * one before each session. If it forgets that, the old id comes again, and old frames may pass. Nothing but did.used
  * shows it, which knows only the session before, since gp_.._init. Each reset takes an id: stop after too many. Whole
- * loops are examples/drive.c, controller.c; udp_drive.c, udp_controller.c over UDP; cyclic.c over an image.
+ * loops are examples/drive.c, controller.c; udp_drive.c, udp_controller.c over UDP; cyclic.c over an image. No two ids
+ * of an end have the same low 16 bits, or 8 if a length is 1: docs/duties.md has the whole rule. send() only puts a frame
+ * on its way: none is delivered to this end before follow() has returned, else the next session begins with the old id.
+ * A slave that has data to send puts them before it delivers a frame (gp_slave_put).
  *
  * Frames
  *     A frame of n safe data bytes has 2 * n + 3 bytes, or 6 if n is 1. Deliver it whole, without what the bus adds.
@@ -368,7 +371,8 @@ GP_CHECKED uint8_t gp_master_due(gp_master *master, uint8_t *due); /* 1 if a fra
 GP_CHECKED uint8_t gp_master_reply(gp_master *master, gp_frame *out);
 
 /* Counts a tick. If the watchdog expires, the session ends with code 5, the outputs are zeros from this call on, and out
-   is the Reset frame to send. In state GP_RESET out is the Reset frame again at each expiry. */
+   is the Reset frame to send. In state GP_RESET out is the Reset frame again at each expiry, did.reset is 0,
+   and no id is needed. */
 GP_CHECKED uint8_t gp_master_tick(gp_master *master, gp_frame *out, gp_did *did);
 
 /* Ends the session, if there is one. out is the Reset frame to send. */

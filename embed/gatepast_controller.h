@@ -51,8 +51,9 @@
  *     to its wire's value, and all others to 0. There is a cycle at the start, in each tick and reset, and in each
  *     delivery whose frame was taken or ended the session; only those of ticks count time for blocks. An output leaves
  *     with the next data frame of its connection: a delivery's cycle comes before the answer to this delivery. Inputs
- *     are zeros in each state but GP_DATA, so a stop that is pressed and a connection that is lost look the same: let 0
- *     mean stop.
+ *     are zeros in each state but GP_DATA and after a FailSafeData frame, so a stop that is pressed and a connection
+ *     that is lost look the same: let 0 mean stop, and let no 1 that comes back start anything. What a net owes is in
+ *     docs/duties.md.
  *
  * Memory
  *     A controller lies in a gp_controller_memory, and what it has for its connections and blocks in a region that the
@@ -132,7 +133,9 @@ enum gp_kind {
     GP_AND = 2,       /* 1 to 8 inputs: 1 if all are */
     GP_OR = 3,        /* 1 to 8 inputs: 1 if one is */
     GP_LATCH = 4,     /* set, enable: 1 from a cycle with set on, while enable is 1 */
-    GP_ESTOP = 5,     /* input, acknowledgement: 1 from a rise of the acknowledgement on, while the input is 1 */
+    GP_ESTOP = 5,     /* input, acknowledgement: 1 from a cycle on in which the acknowledgement rises and the input is 1,
+                         while the input stays 1. An acknowledgement that is stuck at 1 rises anew after each loss of its
+                         connection: wire it by two bits and two latches, as in docs/duties.md, "An application" */
     GP_TWO_HAND = 6,  /* two buttons: 1 while both are pressed, if neither was before, and then one alone for at most n
                          ticks */
     GP_ON_DELAY = 7,  /* one input: 1 if it has been 1 for n ticks */
