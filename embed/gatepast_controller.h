@@ -10,7 +10,7 @@
  *     static gp_fault fault;
  *
  *     void make(void) {
- *         if (gp_controller_size() != GP_CONTROLLER_SIZE) fail();
+ *         if (gp_controller_version() != GP_CONTROLLER_VERSION) fail();
  *         if (gp_controller_open(&controller, region, sizeof region, &most) != GP_OK) fail();
  *         if (gp_controller_connect(&controller, &settings, app, app_len, &connection) != GP_OK) fail();     (each)
  *         if (gp_controller_block(&controller, kind, n, inputs, inputs_len, &block) != GP_OK) fail();        (each)
@@ -63,18 +63,17 @@
  *     enough.
  *
  * Answers
- *     Each call returns a number of enum gp_answer or enum gp_controller_answer, except gp_.._size and gp_.._align. A
- *     refused call changed nothing, but that start tells its fault. If there are several reasons, GP_NO_END and GP_BUSY
- *     come first, then GP_RUNNING or GP_NOT_RUNNING, then GP_NO_CONNECTION, then those that a call names, in their
- *     order.
+ *     Each call returns a number of enum gp_answer or enum gp_controller_answer, except gp_.._version, gp_.._size and
+ *     gp_.._align. A refused call changed nothing, but that start tells its fault. If there are several reasons,
+ *     GP_NO_END and GP_BUSY come first, then GP_RUNNING or GP_NOT_RUNNING, then GP_NO_CONNECTION, then those that a
+ *     call names, in their order.
  *
  * What you owe
  *     What gatepast.h lists, for handles of controllers as for those of ends, with gp_controller_end,
- *     gp_controller_size and GP_CONTROLLER_IN. gp_version is of the ends' archive: compare gp_controller_size() with
- *     GP_CONTROLLER_SIZE in its place, and take header and archive of one build, since the size alone isn't a
- *     version. From gp_controller_open on the region is the controller's, whatever open answers. That nothing uses it
- *     after gp_controller_end or after a refused open, and that open refuses a controller that is there also if it
- *     is given this controller's own region, is tried, but not proved.
+ *     gp_controller_size and GP_CONTROLLER_IN. gp_version is of the ends' archive: compare gp_controller_version()
+ *     with GP_CONTROLLER_VERSION. From gp_controller_open on the region is the controller's, whatever open answers.
+ *     That nothing uses it after gp_controller_end or after a refused open, and that open refuses a controller that is
+ *     there also if it is given this controller's own region, is tried, but not proved.
  */
 #ifndef GATEPAST_CONTROLLER_H
 #define GATEPAST_CONTROLLER_H
@@ -98,6 +97,9 @@ extern "C" {
 #define GP_CHECKED
 #endif
 
+/* The version of this header. gp_controller_version() returns that of the archive. */
+#define GP_CONTROLLER_VERSION 1
+
 /* The memory of a controller. gp_controller_size() returns the same number. */
 #define GP_CONTROLLER_SIZE 1160
 
@@ -120,8 +122,8 @@ enum gp_controller_answer {
     GP_ARITY = 28,         /* start: the fault's block may not have so many inputs */
     GP_LATER = 29,         /* start: a wire of the fault's block reads this block, a later one, or one that isn't there;
                               block 0 stands for a drive */
-    GP_NO_INPUT = 30,      /* start: a wire reads the fault's bit, which no connection receives */
-    GP_NO_OUTPUT = 31,     /* start: a drive sets the fault's bit, which no connection sends */
+    GP_NO_INPUT = 30,      /* start: a wire reads the fault's bit, which no connection receives; guards: this one */
+    GP_NO_OUTPUT = 31,     /* start: a drive sets the fault's bit, which no connection sends; guards: this one */
     GP_TWICE = 32          /* start: two drives set the fault's bit */
 };
 
@@ -207,7 +209,8 @@ typedef struct gp_controller {
 
 #define GP_CONTROLLER_IN(memory) {(memory), false}
 
-/* Return its memory's bytes, and a number that has to divide their address. */
+/* Return the version, its memory's bytes, and a number that has to divide their address. */
+uint32_t gp_controller_version(void);
 size_t gp_controller_size(void);
 size_t gp_controller_align(void);
 
@@ -250,9 +253,8 @@ GP_CHECKED uint8_t gp_controller_deliver(gp_controller *controller, uint16_t con
 /* Counts a tick at all connections in order, and then runs a cycle. */
 GP_CHECKED uint8_t gp_controller_tick(gp_controller *controller);
 
-/* Tells what the last tick did at this connection, and its frame to send; before the first tick nothing and no frame
-   (tried). Ask once for each connection after each tick, before its next deliver or reset: later it still tells the old
-   frame. */
+/* Tells what the last tick did at this connection, and its frame to send; before the first tick nothing and no frame.
+   Ask once for each connection after each tick, before its next deliver or reset: later it tells the old frame. */
 GP_CHECKED uint8_t gp_controller_ticked(gp_controller *controller, uint16_t connection, gp_frame *out, gp_did *did);
 
 /* Ends the session of this connection, if there is one, and runs a cycle. out is the Reset frame to send. */
@@ -300,9 +302,8 @@ GP_CHECKED uint8_t gp_controller_clear_counts(gp_controller *controller, uint16_
 /* The value of a block in the last cycle. GP_NOT_RUNNING, then GP_NO_BLOCK. */
 GP_CHECKED uint8_t gp_controller_value(gp_controller *controller, uint16_t block, uint8_t *value);
 
-/* 1: this output bit is 0 after each cycle in which this input bit is 0, by the blocks on its way, or no drive sets it,
-   so also if there is no such bit: name the bit as its drive does. 0 doesn't say that it isn't. GP_NOT_RUNNING, then
-   GP_NO_CONNECTION for either bit. */
+/* 1: this output bit is 0 after each cycle in which this input bit is 0, by the blocks on its way, or no drive sets it.
+   0 doesn't say that it isn't. GP_NOT_RUNNING, then GP_NO_CONNECTION for either bit, then GP_NO_OUTPUT, GP_NO_INPUT. */
 GP_CHECKED uint8_t gp_controller_guards(gp_controller *controller, const gp_bit *output, const gp_bit *input,
                                         uint8_t *guards);
 

@@ -67,7 +67,7 @@ static void make_controller(void) {
     uint16_t number = 0;
     uint8_t guards = 0;
     gp_fault fault = {0};
-    if (gp_controller_size() != GP_CONTROLLER_SIZE) stop("header and archive are of two versions");
+    if (gp_controller_version() != GP_CONTROLLER_VERSION) stop("header and archive are of two versions");
     if (gp_controller_open(&controller, region, sizeof region, &most) != GP_OK) stop("no controller");
     for (uint16_t k = 1; k <= CONNECTIONS; k++) {
         gp_master_settings settings = connections[k - 1];

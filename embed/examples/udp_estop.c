@@ -101,7 +101,7 @@ static void make_net(void) {
 static void start(void) {
     static const gp_most most = {.connections = CONNECTIONS, .blocks = BLOCKS, .drives = DRIVES};
     uint8_t guards = 0;
-    if (gp_controller_size() != GP_CONTROLLER_SIZE) stop("header and archive are of two versions");
+    if (gp_controller_version() != GP_CONTROLLER_VERSION) stop("header and archive are of two versions");
     if (gp_controller_open(&controller, region, sizeof region, &most) != GP_OK) stop("no controller");
     make_connections();
     make_net();

@@ -294,7 +294,7 @@ static void ended(void) {
 }
 
 static void while_it_runs(void) {
-    const gp_bit second = {1, 1}, nowhere = {2, 0};
+    const gp_bit second = {1, 1}, nowhere = {2, 0}, past = {1, 16};
     started();
     fill();
     before = memory;
@@ -309,7 +309,9 @@ static void while_it_runs(void) {
     ANSWERS(GP_BAD_LENGTH, gp_controller_offer(&controller, 1, data, 0));
     ANSWERS(GP_NOT_IN_DATA, gp_controller_terms(&controller, 1, &terms));
     ANSWERS(GP_NO_CONNECTION, gp_controller_guards(&controller, &nowhere, &input_bit, &flag));
-    ANSWERS(GP_NO_CONNECTION, gp_controller_guards(&controller, &output_bit, &nowhere, &flag));
+    ANSWERS(GP_NO_CONNECTION, gp_controller_guards(&controller, &past, &nowhere, &flag));
+    ANSWERS(GP_NO_OUTPUT, gp_controller_guards(&controller, &past, &past, &flag));
+    ANSWERS(GP_NO_INPUT, gp_controller_guards(&controller, &output_bit, &past, &flag));
     ANSWERS(GP_NO_BLOCK, gp_controller_value(&controller, 0, &flag));
     ANSWERS(GP_NO_BLOCK, gp_controller_value(&controller, 3, &flag));
     MUST(nothing_was_written() && memcmp(&before, &memory, sizeof memory) == 0);
@@ -400,7 +402,8 @@ static void steps(void) {
 }
 
 int main(void) {
-    MUST(gp_controller_size() == GP_CONTROLLER_SIZE && gp_controller_align() == _Alignof(gp_controller_memory));
+    MUST(gp_controller_version() == GP_CONTROLLER_VERSION && gp_controller_size() == GP_CONTROLLER_SIZE);
+    MUST(gp_controller_align() == _Alignof(gp_controller_memory));
     no_controller();
     before_start();
     bad_connections();

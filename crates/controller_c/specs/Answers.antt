@@ -2,10 +2,12 @@
 use Rattle.std.specs.Prelude.{ℕ, Bool, false, ◌&&◌, nat_le, length, if◌then◌else◌}
 use Rattle.std.specs.Option.{option_map_or}
 use Rattle.c_values.specs.declared.numbers.TheConstants.{OK}
+use Rattle.failsafe_io.specs.declared.bit.Bit.{Bit}
+use Rattle.failsafe_io.specs.Bits.{has_bit}
 use Rattle.param_load.specs.declared.master_settings.MasterSettings.{MasterSettings}
 use Rattle.multi_master.specs.Standing.{links, settings_at}
-use Rattle.controller_c.specs.ControllerView.{ControllerView}
-use Rattle.controller_c.specs.declared.numbers.TheConstants.{NOT_RUNNING, NO_BLOCK, NO_CONNECTION}
+use Rattle.controller_c.specs.ControllerView.{ControllerView, input_lens, output_lens}
+use Rattle.controller_c.specs.declared.numbers.TheConstants.{NOT_RUNNING, NO_BLOCK, NO_CONNECTION, NO_INPUT, NO_OUTPUT}
 
 -- whether this is one of so many numbers, which begin with 1
 abbrev pub is_number : ℕ → ℕ → Bool
@@ -26,6 +28,10 @@ if_stepping old connection answer = if_running old (if_connected old connection 
 -- the answer of a call about a block of the net that runs
 abbrev pub if_block : ControllerView → ℕ → ℕ → ℕ
 if_block old block answer = if is_number (length old.multi.app.blocks) block then answer else NO_BLOCK
+
+-- the answer of a call about an output bit and an input bit
+abbrev pub if_bits : ControllerView → (output input : Bit) → ℕ → ℕ
+if_bits old output input answer = if has_bit (output_lens old) output then (if has_bit (input_lens old) input then answer else NO_INPUT) else NO_OUTPUT
 
 -- the answer of a call that wants this of its connection's settings, else why it refuses
 abbrev pub if_set : ControllerView → ℕ → (MasterSettings → Bool) → ℕ → ℕ

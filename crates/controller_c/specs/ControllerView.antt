@@ -1,5 +1,5 @@
 -- What contracts see of a controller.
-use Rattle.std.specs.Prelude.{◌≡◌, ◌≤◌, ℕ, Bool, false, List, [], length}
+use Rattle.std.specs.Prelude.{◌≡◌, ◌≤◌, ℕ, Bool, false, List, [], length, map}
 use Rattle.std.specs.List.{All}
 use Rattle.fsoe_base.specs.declared.did.Did.{Did}
 use Rattle.fb_net.specs.BlockSpec.{BlockSpec}
@@ -25,6 +25,13 @@ pub record ControllerView : Type 0 where
 -- the masters, with the net as an application
 abbrev pub masters_of : MultiValue NetView → MultiView
 masters_of = seen rule_of net_holds guards_of
+
+-- the lengths of what the connections receive, and of what they send
+abbrev pub input_lens : ControllerView → List ℕ
+input_lens c = map (λ s. s.lengths.slave) (settings_of c.multi)
+
+abbrev pub output_lens : ControllerView → List ℕ
+output_lens c = map (λ s. s.lengths.master) (settings_of c.multi)
 
 -- a net as an application
 abbrev pub app_of_net : NetView → AppView

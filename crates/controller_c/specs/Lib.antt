@@ -6,4 +6,5 @@ pub mod Lent
 pub mod Making
 pub mod Shown
 pub mod Told
+pub mod Version
 pub mod Wire

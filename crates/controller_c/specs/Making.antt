@@ -1,6 +1,7 @@
 -- What the calls mean that make a controller, and by which numbers they answer.
 use Rattle.std.specs.Prelude.{◌≡◌, ℕ, nat_le, nat_lt, ◌&&◌, false, true, List, [], ◌∷◌, ◌++◌, length, map, Option, Some, None, if◌then◌else◌}
 use Rattle.std.specs.Option.{option_map_or}
+use Rattle.fsoe_base.specs.Did.{nothing}
 use Rattle.fb_lib.specs.declared.kind.BlockKind.{BlockKind}
 use Rattle.fb_lib.specs.declared.kind.BlockKind.TheVariants as kind
 use Rattle.fb_lib.specs.Kind.{most_inputs}
@@ -20,7 +21,7 @@ use Rattle.multi_master.specs.Standing.{Follows, StandsFor, links, settings_of}
 use Rattle.c_values.specs.Settings.{IsMasterSetBy, first_refusal, master_refusal}
 use Rattle.c_values.specs.declared.numbers.TheConstants.{OK, BAD_APP}
 use Rattle.c_values.specs.declared.settings.GpMasterSettings.{GpMasterSettings}
-use Rattle.controller_c.specs.ControllerView.{ControllerView, app_of_net, masters_of}
+use Rattle.controller_c.specs.ControllerView.{ControllerView, app_of_net, input_lens, masters_of, output_lens}
 use Rattle.controller_c.specs.Counts.{CountsStand}
 use Rattle.controller_c.specs.Wire.{fault_place, wire_of}
 use Rattle.controller_c.specs.declared.counts.GpCounts.{GpCounts}
@@ -82,7 +83,7 @@ given_net c = new_net c.blocks c.drives
 
 -- its first fault, by the safe data of the connections
 abbrev pub given_fault : ControllerView → Option NetFault
-given_fault c = of_net.first_fault (map (λ s. s.lengths.slave) (settings_of c.multi)) (map (λ s. s.lengths.master) (settings_of c.multi)) c.blocks c.drives
+given_fault c = of_net.first_fault (input_lens c) (output_lens c) c.blocks c.drives
 
 abbrev pub start_answer : ControllerView → ℕ
 start_answer old = if_idle old (net_number (given_fault old))
@@ -95,13 +96,16 @@ told_place was old = if old.running then was else option_map_or fault_place (giv
 abbrev pub empty_controller : ControllerView
 empty_controller = record { multi = record { masters = []; app = new_net [] []; inputs = []; changed = [] }; blocks = []; drives = []; running = false; dids = []; frames = []; counts = [] }
 
--- a connection with these settings is added, the last one, whose counts are those of no step
+-- a connection with these settings is added, the last one, whose counts are those of no step, and which did and sent
+-- nothing yet
 pub record Connects (own : MasterSettings) (old new : ControllerView) : Type 0 where
   pub settings : settings_of new.multi ≡ settings_of old.multi ++ own ∷ []
   pub app : new.multi.app ≡ old.multi.app
   pub counted : GpCounts
   pub uncounted : CountsStand counted []
   pub counts : new.counts ≡ old.counts ++ counted ∷ []
+  pub dids : new.dids ≡ old.dids ++ nothing ∷ []
+  pub frames : new.frames ≡ old.frames ++ [] ∷ []
   pub rest : new ≡ record old { multi = new.multi; dids = new.dids; frames = new.frames; counts = new.counts }
 
 -- so by what C code set, and the number of the connection is told

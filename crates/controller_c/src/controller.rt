@@ -3,6 +3,7 @@ ghost use Rattle.std.specs.Prelude.{◌≡◌, ◌≢◌, false, true, Some};
 ghost use Rattle.c_values.specs.Place.{served};
 ghost use Rattle.controller_c.specs.Handle.{IsSoundController, open_answer};
 ghost use Rattle.controller_c.specs.Making.{empty_controller};
+ghost use Rattle.controller_c.specs.Version.{version};
 
 use crate::controller_place::ControllerPlace;
 use crate::controller_room::ControllerRoom;
@@ -17,6 +18,14 @@ use std::mem::{align_of, size_of};
 pub struct GpController {
     pub place: ControllerPlace,
     pub live: bool,
+}
+
+/// The version of header and archive, by which a program sees that they belong together.
+#[unsafe(no_mangle)]
+pub extern "C" fn gp_controller_version() -> u32
+    ensures { result ≡ version }
+{
+    1
 }
 
 /// The bytes of memory that a controller takes, besides the region in which its connections and blocks lie.
@@ -47,6 +56,7 @@ pub extern "C" fn gp_controller_open(
     requires sound { IsSoundController controller.old }
     requires region { region.size ≡ size }
     ensures sound { IsSoundController controller.new }
+    ensures place { controller.new.place.at ≡ controller.old.place.at }
     ensures answer { result ≢ NO_MEMORY → result ≡ open_answer controller.old }
     ensures memory_alone { result ≡ NO_MEMORY → open_answer controller.old ≡ OK }
     ensures live { result ≡ OK → controller.new.live ≡ true }
@@ -76,6 +86,7 @@ pub extern "C" fn gp_controller_end(controller: &mut GpController) -> u8
     requires { IsSoundController controller.old }
     ensures sound { IsSoundController controller.new }
     ensures over { controller.new.live ≡ false }
+    ensures place { controller.new.place.at ≡ controller.old.place.at }
     ensures answer { result ≡ served controller.old.live }
     ensures refused { result ≢ OK → controller.new ≡ controller.old }
 {

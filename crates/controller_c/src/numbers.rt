@@ -30,10 +30,10 @@ pub const ARITY: u8 = 28;
 /// A wire reads its own block, a later one, or one that doesn't exist.
 pub const LATER: u8 = 29;
 
-/// A wire reads an input bit that no connection has.
+/// A wire reads an input bit that no connection has, or a call names one.
 pub const NO_INPUT: u8 = 30;
 
-/// A drive sets an output bit that no connection has.
+/// A drive sets an output bit that no connection has, or a call names one.
 pub const NO_OUTPUT: u8 = 31;
 
 /// Two drives set this bit.

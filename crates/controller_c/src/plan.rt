@@ -66,6 +66,7 @@ pub extern "C" fn gp_controller_connect(
     requires { IsSoundController controller.old }
     ensures sound { IsSoundController controller.new }
     ensures same { controller.new.live ≡ controller.old.live }
+    ensures place { controller.new.place.at ≡ controller.old.place.at }
     ensures answer { result ≢ NO_MEMORY → result ≡ answer_by controller.old.place.controller (connect_answer set.now app.now) }
     ensures memory_alone { result ≡ NO_MEMORY → answer_by controller.old.place.controller (connect_answer set.now app.now) ≡ OK }
     ensures connects { result ≡ OK → Between controller.old.place.controller controller.new.place.controller (ConnectsBy set.now app.now connection.new) }
@@ -102,6 +103,7 @@ pub extern "C" fn gp_controller_block(
     requires { IsSoundController controller.old }
     ensures sound { IsSoundController controller.new }
     ensures same { controller.new.live ≡ controller.old.live }
+    ensures place { controller.new.place.at ≡ controller.old.place.at }
     ensures answer { result ≢ NO_MEMORY → result ≡ answer_by controller.old.place.controller (block_answer kind (length inputs.now)) }
     ensures memory_alone { result ≡ NO_MEMORY → answer_by controller.old.place.controller (block_answer kind (length inputs.now)) ≡ OK }
     ensures adds { result ≡ OK → Between controller.old.place.controller controller.new.place.controller (AddsBlock kind n inputs.now block.new) }
@@ -136,6 +138,7 @@ pub extern "C" fn gp_controller_drive(
     requires { IsSoundController controller.old }
     ensures sound { IsSoundController controller.new }
     ensures same { controller.new.live ≡ controller.old.live }
+    ensures place { controller.new.place.at ≡ controller.old.place.at }
     ensures answer { result ≢ NO_MEMORY → result ≡ answer_by controller.old.place.controller drive_answer }
     ensures memory_alone { result ≡ NO_MEMORY → answer_by controller.old.place.controller drive_answer ≡ OK }
     ensures adds { result ≡ OK → Between controller.old.place.controller controller.new.place.controller (λ old new. new ≡ record old { drives = old.drives ++ record { out = bit_of output.now; from = wire_of from.now } ∷ [] }) }

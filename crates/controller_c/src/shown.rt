@@ -3,13 +3,12 @@ ghost use Rattle.std.specs.Prelude.{◌≡◌, ◌≢◌, ◌==◌, ◌-◌, Non
 ghost use Rattle.end_model.specs.Readiness as model;
 ghost use Rattle.end_model.specs.Setup.{OfMaster, receives, sends};
 ghost use Rattle.failsafe_io.specs.Bits.{at_number};
-ghost use Rattle.fb_net.specs.Standing.{ShowsValue};
 ghost use Rattle.fb_net.specs.Steps.{held_values};
 ghost use Rattle.multi_master.specs.Connection.{connection_outputs, offer_at, setup};
 ghost use Rattle.multi_master.specs.Standing.{ShowsApp, ShowsAt, links};
 ghost use Rattle.c_values.specs.Numbers.{flag, state_number};
 ghost use Rattle.c_values.specs.Place.{IfThere};
-ghost use Rattle.controller_c.specs.Answers.{if_block, if_connected, if_running, if_set, if_stepping};
+ghost use Rattle.controller_c.specs.Answers.{if_bits, if_block, if_connected, if_running, if_set, if_stepping};
 ghost use Rattle.controller_c.specs.ControllerView.{masters_of};
 ghost use Rattle.controller_c.specs.Handle.{IsSoundController, answer_by};
 ghost use Rattle.controller_c.specs.Wire.{bit_of};
@@ -18,10 +17,12 @@ ghost use Rattle.controller_c.specs.Shown.{ShowsChangedAt, ShowsFlag, ShowsTerms
 use crate::controller::GpController;
 use crate::counts::GpCounts;
 use crate::lent::{connected, lent, running};
-use crate::numbers::{NO_BLOCK, NO_CONNECTION, NOT_RUNNING};
+use crate::numbers::{NO_BLOCK, NO_CONNECTION, NO_INPUT, NO_OUTPUT, NOT_RUNNING};
+use crate::start::data_lengths;
 use crate::wire::GpBit;
 use c_values::numbers::{BAD_LENGTH, NO_END, NOT_IN_DATA, OK, flag, state_number};
 use c_values::told::{GpTerms, copied, tells};
+use fb_net::has_bit;
 
 /// Writes the number of connections.
 #[unsafe(no_mangle)]
@@ -181,7 +182,8 @@ pub extern "C" fn gp_controller_changed(
     OK
 }
 
-/// Writes 1 if the value of this block was true in the last cycle, else 0.
+/// Writes 1 if the value of this block was true in the last cycle, else 0. It is read from what the net holds, and
+/// `fb_net::laws::rule` says that this is the value by looking back.
 #[unsafe(no_mangle)]
 #[tactic(auto, using(c_values::proofs::Places::vacuous, crate::proofs::Places::shows_app))]
 pub extern "C" fn gp_controller_value(
@@ -192,8 +194,7 @@ pub extern "C" fn gp_controller_value(
     requires { IsSoundController controller.old }
     ensures unchanged { controller.new ≡ controller.old }
     ensures answer { result ≡ answer_by controller.old.place.controller (λ old. if_running old (if_block old block OK)) }
-    ensures shown { result ≡ OK → IfThere controller.old.place.controller (λ old. ShowsFlag value.new (ShowsValue old.multi.app block)) }
-    ensures held { result ≡ OK → IfThere controller.old.place.controller (λ old. ShowsFlag value.new (λ told. ShowsApp (masters_of old.multi) told (λ app. at_number (held_values app.holds) block false))) }
+    ensures shown { result ≡ OK → IfThere controller.old.place.controller (λ old. ShowsFlag value.new (λ told. ShowsApp (masters_of old.multi) told (λ app. at_number (held_values app.holds) block false))) }
     ensures refused { result ≢ OK → value.new ≡ value.old }
 {
     let room = running!(controller);
@@ -206,6 +207,7 @@ pub extern "C" fn gp_controller_value(
 }
 
 /// Writes 1 if the net that runs keeps this output bit 0 whenever this input bit is 0, by its blocks and wires, else 0.
+/// Both bits are there.
 #[unsafe(no_mangle)]
 #[tactic(auto, using(c_values::proofs::Places::vacuous))]
 pub extern "C" fn gp_controller_guards(
@@ -216,12 +218,19 @@ pub extern "C" fn gp_controller_guards(
 ) -> u8
     requires { IsSoundController controller.old }
     ensures unchanged { controller.new ≡ controller.old }
-    ensures answer { result ≡ answer_by controller.old.place.controller (λ old. if_stepping old output.now.connection (if_connected old input.now.connection OK)) }
+    ensures answer { result ≡ answer_by controller.old.place.controller (λ old. if_stepping old output.now.connection (if_connected old input.now.connection (if_bits old (bit_of output.now) (bit_of input.now) OK))) }
     ensures shown { result ≡ OK → IfThere controller.old.place.controller (λ old. ShowsFlag guards.new (λ told. ShowsApp (masters_of old.multi) told (λ app. app.guards (bit_of output.now) (bit_of input.now)))) }
     ensures refused { result ≢ OK → guards.new ≡ guards.old }
 {
     let room = connected!(running!(controller), output.connection);
     let room = connected!(room, input.connection);
+    let lengths = data_lengths(&room.multi);
+    if !has_bit(lengths.outputs.as_slice(), output.named()) {
+        return NO_OUTPUT;
+    }
+    if !has_bit(lengths.inputs.as_slice(), input.named()) {
+        return NO_INPUT;
+    }
     *guards = flag(room.multi.guards(output.named(), input.named()));
     OK
 }

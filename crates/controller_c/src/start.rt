@@ -23,9 +23,9 @@ const MOST_CONNECTIONS: usize = 64;
 
 /// The lengths in bytes of the safe data of each connection.
 #[derive(Drop)]
-struct DataLengths {
-    inputs: ArrayVec<u8, MOST_CONNECTIONS>,
-    outputs: ArrayVec<u8, MOST_CONNECTIONS>,
+pub(crate) struct DataLengths {
+    pub(crate) inputs: ArrayVec<u8, MOST_CONNECTIONS>,
+    pub(crate) outputs: ArrayVec<u8, MOST_CONNECTIONS>,
 }
 
 /// The number of why a net is refused.
@@ -43,7 +43,7 @@ fn net_number(fault: NetFault) -> u8
 }
 
 /// The lengths of what the masters receive and send.
-fn data_lengths(multi: &MultiMaster<Net<InRegion>, InRegion>) -> DataLengths
+pub(crate) fn data_lengths(multi: &MultiMaster<Net<InRegion>, InRegion>) -> DataLengths
     ensures inputs { result.inputs.items ≡ map (λ s. s.lengths.slave) (settings_of multi.now) }
     ensures outputs { result.outputs.items ≡ map (λ s. s.lengths.master) (settings_of multi.now) }
 {
@@ -67,6 +67,7 @@ pub extern "C" fn gp_controller_start(controller: &mut GpController, fault: &mut
     requires { IsSoundController controller.old }
     ensures sound { IsSoundController controller.new }
     ensures same { controller.new.live ≡ controller.old.live }
+    ensures place { controller.new.place.at ≡ controller.old.place.at }
     ensures answer { result ≡ answer_by controller.old.place.controller start_answer }
     ensures starts { result ≡ OK → Between controller.old.place.controller controller.new.place.controller Starts }
     ensures guarded { result ≡ OK → IfThere controller.old.place.controller (λ old. GuardsOffers (masters_of old.multi) (ChangeApp (app_of_net (given_net old)))) }

@@ -31,6 +31,7 @@ pub extern "C" fn gp_controller_deliver(
     requires { IsSoundController controller.old }
     ensures sound { IsSoundController controller.new }
     ensures same { controller.new.live ≡ controller.old.live }
+    ensures place { controller.new.place.at ≡ controller.old.place.at }
     ensures answer { result ≡ answer_by controller.old.place.controller (λ old. if_stepping old connection OK) }
     ensures follows { result ≡ OK → Between controller.old.place.controller controller.new.place.controller (λ old new. Follows (masters_of old.multi) (Deliver connection frame.now) (masters_of new.multi)) }
     ensures guarded { result ≡ OK → IfThere controller.old.place.controller (λ old. GuardsOffers (masters_of old.multi) (Deliver connection frame.now)) }
@@ -54,6 +55,7 @@ pub extern "C" fn gp_controller_tick(controller: &mut GpController) -> u8
     requires { IsSoundController controller.old }
     ensures sound { IsSoundController controller.new }
     ensures same { controller.new.live ≡ controller.old.live }
+    ensures place { controller.new.place.at ≡ controller.old.place.at }
     ensures answer { result ≡ answer_by controller.old.place.controller (λ old. if_running old OK) }
     ensures follows { result ≡ OK → Between controller.old.place.controller controller.new.place.controller (λ old new. Follows (masters_of old.multi) Tick (masters_of new.multi)) }
     ensures guarded { result ≡ OK → IfThere controller.old.place.controller (λ old. GuardsOffers (masters_of old.multi) Tick) }
@@ -105,6 +107,7 @@ pub extern "C" fn gp_controller_reset(
     requires { IsSoundController controller.old }
     ensures sound { IsSoundController controller.new }
     ensures same { controller.new.live ≡ controller.old.live }
+    ensures place { controller.new.place.at ≡ controller.old.place.at }
     ensures answer { result ≡ answer_by controller.old.place.controller (λ old. if_stepping old connection OK) }
     ensures follows { result ≡ OK → Between controller.old.place.controller controller.new.place.controller (λ old new. Follows (masters_of old.multi) (Reset connection) (masters_of new.multi)) }
     ensures guarded { result ≡ OK → IfThere controller.old.place.controller (λ old. GuardsOffers (masters_of old.multi) (Reset connection)) }
@@ -132,6 +135,7 @@ pub extern "C" fn gp_controller_hold(
     requires { IsSoundController controller.old }
     ensures sound { IsSoundController controller.new }
     ensures same { controller.new.live ≡ controller.old.live }
+    ensures place { controller.new.place.at ≡ controller.old.place.at }
     ensures answer { result ≡ answer_by controller.old.place.controller (λ old. if_stepping old connection OK) }
     ensures follows { result ≡ OK → Between controller.old.place.controller controller.new.place.controller (λ old new. Follows (masters_of old.multi) (Hold connection failsafe) (masters_of new.multi)) }
     ensures rest { result ≡ OK → Between controller.old.place.controller controller.new.place.controller (λ old new. Leaves old (record old { multi = new.multi }) new) }
@@ -150,6 +154,7 @@ pub extern "C" fn gp_controller_nonce(controller: &mut GpController, connection:
     requires { IsSoundController controller.old }
     ensures sound { IsSoundController controller.new }
     ensures same { controller.new.live ≡ controller.old.live }
+    ensures place { controller.new.place.at ≡ controller.old.place.at }
     ensures answer { result ≡ answer_by controller.old.place.controller (λ old. if_stepping old connection (if_set old connection (λ s. allows_id s.profile id) BAD_NONCE)) }
     ensures follows { result ≡ OK → Between controller.old.place.controller controller.new.place.controller (λ old new. Follows (masters_of old.multi) (Nonce connection id) (masters_of new.multi)) }
     ensures rest { result ≡ OK → Between controller.old.place.controller controller.new.place.controller (λ old new. Leaves old (record old { multi = new.multi }) new) }
@@ -170,6 +175,7 @@ pub extern "C" fn gp_controller_clear_counts(controller: &mut GpController, conn
     requires { IsSoundController controller.old }
     ensures sound { IsSoundController controller.new }
     ensures same { controller.new.live ≡ controller.old.live }
+    ensures place { controller.new.place.at ≡ controller.old.place.at }
     ensures answer { result ≡ answer_by controller.old.place.controller (λ old. if_connected old connection OK) }
     ensures cleared { result ≡ OK → Between controller.old.place.controller controller.new.place.controller (λ old new. ClearsAt connection old.counts new.counts) }
     ensures rest { result ≡ OK → Between controller.old.place.controller controller.new.place.controller (λ old new. Leaves old (record old { counts = new.counts }) new) }

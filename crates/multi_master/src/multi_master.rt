@@ -1,5 +1,5 @@
 //! A master of many connections.
-ghost use Rattle.std.specs.Prelude.{◌≡◌, ◌≤◌, [], ◌∷◌, ◌++◌, length, option_copied, IfOk, IfErr, IfSome, IsErrAnd, None, OnErr, OnOk, Some};
+ghost use Rattle.std.specs.Prelude.{◌≡◌, ◌≤◌, [], ◌∷◌, ◌++◌, length, option_copied, take, IfOk, IfErr, IfSome, IsErrAnd, None, OnErr, OnOk, Some};
 ghost use Rattle.std.specs.Result.{result_err};
 ghost use Rattle.end_model.specs.Readiness as model;
 ghost use Rattle.end_model.specs.Setup.{OfMaster, receives, sends};
@@ -131,6 +131,7 @@ impl<A: Application, M: Allocator> MultiMaster<A, M> {
         ensures refused { IfSome (first_fault (settings_of self.old ++ settings ∷ [])) (λ found. result_err result ≡ Some found) }
         ensures memory_alone { IfErr result (λ found. first_fault (settings_of self.old ++ settings ∷ []) ≡ None → found ≡ fault.Memory) }
         ensures stands { let seen = seen A.rule A.holds A.guards in OnOk result (AddsNew (seen self.old) settings (seen self.new)) }
+        ensures others { OnOk result (take (length self.old.masters) self.new.masters ≡ self.old.masters) }
         ensures app { self.new.app ≡ self.old.app }
         ensures settings { OnOk result (settings_of self.new ≡ settings_of self.old ++ settings ∷ []) }
         ensures kept { OnErr result (self.new ≡ self.old) }

@@ -75,6 +75,10 @@ pub enum Refused {
     SameConn,
     /// No block has this number.
     NoBlock,
+    /// No connection receives this bit.
+    NoInput,
+    /// No connection sends this bit.
+    NoOutput,
 }
 
 fn answered(answer: u8) -> Result<(), Refused> {
@@ -87,16 +91,21 @@ fn answered(answer: u8) -> Result<(), Refused> {
         24 => Refused::TooMany,
         25 => Refused::SameConn,
         27 => Refused::NoBlock,
+        30 => Refused::NoInput,
+        31 => Refused::NoOutput,
         _ => other_archive(answer),
     })
 }
 
-/// Panics if the archive's controllers need other memory than those of this package.
+/// Panics if the archive isn't of this package's version, or its controllers need other memory.
 fn check_archive() {
     // SAFETY: the calls take nothing.
-    let fits = unsafe { (ffi::gp_controller_size(), ffi::gp_controller_align()) };
+    let fits = unsafe {
+        ffi::gp_controller_version() == ffi::CONTROLLER_VERSION
+            && (ffi::gp_controller_size(), ffi::gp_controller_align()) == (ffi::CONTROLLER_SIZE, 8)
+    };
     assert!(
-        fits == (ffi::CONTROLLER_SIZE, 8),
+        fits,
         "gatepast: the archive of a controller is not the one of this package"
     );
 }
@@ -417,7 +426,7 @@ impl Controller<'_> {
     }
 
     /// True: this output bit is 0 after each cycle in which this input bit is 0, by the blocks on its way, or no drive
-    /// sets it. False doesn't say that it isn't.
+    /// sets it. False doesn't say that it isn't. Refused by `NoOutput` and `NoInput`.
     pub fn guards(&mut self, output: Bit, input: Bit) -> Result<bool, Refused> {
         let (handle, mut guards) = (&mut self.lent.handle, 0);
         // SAFETY: as in `deliver`.

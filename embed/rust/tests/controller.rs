@@ -253,6 +253,11 @@ fn steps_and_readers_refuse_a_connection_a_block_and_a_length_that_are_not_there
         assert_eq!(it.clear_counts(NOWHERE).err(), refused);
         assert_eq!(it.guards(NOWHERE.bit(0), STOP.bit(0)).err(), refused);
         assert_eq!(it.guards(DRIVE.bit(0), NOWHERE.bit(0)).err(), refused);
+        assert_eq!(
+            it.guards(DRIVE.bit(16), STOP.bit(16)),
+            Err(Refused::NoOutput)
+        );
+        assert_eq!(it.guards(DRIVE.bit(0), STOP.bit(16)), Err(Refused::NoInput));
         assert_eq!(it.nonce(STOP, 65_536), Err(Refused::BadNonce));
         assert_eq!(it.inputs(STOP, &mut [0]), Err(Refused::BadLength));
         assert_eq!(it.offer(STOP, &mut [0; 3]), Err(Refused::BadLength));

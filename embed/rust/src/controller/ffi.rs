@@ -7,6 +7,7 @@ use crate::ffi::{Did, Frame, Handle, MasterSettings, Terms};
 use super::Unit;
 
 pub const CONTROLLER_SIZE: usize = 1160;
+pub const CONTROLLER_VERSION: u32 = 1;
 pub const COUNTED_CODES: usize = 13;
 
 /// How many of each a controller is to have room for.
@@ -72,6 +73,7 @@ const _: () = {
 };
 
 extern "C" {
+    pub fn gp_controller_version() -> u32;
     pub fn gp_controller_size() -> usize;
     pub fn gp_controller_align() -> usize;
     pub fn gp_controller_open(
