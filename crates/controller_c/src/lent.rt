@@ -13,7 +13,8 @@ macro_rules! lent {
     }};
 }
 
-/// The same of a controller that doesn't run. The call returns `RUNNING` where it does.
+/// The controller behind this handle, lent for a call that wants one that doesn't run. The call returns `RUNNING`
+/// where it runs.
 macro_rules! idle {
     ($handle:expr) => {{
         let room = lent!($handle);
@@ -24,7 +25,8 @@ macro_rules! idle {
     }};
 }
 
-/// The same of a controller that runs. The call returns `NOT_RUNNING` where it doesn't.
+/// The controller behind this handle, lent for a call that wants one that runs. The call returns `NOT_RUNNING` where
+/// it doesn't.
 macro_rules! running {
     ($handle:expr) => {{
         let room = lent!($handle);

@@ -65,7 +65,7 @@ later_taken r line = if r.events == max_events then full_taken r line else event
 abbrev pub line_taken : ℕ → PairRead → List ℕ → Result LineTaken InputCause
 line_taken number r line = if heading_is_whole r.heading then later_taken r line else header_taken number r line (heading_after r.heading line)
 
--- the same where there is such a line
+-- what is taken of the line of this number, where there is one
 abbrev pub taken_by : ℕ → PairRead → Result (List ℕ) InputCause → Result LineTaken InputCause
 taken_by number r (Ok line) = line_taken number r line
 taken_by number r (Err why) = Err why

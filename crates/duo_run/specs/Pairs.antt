@@ -67,7 +67,7 @@ abbrev pub other_event : ℕ → Pair → List PairsEvent → Option ℕ
 other_event k p [] = None
 other_event k p (event ∷ past) = first_of_both (other_event k p past) (is_some (first_other (world_of k p (event ∷ past)))) (suc (length past))
 
--- the same of each pair, where the first of these has this number
+-- these numbers of the pairs in their order, the first of which has this number
 abbrev pub other_events : ℕ → List Pair → List PairsEvent → List (Option ℕ)
 other_events k [] past = []
 other_events k (p ∷ pairs) past = other_event k p past ∷ other_events (suc k) pairs past

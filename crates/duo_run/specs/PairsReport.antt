@@ -29,7 +29,7 @@ use Rattle.duo_run.specs.Replay.{AreSetTo, stop_after, told_line}
 abbrev pub pair_entry_line : ℕ → ℕ → Entry → List ℕ
 pair_entry_line n k x = decimal n ++ codes " " ++ decimal k ++ codes " " ++ told_line x.end x.did x.state x.outputs x.sent
 
--- the same, where there is an entry
+-- the line of an entry of the pair of this number, where there is an entry
 abbrev pub line_if : ℕ → ℕ → Option Entry → List ℕ
 line_if n k None = []
 line_if n k (Some x) = pair_entry_line n k x

@@ -55,7 +55,7 @@ pair_ended_at w (Refused number why) = record { status = status.Line; place = nu
 abbrev pub stop_after : {H E : Type 0} → InputOf H E → ℕ → Stop
 stop_after input done = if done == length input.events then input.stop else Refused (input.lines + done + 1) NoFrame
 
--- the same of a pair with these entries, one for each event
+-- how a run of a pair stops that has these entries, one for each event
 abbrev pub run_stop : Input → List Entry → Stop
 run_stop input w = stop_after input (length w)
 

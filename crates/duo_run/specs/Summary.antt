@@ -27,6 +27,6 @@ counts_of which w = record {
   state = state_told which w;
 }
 
--- the same of both ends
+-- what is told of both ends of a pair
 abbrev pub summary_of : List Entry → Summary
 summary_of w = record { master = counts_of side.Master w; slave = counts_of side.Slave w }

@@ -75,7 +75,7 @@ pub(crate) fn act_master(master: &mut Master, event: &Event, came: &[u8], answer
     }
 }
 
-/// The same at a slave.
+/// What an event is to a slave, at which these bytes come.
 #[tactic(auto, using(slave_core::proofs::Law::set_answers))]
 pub(crate) fn act_slave(slave: &mut Slave, event: &Event, came: &[u8], answer: &mut Answer)
     requires { IsProper (OfSlave slave.old.kit.settings) (move_at event.now came.now) }

@@ -10,7 +10,7 @@ ghost use Rattle.duo_run.specs.Replay.{AreSetTo};
 use crate::duo::Duo;
 use crate::duos::Duos;
 use crate::telling::{Telling, step_pair, tick_pairs};
-use file_run::{Format, Machine, Stopped, Untaken, ended_with, push_other, write_events};
+use file_run::{Format, Machine, Stopped, ended_with, push_other, write_events};
 use fsoe_base::Memory;
 use fsoe_io::{Ended, LineText};
 use param_load::{MasterSettings, SlaveSettings};
@@ -48,13 +48,8 @@ impl Format for PairsFormat {
 
     ghost says = { λ ends text. pairs_line (map length_of ends.lengths) (map profile_of ends.profiles) text };
 
-    ghost takes = { false };
-
-    fn line(header: &mut PairsHeader, line: &[u8]) -> Result<bool, Untaken> {
-        match header.line(line) {
-            Ok(done) => Ok(done),
-            Err(cause) => Err(Untaken::Line(cause)),
-        }
+    fn line(header: &mut PairsHeader, line: &[u8]) -> Result<bool, LineCause> {
+        header.line(line)
     }
 
     fn grammar(header: &PairsHeader) -> PairsEnds {

@@ -13,7 +13,7 @@ pub(crate) struct Counts {
     pub(crate) state: State,
 }
 
-/// The same of both ends.
+/// What a summary has of both ends of a pair.
 #[derive(Clone, Copy)]
 pub(crate) struct Summary {
     pub(crate) master: Counts,

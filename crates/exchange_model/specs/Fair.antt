@@ -33,7 +33,7 @@ frame_with l FailSafe = record { command = command.FailSafeData; load = replicat
 frame_with l (Values bytes) = record { command = command.ProcessData; load = bytes }
 frame_with l Unset = record { command = command.ProcessData; load = replicate l 0 }
 
--- the same of an item, if it offers something
+-- the frame that an item makes, if it offers something
 abbrev pub frame_if : ℕ → Option Offered → Option Took
 frame_if l None = None
 frame_if l (Some offered) = Some (frame_with l offered)
@@ -81,7 +81,7 @@ abbrev pub outputs_by : List ℕ → ℕ → Option Terms → Command → List �
 outputs_by zeros n told command.ProcessData load = if in_time n told then load else zeros
 outputs_by zeros n told _ load = zeros
 
--- the same of an entry that took a frame; else what the entries before it give
+-- the outputs after an entry: by the frame that it took; where it took none, what the entries before it give
 abbrev pub outputs_at : List ℕ → ℕ → Option Terms → Option Took → List ℕ → List ℕ
 outputs_at zeros n told None before = before
 outputs_at zeros n told (Some t) before = outputs_by zeros n told t.command t.load

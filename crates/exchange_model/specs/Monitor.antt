@@ -118,7 +118,7 @@ abbrev pub side_of : End → MonitorView → Side
 side_of side.Master v = v.master
 side_of side.Slave v = v.slave
 
--- the same after an entry of either end
+-- what is kept of an end after an entry of either end
 abbrev pub side_after : End → End → MonitorView → List ℕ → Option Took → List ℕ → Side
 side_after which at v came took sent =
     if same_end which at then own_after (side_of which v) sent else peer_after (side_of at v) (side_of which v) came took sent

@@ -23,7 +23,7 @@ dm back = event.Deliver side.Master back
 abbrev pub ds : ℕ → Event
 ds back = event.Deliver side.Slave back
 
--- the same with one byte altered by a mask
+-- the frame so many back of those of the master comes to the slave, one byte altered by a mask
 abbrev pub altered_ds : ℕ → ℕ → ℕ → Event
 altered_ds back pos mask = event.Altered side.Slave back pos mask
 
@@ -75,7 +75,7 @@ pair_line x = end_letter x.end ++ codes " " ++ line x
 abbrev pub pair_lines : List Entry → List (List ℕ)
 pair_lines w = reverse (map pair_line w)
 
--- the same without the frames that were sent
+-- the lines of a run, without the frames that were sent
 abbrev pub short_lines : List Entry → List (List ℕ)
 short_lines w = reverse (map (λ x. end_letter x.end ++ codes " " ++ entry_text x.did x.state x.outputs []) w)
 

@@ -26,7 +26,7 @@ Tells skipped w other lines = (drop skipped (pair_lines w) ≡ lines) × (first_
 abbrev pub after_data : List Event → List Entry
 after_data events = world master_values slave_values (until_data ++ events)
 
--- the same without further events
+-- a handshake and the first data of both ends, and nothing more
 abbrev pub first_data_run : List Entry
 first_data_run = after_data []
 

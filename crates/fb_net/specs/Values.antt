@@ -41,7 +41,7 @@ values_from before (p ∷ ps) e = values_from (with_block before p) ps e
 abbrev pub block_values : List NetBlock → List NetCycle → List Bool
 block_values plan e = values_from (λ _. []) plan e
 
--- the same, and false before the first cycle
+-- the values of all blocks in the newest cycle, and false before the first
 abbrev pub shown_values : List NetBlock → List NetCycle → List Bool
 shown_values plan [] = replicate (length plan) false
 shown_values plan (c ∷ e) = block_values plan (c ∷ e)

@@ -1,5 +1,5 @@
 -- The header of an input. H is what it says.
-use Rattle.std.specs.Prelude.{◌≡◌, ◌≤◌, ℕ, List, [], ◌++◌, Option, Result, Ok, Err, Bool, IsTrue}
+use Rattle.std.specs.Prelude.{◌≡◌, ◌≤◌, ℕ, List, [], ◌++◌, Option, Result, Ok, Err}
 use Rattle.std.specs.Io.KnownBytes.{Consumes}
 use Rattle.schedule_file.specs.Input.{InputFormat, Stop, WholeHeaderOf, lines_of, header_read}
 use Rattle.schedule_file.specs.declared.line_cause.LineCause.{LineCause}
@@ -19,10 +19,10 @@ pub record HeaderSays {H L E : Type 0} (f : InputFormat H L E) (said : List ℕ 
 abbrev pub IsWholeHeader : {H L E : Type 0} → InputFormat H L E → H → ℕ → Option (List ℕ) → Option (List ℕ) → Type 0
 IsWholeHeader f h lines old new = HeaderSays f (λ more. Ok (record { heading = h; lines = lines; rest = lines_of more })) old new
 
--- a header of so many lines was read, or goes no further
-abbrev pub ReadsHeader : {H L E : Type 0} → InputFormat H L E → Bool → Result (Unit {0}) Halt → H → ℕ → Option (List ℕ) → Option (List ℕ) → Type 0
-ReadsHeader f takes (Ok read) h lines old new = IsWholeHeader f h lines old new × TookLines lines old new
-ReadsHeader f takes (Err why) h lines old new = HaltsHeader f (IsTrue takes) why old new
+-- a header of so many lines was read, or goes no further, not for want of memory
+abbrev pub ReadsHeader : {H L E : Type 0} → InputFormat H L E → Result (Unit {0}) Halt → H → ℕ → Option (List ℕ) → Option (List ℕ) → Type 0
+ReadsHeader f (Ok read) h lines old new = IsWholeHeader f h lines old new × TookLines lines old new
+ReadsHeader f (Err why) h lines old new = HaltsHeader f ⊥ why old new
 
 -- a header was read whole, in so many lines: after it a machine stands for no events, and lines are read by what it
 -- says

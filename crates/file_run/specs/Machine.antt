@@ -8,15 +8,12 @@ use Rattle.file_run.specs.declared.stopped.Stopped.TheVariants as stopped
 use Rattle.file_run.specs.Report.{refused_line}
 use Rattle.file_run.specs.declared.stopped.Stopped.{Stopped}
 use Rattle.file_run.specs.Reporting.{Reporting, refused_at, Always, input_stopped}
-use Rattle.file_run.specs.declared.stopped.Untaken.{Untaken}
-use Rattle.file_run.specs.declared.stopped.Untaken.TheVariants as untaken
 use Rattle.fsoe_io.specs.declared.status.Ended.{Ended}
 
--- a header takes its next line as this says, and tells whether it is done; only where it takes memory may it want some
-abbrev pub TakesLine : {H : Type 0} → Bool → (H → Bool) → Result Bool Untaken → H → Result H LineCause → Type 0
-TakesLine takes is_whole (Ok done) new said = (said ≡ Ok new) × (done ≡ is_whole new)
-TakesLine takes is_whole (Err (untaken.Line why)) new said = said ≡ Err why
-TakesLine takes is_whole (Err untaken.Memory) new said = IsTrue takes
+-- a header takes its next line as this says, and tells whether it is done
+abbrev pub TakesLine : {H : Type 0} → (H → Bool) → Result Bool LineCause → H → Result H LineCause → Type 0
+TakesLine is_whole (Ok done) new said = (said ≡ Ok new) × (done ≡ is_whole new)
+TakesLine is_whole (Err why) new said = said ≡ Err why
 
 -- what was read and written over `said`, or why nothing was
 abbrev pub what_says : {L C : Type 0} → Result (Unit {0}) C → L → Result L C

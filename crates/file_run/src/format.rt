@@ -5,7 +5,6 @@ ghost use Rattle.schedule_file.specs.declared.line_buf.TheConstants.{MAX_LINE};
 ghost use Rattle.schedule_file.specs.declared.line_cause.LineCause.{LineCause};
 ghost use Rattle.file_run.specs.Machine.{what_says, TakesLine};
 
-use crate::stopped::Untaken;
 use schedule_file::LineCause;
 
 /// How the lines of an input are parsed: those of its header, and then those of its events, up to a line that is the
@@ -38,12 +37,9 @@ pub trait Format {
     // What a line says by a grammar.
     ghost says: { Self.Grammar → List ℕ → Result Self.Line LineCause };
 
-    // Whether the lines of a header may take memory.
-    ghost takes: { Bool };
-
     /// Takes the next header line, and returns whether it is the last, or why it is refused; then don't read further.
-    fn line(header: &mut Self::Header, line: &[u8]) -> Result<bool, Untaken>
-        ensures next { TakesLine takes (format (kind header.old)).is_whole result header.new ((format (kind header.old)).header_line header.old line.now) }
+    fn line(header: &mut Self::Header, line: &[u8]) -> Result<bool, LineCause>
+        ensures next { TakesLine (format (kind header.old)).is_whole result header.new ((format (kind header.old)).header_line header.old line.now) }
         ensures kind { kind header.new ≡ kind header.old }
         ensures fewer { OnOk result (lines_left header.new < lines_left header.old) };
 

@@ -11,7 +11,6 @@ use crate::format::Format;
 use crate::halt::Halt;
 use crate::line::next_line;
 use crate::refusal::Refusal;
-use crate::stopped::Untaken;
 use fsoe_io::{LineReader, Source};
 
 /// Reads a header, of which no line is taken, up to its last line. The reader lends its first.
@@ -28,7 +27,7 @@ pub(crate) fn read_header<F: Format, S: Source>(
     ensures most { OnOk result (reader.new.lines ≤ most_lines) }
     ensures done { OnOk result (IsTrue ((F.format (F.kind header.old)).is_whole header.new)) }
     ensures kind { F.kind header.new ≡ F.kind header.old }
-    ensures heads { (input : Option (List ℕ)) → IsLent input reader.old (S.left source.old) → ReadsHeader (F.format (F.kind header.old)) F.takes result header.new reader.new.lines input (prepend_known reader.new.bytes (S.left source.new)) }
+    ensures heads { (input : Option (List ℕ)) → IsLent input reader.old (S.left source.old) → ReadsHeader (F.format (F.kind header.old)) result header.new reader.new.lines input (prepend_known reader.new.bytes (S.left source.new)) }
     ensures stalls { Stalls result reader.new.bytes }
     ensures halts { (input : Option (List ℕ)) → IsLent input reader.old (S.left source.old) → Halts result input (S.left source.new) }
     ensures later { S.faults source.old ≤ S.faults source.new }
@@ -38,10 +37,7 @@ pub(crate) fn read_header<F: Format, S: Source>(
         match F::line(header, reader.line()) {
             Ok(true) => return Ok(()),
             Ok(false) => {}
-            Err(Untaken::Line(cause)) => {
-                return Err(Halt::Refused(reader.lines(), Refusal::Line(cause)));
-            }
-            Err(Untaken::Memory) => return Err(Halt::Memory),
+            Err(cause) => return Err(Halt::Refused(reader.lines(), Refusal::Line(cause))),
         }
         if let Err(why) = next_line(reader, source) {
             return Err(why);

@@ -41,5 +41,5 @@ pub use report::{ended_with, push_other, write_events};
 pub use run::run_over;
 pub use schedule::{Grammar, Schedule};
 pub use stop::{close, halt as halt_run, send_before_read, write_failed, write_report};
-pub use stopped::{Stopped, Untaken};
+pub use stopped::Stopped;
 pub use waiting::{MOST_TEXT, Waiting};

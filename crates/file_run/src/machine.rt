@@ -44,9 +44,7 @@ pub trait Machine: Drop {
         ensures some { (handed : Self.Handed) (bytes : List ℕ) → (report : List ℕ) × (ended : Ended) × (reporting handed).reports (input_read (reporting handed).format bytes) ended report }
         ensures headless { (handed : Self.Handed) (number : ℕ) (why : InputCause) → (reporting handed).reports (input_headless (Refused number why)) (refused_at number) (refused_line number why) }
         ensures so_far { (first : Self.Handed) (v : Self) (now : Self.Handed) (h : Self.Format.Header) (log : List Self.Format.Event) (text : List ℕ) → stands first v now h log text → ReportsSoFar (reporting first) h log text }
-        ensures whole { (first : Self.Handed) (now : Self.Handed) (h : Self.Format.Header) (log : List Self.Format.Event) (text : List ℕ) (ended : Ended) → closes first now h log text ended → EndsReport (reporting first) h log text ended }
-        // Where the lines of a header take memory, so does the command.
-        ensures memory { (handed : Self.Handed) → IsTrue Self.Format.takes → TakesMemory (reporting handed).memory };
+        ensures whole { (first : Self.Handed) (now : Self.Handed) (h : Self.Format.Header) (log : List Self.Format.Event) (text : List ℕ) (ended : Ended) → closes first now h log text ended → EndsReport (reporting first) h log text ended };
 
     /// The header of an input, of which no line is read.
     fn open(handed: &Self::Handed) -> Result<<Self::Format as Format>::Header, Memory>

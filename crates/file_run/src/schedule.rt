@@ -4,7 +4,6 @@ ghost use Rattle.file_run.specs.Machine.{what_says};
 ghost use Rattle.file_run.specs.Schedule.{grammar_says};
 
 use crate::format::Format;
-use crate::stopped::Untaken;
 use fsoe_base::Lengths;
 use param_load::Profiles;
 use schedule_file::{
@@ -62,13 +61,8 @@ impl Format for Schedule {
 
     ghost says = { grammar_says };
 
-    ghost takes = { false };
-
-    fn line(header: &mut Header, line: &[u8]) -> Result<bool, Untaken> {
-        match header.line(line) {
-            Ok(done) => Ok(done),
-            Err(cause) => Err(Untaken::Line(cause)),
-        }
+    fn line(header: &mut Header, line: &[u8]) -> Result<bool, LineCause> {
+        header.line(line)
     }
 
     fn grammar(header: &Header) -> Grammar {

@@ -1,5 +1,4 @@
-//! Why a machine stops, and why a header takes no line.
-use schedule_file::LineCause;
+//! Why a machine stops.
 
 /// Why an event isn't done, which ends the run.
 #[derive(Clone, Copy, Debug)]
@@ -8,15 +7,6 @@ pub enum Stopped {
     NoFrame,
     /// All applications of the name are used.
     NoApp,
-    /// There is no memory for it.
-    Memory,
-}
-
-/// Why a header doesn't take its next line.
-#[derive(Clone, Copy)]
-pub enum Untaken {
-    /// The line is refused.
-    Line(LineCause),
     /// There is no memory for it.
     Memory,
 }

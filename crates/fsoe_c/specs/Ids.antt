@@ -61,7 +61,7 @@ pub record WithIds (V : Type 0) : Type 0 where
 pub record IdsFollow {S V : Type 0} (is_after : S → V → List Deed → Type 0) (setup : S → Setup) (old : WithIds V) (event : Move) (new : WithIds V) : Type 0 where
   pub ids : (settings : S) (deeds : List Deed) → is_after settings old.core deeds → old.ids ≡ ids_of (setup settings) deeds → new.ids ≡ ids_of (setup settings) (step (setup settings) deeds event ∷ deeds)
 
--- the same at an event that sets what outlasts sessions, also while a frame is due
+-- ids follow an event that sets what outlasts sessions, also while a frame is due
 pub record IdsKeep {S : Type 0} (setup : S → Setup) (old : Ids) (event : Move) (new : Ids) : Type 0 where
   pub ids : (settings : S) (deeds : List Deed) → old ≡ ids_of (setup settings) deeds → new ≡ ids_of (setup settings) (step (setup settings) deeds event ∷ deeds)
 

@@ -15,6 +15,6 @@ use Rattle.fsoe_c.specs.declared.master_place.MasterPlace.{MasterPlace}
 abbrev pub lends_slave : MutBor SlavePlace → MutBor (WithIds SlaveView) → Fml
 lends_slave place slave = Lends slave_place_row slave_row place slave (λ left. record place.now { slave = Some left })
 
--- the same of a master
+-- once the master is no longer lent, the place holds it as it was left
 abbrev pub lends_master : MutBor MasterPlace → MutBor (WithIds MasterView) → Fml
 lends_master place master = Lends master_place_row master_row place master (λ left. record place.now { master = Some left })

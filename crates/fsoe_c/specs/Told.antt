@@ -55,10 +55,10 @@ pub record AcceptsTelling (old : WithIds MasterView) (bytes : List ℕ) (g : GpD
 pub record SlaveShowsTerms (slave : SlaveView) (g : GpTerms) : Type 0 where
   pub shows : (settings : SlaveSettings) (deeds : List Deed) → SlaveIsAfter settings slave deeds → IsSomeAnd (told_terms (OfSlave settings) deeds) (ShowsTerms g)
 
--- the same of a master
+-- the fields say what the terms are after the deeds of a master: it is in state Data
 pub record MasterShowsTerms (master : MasterView) (g : GpTerms) : Type 0 where
   pub shows : (settings : MasterSettings) (deeds : List Deed) → MasterIsAfter settings master deeds → IsSomeAnd (told_terms (OfMaster settings) deeds) (ShowsTerms g)
 
--- the same of a master that waits in a delivery, as if its frame had been sent
+-- the fields say what the terms are of a master that waits in a delivery, as if its frame had been sent
 pub record MasterShowsTermsDue (master : MasterView) (g : GpTerms) : Type 0 where
   pub shows : (d : Delivery) → Waits master d → IsSomeAnd (told_terms (OfMaster d.settings) (with_delivery d)) (ShowsTerms g)

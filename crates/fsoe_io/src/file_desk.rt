@@ -38,7 +38,7 @@ fn read_within<S: Source>(alloc: Global, source: &mut S, limit: usize) -> Result
     }
 }
 
-/// The same of what was opened. `Failed` where it wasn't.
+/// All bytes of the file that was opened, where they are at most `limit`. `Failed` where it wasn't opened.
 fn read_opened<S: Source + Drop, E: Drop>(
     alloc: Global,
     opened: Result<S, E>,

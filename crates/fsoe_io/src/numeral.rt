@@ -49,7 +49,7 @@ impl Numeral {
         }
     }
 
-    /// The same where more than the last digit differs.
+    /// Writes this number anew, where more than the last digit differs.
     #[inline(never)]
     fn write(&mut self, n: u64)
         ensures { self.new ≡ n }

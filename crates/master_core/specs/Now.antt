@@ -27,6 +27,6 @@ abbrev pub reply_in : KitView → Phase → Option Due → List ℕ
 reply_in kit p None = []
 reply_in kit p (Some due) = due_frame due kit p
 
--- the same, where a master stands
+-- the frame that is due where a master stands, empty where none is
 abbrev pub reply : KitView → Now → List ℕ
 reply kit now = reply_in kit now.phase now.due

@@ -30,7 +30,7 @@ its_deed d = step (OfMaster d.settings) d.before (move.Deliver d.bytes)
 abbrev pub with_delivery : Delivery → List Deed
 with_delivery d = its_deed d ∷ d.before
 
--- the same delivery with this event before it
+-- a delivery before which this event came, too
 abbrev pub preceded_by : Move → Delivery → Delivery
 preceded_by event d = record d { before = step (OfMaster d.settings) d.before event ∷ d.before }
 

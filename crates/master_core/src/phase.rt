@@ -190,7 +190,8 @@ impl Phase {
         *self = Phase::Data(state.to_data(kit));
     }
 
-    /// The same outside state Data, so that a data frame doesn't bear the cost of a change of phase.
+    /// Takes an answer outside state Data. It is a call of its own, so that a data frame doesn't bear the cost of a
+    /// change of phase.
     #[inline(never)]
     fn shake_hands(&mut self, seen: &SessionFrame<'_>, link: Link, kit: &Kit) -> Result<(), Code>
         requires handshake { state_of self.old ≢ state.Data }

@@ -24,7 +24,7 @@ pub record MultiValue (A : Type 0) : Type 0 where
   pub inputs : List (List ℕ)
   pub changed : List ℕ
 
--- the same, with the application as what it means
+-- what contracts see of a master of many connections, with the application as what it means
 pub record MultiView : Type 0 where
   pub masters : List MasterView
   pub app : AppView

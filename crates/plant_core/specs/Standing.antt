@@ -32,7 +32,7 @@ pub record PlantView : Type 0 where
   pub links : List LinkView
   pub journal : List JournalStep
 
--- the same, with an application of any type
+-- what a plant is, with an application of any type
 pub record PlantValue (A : Type 0) : Type 0 where
   pub master : MultiValue A
   pub links : List LinkView

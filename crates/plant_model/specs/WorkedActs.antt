@@ -56,7 +56,7 @@ FirstActs =
     × GivesHeld (uses driving_plant first_acts) (Ring [])
     × IsPast 58 first_acts
 
--- the same where the channel gives nothing in the first tick, and the first connection is cut after it: what its ends
+-- the acts where the channel gives nothing in the first tick, and the first connection is cut after it: what its ends
 -- send isn't pushed, and what was under way still comes
 abbrev pub cut_acts : List Act
 cut_acts =

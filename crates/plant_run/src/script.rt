@@ -4,7 +4,7 @@ ghost use Rattle.plant_model.specs.Fits.{lengths_in};
 ghost use Rattle.plant_run.specs.Script.{untitled};
 
 use crate::script_line::read_plant_event;
-use file_run::{Format, Untaken};
+use file_run::Format;
 use fsoe_base::Lengths;
 use plant_conf::LinkConf;
 use plant_model::PlantLine;
@@ -87,11 +87,9 @@ impl Format for ScriptFormat {
 
     ghost says = { λ h. plant_line h.lengths };
 
-    ghost takes = { false };
-
-    fn line(header: &mut ScriptHeader, line: &[u8]) -> Result<bool, Untaken> {
+    fn line(header: &mut ScriptHeader, line: &[u8]) -> Result<bool, LineCause> {
         if header.titled || line != b"fsoe 1 plant".as_slice() {
-            return Err(Untaken::Line(LineCause::Header));
+            return Err(LineCause::Header);
         }
         header.titled = true;
         Ok(true)

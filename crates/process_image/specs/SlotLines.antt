@@ -13,7 +13,7 @@ use Rattle.process_image.specs.Standing.{ImagesView, ShowsAt}
 abbrev pub entry_told : ℕ → ℕ → Did → List ℕ → Setup → List Deed → List ℕ
 entry_told n slot did sent s e = decimal n ++ codes " " ++ decimal slot ++ codes " " ++ entry_text did (state_of s e) (out s e) sent ++ codes "\n"
 
--- the same where its last frame is the one that it sent, if it sent one
+-- the line of a slot whose end did this, where its last frame is the one that it sent, if it sent one
 abbrev pub told_line : ℕ → ℕ → Did → Setup → List Deed → List ℕ
 told_line n slot did s e = entry_told n slot did (if did.sent then last_frame s e else []) s e
 

@@ -17,7 +17,7 @@ use crate::said::Said;
 use crate::spans::MOST_SLOTS;
 use crate::told_lines::{self, Telling};
 use arrayvec::ArrayVec;
-use file_run::{Format, Machine, Stopped, Untaken, Waiting, run_over, write_events};
+use file_run::{Format, Machine, Stopped, Waiting, run_over, write_events};
 use fsoe_base::Memory;
 use fsoe_io::{Ended, LineText, Sink, Source, Status};
 use schedule_file::LineCause;
@@ -61,13 +61,8 @@ impl Format for ImageFormat {
 
     ghost says = { λ grammar text. image_line grammar.size_in grammar.ends.items text };
 
-    ghost takes = { false };
-
-    fn line(header: &mut ImageHeader, line: &[u8]) -> Result<bool, Untaken> {
-        match header.line(line) {
-            Ok(done) => Ok(done),
-            Err(cause) => Err(Untaken::Line(cause)),
-        }
+    fn line(header: &mut ImageHeader, line: &[u8]) -> Result<bool, LineCause> {
+        header.line(line)
     }
 
     fn grammar(header: &ImageHeader) -> ImageGrammar {

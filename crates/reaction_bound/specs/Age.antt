@@ -32,12 +32,13 @@ abbrev pub source_by : ℕ → Option Terms → Bool → Option ℕ → Command 
 source_by n told other before command.ProcessData = if in_time n told && not other then before else None
 source_by n told other before _ = None
 
--- the same of an entry that took a frame; else what the entries before it give
+-- the number of that item after an entry: by the frame that it took; where it took none, as the entries before it give
 abbrev pub source_at : ℕ → Option Terms → Bool → Option ℕ → Option Took → Option ℕ → Option ℕ
 source_at n told other before None earlier = earlier
 source_at n told other before (Some t) earlier = source_by n told other before t.command
 
--- the same after an entry of the end, before which the item of a number was awaited: a reset makes zeros of the outputs
+-- the number of that item after an entry of the end, before which the item of a number was awaited: a reset makes zeros
+-- of the outputs
 abbrev pub source_in : ℕ → Entry → Bool → Option ℕ → Option ℕ → Option ℕ
 source_in n x other before earlier = if is_some x.did.reset then None else source_at n x.terms other before x.did.took earlier
 

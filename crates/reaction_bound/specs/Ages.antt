@@ -32,7 +32,7 @@ abbrev pub left_by : ℕ → Option Terms → ℕ
 left_by n None = 0
 left_by n (Some terms) = terms.watchdog - n
 
--- the same of an entry that took a frame; else what the entries before it give
+-- the ticks that are left after an entry: by the frame that it took; where it took none, as the entries before it give
 abbrev pub left_at : ℕ → Option Terms → Option Took → ℕ → ℕ
 left_at n terms None earlier = earlier
 left_at n terms (Some t) earlier = left_by n terms
@@ -109,7 +109,7 @@ abbrev pub standing_ticked : Option Standing → Option Standing
 standing_ticked None = None
 standing_ticked (Some s) = if nat_le s.left 1 then None else Some (record { left = s.left - 1; age = told_ticks (suc s.age) })
 
--- the same of an entry that may be a tick
+-- outputs after an entry that may be a tick
 abbrev pub standing_counted : Bool → Option Standing → Option Standing
 standing_counted tick standing = if tick then standing_ticked standing else standing
 
@@ -119,7 +119,7 @@ standing_taken other (Some number) (Some watchdog) n command.ProcessData =
     if other || nat_le watchdog 0 then None else Some (record { left = watchdog; age = n })
 standing_taken other awaited watchdog n c = None
 
--- the same of an entry that took a frame; else what the entries before it give
+-- outputs after an entry: by the frame that it took; where it took none, as the entries before it give
 abbrev pub standing_at : Bool → Option ℕ → Option ℕ → ℕ → Option Took → Option Standing → Option Standing
 standing_at other awaited watchdog n None earlier = earlier
 standing_at other awaited watchdog n (Some t) earlier = standing_taken other awaited watchdog n t.command
@@ -136,6 +136,6 @@ acted_next tick other did watchdog before after old =
     let standing : Option Standing = standing_next tick other did watchdog before old in
     record { waited = waited_next before after (counted tick old.waited); standing = standing; worst = greater (age_in standing) old.worst }
 
--- the same after an entry of its peer
+-- what is kept of an end after an entry of its peer
 abbrev pub heard_next : Option ℕ → Option ℕ → EndAge → EndAge
 heard_next before after old = record { waited = waited_next before after old.waited; standing = old.standing; worst = old.worst }

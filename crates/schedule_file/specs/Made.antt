@@ -53,7 +53,7 @@ made_slave = record {
 abbrev pub generator_of : ℕ → Lcg
 generator_of number = pcg32_of_seed (pcg32_seed 16 number)
 
--- the same after so many words
+-- the generator of a number, after so many words
 abbrev pub generator_after : ℕ → ℕ → Lcg
 generator_after number words = advance 64 multiplier_64 words (generator_of number)
 

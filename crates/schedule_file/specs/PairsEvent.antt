@@ -47,7 +47,7 @@ said_to pair (Some sends) (Some profiles) word fields = map_ok (said.One pair) (
 said_to pair None profiles word fields = Err (refused_for cause.NoLink (unlinked word fields))
 said_to pair (Some sends) None word fields = Err (refused_for cause.NoLink (unlinked word fields))
 
--- the same to the pair of a number, where it is one
+-- what a word says with its fields to the pair of a number, where it is one
 abbrev pub said_to_number : List (End → ℕ) → List (End → Profile) → Option ℕ → EventWord × End → List (List ℕ) → Result PairsLine LineCause
 said_to_number sends profiles None word fields = Err (refused_for cause.Number (unlinked word fields))
 said_to_number sends profiles (Some pair) word fields = said_to pair (numbered pair sends) (numbered pair profiles) word fields

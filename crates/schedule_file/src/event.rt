@@ -15,7 +15,7 @@ pub enum Event {
         to: End,
         back: u8,
     },
-    /// The same, with byte `pos` of the frame altered by the mask.
+    /// The end `to` is delivered the `back`-th frame back, with its byte `pos` altered by the mask.
     Altered {
         to: End,
         back: u8,

@@ -131,7 +131,7 @@ fn read_raw(to: End, fields: Option<&[u8]>, event: &mut Event) -> Result<(), Lin
     }
 }
 
-/// The same where the line before had no frame.
+/// `<hex>`: a frame of from 1 to 255 bytes, where the line before had none.
 #[inline(never)]
 fn read_first_raw(to: End, fields: Option<&[u8]>, event: &mut Event) -> Result<(), LineCause>
     ensures value { Becomes result event.new (raw_line to (fields_after fields.entry)) }
@@ -223,8 +223,8 @@ pub fn read_said(
     }
 }
 
-/// The same where none was said before. A function clears the room of all its locals, so that this one, which makes an
-/// event, stands by itself.
+/// What a word says of an event where none was said before. A function clears the room of all its locals, so that this
+/// one, which makes an event, stands by itself.
 #[inline(never)]
 fn read_first(
     word: (EventWord, End),
@@ -242,8 +242,8 @@ fn read_first(
     Ok(())
 }
 
-/// The same, written over an event. A tick is written over a tick alone where there is one: to write an event of another
-/// kind blanks a frame's room.
+/// What a word says of an event at an end with its fields, written over an event. A tick is written over a tick alone
+/// where there is one: to write an event of another kind blanks a frame's room.
 #[inline(always)]
 pub fn read_step(
     word: (EventWord, End),

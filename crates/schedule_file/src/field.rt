@@ -117,7 +117,7 @@ pub fn number_16(text: &[u8]) -> Result<u16, LineCause>
     Ok(n as u16)
 }
 
-/// The same of 32 bits.
+/// A field that is a number of 32 bits. `Number` where it isn't.
 pub fn number_32(text: &[u8]) -> Result<u32, LineCause>
     ensures { result ≡ number_32 text.now }
 {
@@ -198,8 +198,8 @@ pub fn read_bytes<const MOST: usize>(
     }
 }
 
-/// The same of the only field. `Fields` where there is no field or more than one. Digits have no space among them, so
-/// one is sought only where they aren't digits.
+/// Writes to `bytes` those that the only field says, in digits of either case. `Fields` where there is no field or more
+/// than one. Digits have no space among them, so one is sought only where they aren't digits.
 #[inline(always)]
 #[tactic(auto, using(crate::proofs::HexAlone::said_alone, crate::proofs::HexAlone::unsaid_alone))]
 pub fn bytes_field<const MOST: usize>(

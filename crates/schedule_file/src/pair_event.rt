@@ -69,7 +69,8 @@ pub fn read_event(
     Ok(says)
 }
 
-/// The same, written over `says`, which is as it was after an error. A frame stays in its place where `says` has one.
+/// Parses a line as `read_event` does, and writes what it says over `says`, which is as it was after an error. A frame
+/// stays in its place where `says` has one.
 pub fn read_event_into(
     line: &[u8],
     lengths: &Lengths,

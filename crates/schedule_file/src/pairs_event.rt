@@ -120,7 +120,8 @@ pub fn read_pairs_event(
     Ok(said.into_line())
 }
 
-/// The same, written over `said`, which is as it was after an error. A frame stays in its place where `said` has one.
+/// Parses a line as `read_pairs_event` does, and writes what it says over `said`, which is as it was after an error. A
+/// frame stays in its place where `said` has one.
 pub fn read_pairs_event_into(
     line: &[u8],
     lengths: &[Lengths],

@@ -53,8 +53,8 @@ pub record TraceStands (lengths : Lengths) (t : List Noted) (v : TraceView) : Ty
 pub record NotesFrame (old : TraceView) (x : Noted) (new : TraceView) : Type 0 where
   pub stands : (lengths : Lengths) (t : List Noted) → TraceStands lengths t old → TraceStands lengths (x ∷ t) new
 
--- the same where the frames are bytes, which those of each input are: so much a judge promises of any frames that may
--- come
+-- what a judge reports of inputs whose frames are bytes, as those of each input are: so much it promises of any frames
+-- that may come
 abbrev pub judge_reporting : Reporting TraceHeading TraceLine Noted
 judge_reporting = reporting_by (λ input ended text. AreOfBytes input.events → DiagnosesInput input ended text)
 

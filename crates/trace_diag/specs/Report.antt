@@ -56,7 +56,7 @@ pub record ReportsTrace (lengths : Lengths) (t : List Noted) (ended : Ended) (te
   pub text_is : text ≡ frames_line (length t) ++ verdict_lines told
   pub ended_is : ended ≡ ended_by told
 
--- the same, with the lengths of the header; an input that came to its `end` has one
+-- the report of a trace with the lengths of its header; an input that came to its `end` has one
 abbrev pub ReportsWhole : Option TraceHeading → List Noted → Ended → List ℕ → Type 0
 ReportsWhole None t ended text = ⊥
 ReportsWhole (Some h) t ended text = (lengths : Lengths) × AreLengths h lengths × ReportsTrace lengths t ended text

@@ -67,7 +67,7 @@ parameter_holds u place b =
     else if place == 5 then nat_le (number_at 4 u) 512
     else nat_lt place (6 + number_at 4 u) || b == 0
 
--- the same by the phase; a Reset frame carries zeros
+-- a payload byte is as it must be, by the phase; a Reset frame carries zeros
 abbrev pub payload_holds : State → ℕ → List ℕ → ℕ → ℕ → Bool
 payload_holds state.Session conn u place b = id_holds place b
 payload_holds state.Connection conn u place b = connection_holds conn place b

@@ -7,7 +7,7 @@ ghost use Rattle.trace_diag.specs.Lines.{trace_line};
 use crate::header::TraceHeader;
 use crate::noted::Noted;
 use crate::trace_line::{TraceLine, read_trace_line};
-use file_run::{Format, Untaken};
+use file_run::Format;
 use schedule_file::LineCause;
 
 /// How the lines of a recorded trace are read.
@@ -36,13 +36,8 @@ impl Format for TraceFormat {
 
     ghost says = { λ grammar. trace_line };
 
-    ghost takes = { false };
-
-    fn line(header: &mut TraceHeader, line: &[u8]) -> Result<bool, Untaken> {
-        match header.line(line) {
-            Ok(done) => Ok(done),
-            Err(cause) => Err(Untaken::Line(cause)),
-        }
+    fn line(header: &mut TraceHeader, line: &[u8]) -> Result<bool, LineCause> {
+        header.line(line)
     }
 
     fn grammar(_: &TraceHeader) {}

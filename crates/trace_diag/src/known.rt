@@ -94,7 +94,7 @@ impl Known {
         }
     }
 
-    /// The same again.
+    /// A copy of what is known.
     pub(crate) fn copy(&self) -> Known
         ensures { result ≡ self.now }
     {
@@ -204,7 +204,8 @@ impl Known {
         }
     }
 
-    /// The same of a frame that carries a piece of its end's own payload, which no data frame does.
+    /// The first data byte that isn't as it must be, of a frame that carries a piece of its end's own payload, which no
+    /// data frame does.
     #[inline(never)]
     fn wrong_in_own(&self, c: usize, load: &[u8], view: &FrameView<'_>) -> Option<usize>
         requires piece { c ≤ MOST_DATA }
@@ -295,7 +296,7 @@ impl Known {
         }
     }
 
-    /// The same after a frame of the master with this piece.
+    /// Keeps what comes with a frame of the master that carries this piece.
     fn go_on_master(&mut self, part: &[u8], view: &FrameView<'_>)
         requires turn { self.old.turn ≡ End.Master }
         requires piece { length part.now ≤ MOST_DATA }
@@ -318,7 +319,7 @@ impl Known {
         }
     }
 
-    /// The same after an answer of the slave.
+    /// Keeps what comes with an answer of the slave.
     fn go_on_slave(&mut self, c: usize)
         requires turn { self.old.turn ≡ End.Slave }
         requires piece { c ≤ MOST_DATA }

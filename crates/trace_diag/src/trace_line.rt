@@ -38,7 +38,7 @@ fn read_frame(from: End, fields: Option<&[u8]>, said: &mut TraceLine) -> Result<
     }
 }
 
-/// The same where the line before had no frame.
+/// `<hex>`: a frame of 1 to 255 bytes from this end, where the line before had none.
 #[inline(never)]
 fn read_first(from: End, fields: Option<&[u8]>, said: &mut TraceLine) -> Result<(), LineCause>
     ensures { Becomes result said.new (frame_line from (fields_after fields.entry)) }

@@ -274,7 +274,7 @@ fn rows() -> &'static [(&'static str, &'static [Line<'static>])] {
     ROWS
 }
 
-/// The same of these.
+/// The rows of `HELD`, behind a call for the same reason.
 fn held() -> &'static [(&'static str, &'static str, &'static str)] {
     HELD
 }

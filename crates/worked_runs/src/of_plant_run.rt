@@ -58,7 +58,7 @@ const SINKS: &[(usize, &[u64], u64)] = &[
     (8_000, &[3], 1_800),
 ];
 
-/// The same with 74 ticks before the stop is let go, and with such a sink.
+/// Runs the script with 74 ticks before the stop is let go, into such a sink.
 fn run_into(alloc: Global, room: usize, fails: &[u64]) -> Option<(Ended, usize)> {
     let lines = script(alloc, 74, 0).ok()?;
     let mut channel = ListChannel::new(alloc, Vec::new(alloc), 0).ok()?;

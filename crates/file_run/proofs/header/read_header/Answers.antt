@@ -20,30 +20,30 @@ returns-in-Ok-true-clause-heads g c =
     let next = rw (c.loop-cause.invariant.kind, c.line.ensures) at c.in-Ok-true.ensures.next in
     λ input lent. header_next (g.F.Format.format (g.F.Format.kind c.args.header.now)) _ c.loop-cause.reader input _ _ (c.loop-cause.invariant.reads input lent) c.loop-cause.invariant.is (λ more. rw (next.0, sym next.1 ∙ c.in-Ok-true.field-0-test) refl)
 
-pub returns-in-Err-Line-clause-heads : goal.returns-in-Err-Line-clause-heads
-returns-in-Err-Line-clause-heads g c =
-    let next = rw (c.in-Err-Line.field-0-is, c.loop-cause.invariant.kind, c.line.ensures) at c.in-Err-Line.ensures.next in
-    λ input lent. rw c.lines.ensures (header_stopped (g.F.Format.format (g.F.Format.kind c.args.header.now)) _ _ _ (header_next (g.F.Format.format (g.F.Format.kind c.args.header.now)) _ c.loop-cause.reader input _ _ (c.loop-cause.invariant.reads input lent) c.loop-cause.invariant.is (λ more. rw next refl)).0)
-
-pub returns-in-Err-Line-clause-halts : goal.returns-in-Err-Line-clause-halts
-returns-in-Err-Line-clause-halts g c =
-    λ input lent.
-    let at = c.loop-cause.invariant.reads input lent in
-    halts_after input at.rest _ c.loop-cause.reader.bytes at.lines 0 (halt.Refused c.lines.result (refusal.Line c.in-Err-Line.cause)) at.took
-    (c.lines.ensures ∙ at.number, took_one _ _ c.loop-cause.reader.line c.loop-cause.invariant.is at.lent) tt c.loop-cause.invariant.held
-
 pub returns-in-Err-clause-heads : goal.returns-in-Err-clause-heads
 returns-in-Err-clause-heads g c =
-    let next = rw (c.loop-cause.invariant.kind, c.line.ensures) at c.in-Ok-false.ensures.next in
-    λ input lent.
-    let seen = header_goes_on (g.F.Format.format (g.F.Format.kind c.args.header.now)) _ _ c.loop-cause.reader input _ (c.loop-cause.invariant.reads input lent) c.loop-cause.invariant.is next.0 (sym next.1 ∙ c.in-Ok-false.field-0-test) in
-    header_halts (g.F.Format.format (g.F.Format.kind c.args.header.now)) _ _ _ _ _ _ _ _ c.in-Err.why seen.0 c.in-Err.ensures.finds c.in-Err.ensures.goes
+    let next = rw (c.loop-cause.invariant.kind, c.line.ensures) at c.in-Err.ensures.next in
+    λ input lent. rw c.lines.ensures (header_stopped (g.F.Format.format (g.F.Format.kind c.args.header.now)) _ _ _ (header_next (g.F.Format.format (g.F.Format.kind c.args.header.now)) _ c.loop-cause.reader input _ _ (c.loop-cause.invariant.reads input lent) c.loop-cause.invariant.is (λ more. rw next refl)).0)
 
 pub returns-in-Err-clause-halts : goal.returns-in-Err-clause-halts
 returns-in-Err-clause-halts g c =
     λ input lent.
     let at = c.loop-cause.invariant.reads input lent in
-    halts_after _ _ _ _ _ _ c.in-Err.why (took_line _ _ _ _ _ c.loop-cause.reader.line at.took c.loop-cause.invariant.is at.lent at.number) c.in-Err.ensures.goes c.in-Err.ensures.stalls c.in-Err.ensures.most
+    halts_after input at.rest _ c.loop-cause.reader.bytes at.lines 0 (halt.Refused c.lines.result (refusal.Line c.in-Err.cause)) at.took
+    (c.lines.ensures ∙ at.number, took_one _ _ c.loop-cause.reader.line c.loop-cause.invariant.is at.lent) tt c.loop-cause.invariant.held
+
+pub returns-in-Err-next_line-clause-heads : goal.returns-in-Err-next_line-clause-heads
+returns-in-Err-next_line-clause-heads g c =
+    let next = rw (c.loop-cause.invariant.kind, c.line.ensures) at c.in-Ok-false.ensures.next in
+    λ input lent.
+    let seen = header_goes_on (g.F.Format.format (g.F.Format.kind c.args.header.now)) _ _ c.loop-cause.reader input _ (c.loop-cause.invariant.reads input lent) c.loop-cause.invariant.is next.0 (sym next.1 ∙ c.in-Ok-false.field-0-test) in
+    header_halts (g.F.Format.format (g.F.Format.kind c.args.header.now)) _ _ _ _ _ _ _ _ _ seen.0 c.in-Err-next_line.ensures.finds c.in-Err-next_line.ensures.goes
+
+pub returns-in-Err-next_line-clause-halts : goal.returns-in-Err-next_line-clause-halts
+returns-in-Err-next_line-clause-halts g c =
+    λ input lent.
+    let at = c.loop-cause.invariant.reads input lent in
+    halts_after _ _ _ _ _ _ _ (took_line _ _ _ _ _ c.loop-cause.reader.line at.took c.loop-cause.invariant.is at.lent at.number) c.in-Err-next_line.ensures.goes c.in-Err-next_line.ensures.stalls c.in-Err-next_line.ensures.most
 
 pub loop-cause-preserved : goal.loop-cause-preserved
 loop-cause-preserved g c =
