@@ -5,7 +5,7 @@
  *
  * If it has the right, it takes the policy SCHED_FIFO. How late a loop wakes is up to the kernel: take one with
  * PREEMPT_RT, keep a processor free for the loop, and measure. The longest lateness belongs into the sum of
- * docs/duties.md, and a second clock has to see a loop that stands still. What else a device does is in drive.c and
+ * docs/dimensioning.md, and a second clock has to see a loop that stands still. What else a device does is in drive.c and
  * controller.c.
  */
 #define _GNU_SOURCE
