@@ -38,13 +38,13 @@ all_far (column ∷ more) n = far more n column && all_far more n
 abbrev pub IsLinear : (ℕ → ℕ) → Type 0
 IsLinear made = (m n : ℕ) → made (bit_xor m n) ≡ bit_xor (made m) (made n)
 
-doubled : (made : ℕ → ℕ) → IsLinear made → IsLinear (λ m. made (m * 2))
+pub doubled : (made : ℕ → ℕ) → IsLinear made → IsLinear (λ m. made (m * 2))
 doubled made linear m n =
     let twice : bit_xor (m * 2 + 0) (n * 2 + 0) ≡ bit_xor m n * 2 + 0 = xor_block 1 m n 0 0 (lit< tt) (lit< tt) in
     ap made (sym (add-zero (bit_xor m n * 2)) ∙ sym twice ∙ ap (bit_xor (m * 2 + 0)) (add-zero (n * 2)) ∙ ap (λ x. bit_xor x (n * 2)) (add-zero (m * 2)))
     ∙ linear (m * 2) (n * 2)
 
-none : (made : ℕ → ℕ) → IsLinear made → made 0 ≡ 0
+pub none : (made : ℕ → ℕ) → IsLinear made → made 0 ≡ 0
 none made linear = linear 0 0 ∙ xor_self (made 0)
 
 made_even : (made : ℕ → ℕ) (m : ℕ) → m % 2 ≡ 0 → made m ≡ made (m / 2 * 2)

@@ -11,3 +11,4 @@ pub mod Xored
 pub mod Far
 pub mod Weight
 pub mod Counting
+pub mod Cases

@@ -27,7 +27,7 @@ bytes_at-length : (ks : List ℕ) (m n : ℕ) → length (bytes_at ks m) ≡ len
 bytes_at-length [] m n = refl
 bytes_at-length (k ∷ ks) m n = ap suc (bytes_at-length ks m n)
 
-crc_at-linear : (ks : List ℕ) → IsLinear (crc_at ks)
+pub crc_at-linear : (ks : List ℕ) → IsLinear (crc_at ks)
 unfolding crc_at
 crc_at-linear ks m n = ap rem (bytes_at-xored ks m n) ∙ sym (rem-xored [] (bytes_at ks m) (bytes_at ks n) (bytes_at-length ks m n))
 
@@ -36,17 +36,21 @@ pub weight : (ks bytes : List ℕ) (k n m : ℕ) → all_far (columns (crc_at ks
 unfolding crc_at
 weight ks bytes k n m all h some e = rw (sym e) (all_enough (crc_at ks) k n m (crc_at-linear ks) h some all)
 
+-- where the bytes of a pair begin, if the pair is one number, and those of three zeros after it
+abbrev pub pair_places : List ℕ
+pair_places = 8 ∷ 0 ∷ 16 ∷ 16 ∷ 16 ∷ []
+
 -- what each bit of two data bytes makes of a CRC
 unfoldable pub pair_columns : List ℕ
 unfolding columns crc_at
-pair_columns = columns (crc_at (8 ∷ 0 ∷ 16 ∷ 16 ∷ 16 ∷ [])) 16
+pair_columns = columns (crc_at pair_places) 16
 
-pair_computed : all_far (columns (crc_at (8 ∷ 0 ∷ 16 ∷ 16 ∷ 16 ∷ [])) 16) 5 ≡ true
+pair_computed : all_far (columns (crc_at pair_places) 16) 5 ≡ true
 unfolding all_far far ones_below columns crc_at computing
 pair_computed = refl
 
 -- two bytes as one number
-pair_at : (x y : ℕ) → x < 256 → y < 256 → bytes_at (8 ∷ 0 ∷ 16 ∷ 16 ∷ 16 ∷ []) (x * 256 + y) ≡ x ∷ y ∷ 0 ∷ 0 ∷ 0 ∷ []
+pub pair_at : (x y : ℕ) → x < 256 → y < 256 → bytes_at pair_places (x * 256 + y) ≡ x ∷ y ∷ 0 ∷ 0 ∷ 0 ∷ []
 pair_at x y hx hy =
     let m : ℕ = x * 256 + y in
     let high : m / 2 ^ 8 % 256 ≡ x = omega arith in
@@ -58,7 +62,7 @@ pair_at x y hx hy =
 pub pair_with : (n value x y : ℕ) → x < 256 → y < 256 → far pair_columns n value ≡ true → n ≤ count_ones x + count_ones y + count_ones (bit_xor value (rem (x ∷ y ∷ 0 ∷ 0 ∷ 0 ∷ [])))
 unfolding pair_columns crc_at
 pair_with n value x y hx hy e =
-    rw (sym (ones_cat 8 x y hy), sym (pair_at x y hx hy)) (far_enough (crc_at (8 ∷ 0 ∷ 16 ∷ 16 ∷ 16 ∷ [])) 16 n (x * 256 + y) value (crc_at-linear (8 ∷ 0 ∷ 16 ∷ 16 ∷ 16 ∷ [])) (omega arith) e)
+    rw (sym (ones_cat 8 x y hy), sym (pair_at x y hx hy)) (far_enough (crc_at pair_places) 16 n (x * 256 + y) value (crc_at-linear pair_places) (omega arith) e)
 
 six : (x y : ℕ) → x < 256 → y < 256 → (x ≡ 0 → y ≢ 0) → 6 ≤ count_ones x + count_ones y + count_ones (rem (x ∷ y ∷ 0 ∷ 0 ∷ 0 ∷ []))
 six x y hx hy some =
