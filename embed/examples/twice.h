@@ -1,8 +1,15 @@
 /*
- * A slave with two channels that compare. Each has an end in memory of its own, and the code of another compiler: the
- * second archive's calls have the prefix twin_, which embed/twin gives them. Both get the same calls. What they answered
- * and did, their frames, states and outputs are compared before anything leaves. At the first difference, and at the
- * first call that is refused, the outputs are zeros and no frame is sent, until the program starts anew.
+ * A slave or a master with two channels that compare. Each channel has an end in memory of its own, and the code of
+ * another compiler: embed/twin links the second archive's calls by the prefix twin_. The calls, and what they need, are
+ * those of gatepast.h, by names that begin with twice_ where they begin with gp_ there; so are memory and handle:
+ *
+ *     static twice_slave_memory memory;
+ *     static twice_slave slave = TWICE_SLAVE_IN(&memory);
+ *
+ * Both channels get each call. What they answer, write and read has to be equal, and after each step their states, ages
+ * and outputs, before anything leaves. Then all is as with one end. At the first difference the call returns
+ * TWICE_STOPPED, and so does each later one, until the program starts anew: outputs and all else that a call writes are
+ * zeros then, and no frame is sent. The memory stays where it is, as does a channel's.
  *
  * The comparison is outside of both channels: it is tested, and not proved. `__typeof__` is known to gcc and clang.
  */
@@ -12,88 +19,175 @@
 #include <gatepast.h>
 #include <string.h>
 
-enum { TWICE_MASTER_LEN = 2, TWICE_SLAVE_LEN = 2 };
+/* What a call returns once the channels differed, besides enum gp_answer. */
+enum { TWICE_STOPPED = 255 };
 
+/* Whether the channels run. No two of these become each other by a few turned bits; any other number is TWICE_HALTED.
+ */
+#define TWICE_NEW UINT32_C(0)
+#define TWICE_RUNS UINT32_C(0x5AC3693C)
+#define TWICE_HALTED UINT32_C(0xA53C96C3)
+
+#define TWICE_SLAVE_IN(memory) \
+    { (memory), TWICE_NEW }
+#define TWICE_MASTER_IN(memory) \
+    { (memory), TWICE_NEW }
+
+static inline uint8_t twice_halt(uint32_t *mode) {
+    *mode = TWICE_HALTED;
+    return TWICE_STOPPED;
+}
+
+/* What a call answers where no channel is called. */
+static inline uint8_t twice_idle(uint32_t *mode) {
+    return *mode == TWICE_NEW ? (uint8_t)GP_NO_END : twice_halt(mode);
+}
+
+/* What both channels answered. Once they run, each has an end. */
+static inline uint8_t twice_answer(uint32_t *mode, uint8_t of_first, uint8_t of_second) {
+    return of_first == of_second && of_first != GP_NO_END ? of_first : twice_halt(mode);
+}
+
+/* Gives what both channels read, or zeros once they differed. */
+static inline uint8_t twice_read(uint32_t *mode, uint8_t answer, const void *first, const void *second, void *to,
+                                 size_t len) {
+    if (answer == GP_OK && memcmp(first, second, len) != 0) answer = twice_halt(mode);
+    if (answer == GP_OK) memcpy(to, first, len);
+    if (answer == TWICE_STOPPED && len != 0) memset(to, 0, len);
+    return answer;
+}
+
+static inline bool twice_equal_frames(const gp_frame *first, const gp_frame *second) {
+    return first->len == second->len && first->len <= GP_MOST_FRAME &&
+           memcmp(first->bytes, second->bytes, first->len) == 0;
+}
+
+static inline bool twice_equal_did(const gp_did *first, const gp_did *second) {
+    return first->load_len <= GP_MOST_DATA && memcmp(first, second, sizeof *first) == 0;
+}
+
+static inline void twice_give_frame(gp_frame *to, const gp_frame *from) {
+    to->len = from->len;
+    memcpy(to->bytes, from->bytes, from->len);
+}
+
+static inline void twice_give_did(gp_did *to, const gp_did *from) {
+    memcpy(to, from, offsetof(gp_did, load) + from->load_len);
+    to->used = from->used;
+}
+
+#define TWICE_JOIN(before, end, after) before##end##after
+#define TWICE_JOINED(before, end, after) TWICE_JOIN(before, end, after)
+
+/* A call or a type of both channels, of the first and of the second, for the end that TWICE_END names. */
+#define TWICE(name) TWICE_JOINED(twice_, TWICE_END, name)
+#define TWICE_HANDLE TWICE()
+#define TWICE_FIRST(name) TWICE_JOINED(gp_, TWICE_END, name)
+#define TWICE_SECOND(name) TWICE_JOINED(twin_gp_, TWICE_END, name)
+
+/* What is answered to a call of both channels, if they run. */
+#define TWICE_BOTH(of_first, of_second)                                                              \
+    (at->mode == TWICE_RUNS && at->memory != NULL ? twice_answer(&at->mode, (of_first), (of_second)) \
+                                                  : twice_idle(&at->mode))
+
+#ifdef __cplusplus
+extern "C" {
+#endif
+extern __typeof__(gp_version) twin_gp_version;
 extern __typeof__(gp_slave_init) twin_gp_slave_init;
-extern __typeof__(gp_slave_deliver) twin_gp_slave_deliver;
-extern __typeof__(gp_slave_tick) twin_gp_slave_tick;
-extern __typeof__(gp_slave_put) twin_gp_slave_put;
-extern __typeof__(gp_slave_nonce) twin_gp_slave_nonce;
-extern __typeof__(gp_slave_state) twin_gp_slave_state;
-extern __typeof__(gp_slave_outputs) twin_gp_slave_outputs;
-extern __typeof__(gp_slave_size) twin_gp_slave_size;
+extern __typeof__(gp_slave_init_exact) twin_gp_slave_init_exact;
+extern __typeof__(gp_slave_init_ranges) twin_gp_slave_init_ranges;
+extern __typeof__(gp_master_init) twin_gp_master_init;
+extern __typeof__(gp_master_accept) twin_gp_master_accept;
+extern __typeof__(gp_master_due) twin_gp_master_due;
+extern __typeof__(gp_master_reply) twin_gp_master_reply;
+#ifdef __cplusplus
+}
+#endif
 
-typedef struct twice_channel {
-    gp_slave_memory memory;
-    gp_slave slave;
-    gp_frame out;
-    gp_did did;
-    uint8_t state, outputs[TWICE_MASTER_LEN];
-} twice_channel;
+/* ---- A slave ---- */
 
-static twice_channel first = {.slave = GP_SLAVE_IN(&first.memory)}, second = {.slave = GP_SLAVE_IN(&second.memory)};
-static bool stopped; /* for good */
+#define TWICE_END slave
+#include "twice_end.h"
 
-/* What may leave after a step: all zeros, and no frame, once it stopped. */
-static gp_frame twice_out;
-static uint8_t twice_outputs[TWICE_MASTER_LEN];
-
-static inline bool stop_unless(bool equal) {
-    if (equal && !stopped) return true;
-    stopped = true;
-    twice_out.len = 0;
-    memset(twice_outputs, 0, sizeof twice_outputs);
-    return false;
+static inline uint8_t twice_slave_init(twice_slave *at, const gp_slave_settings *set, uint16_t app_len) {
+    uint8_t answer = twice_slave_prepare(at);
+    if (answer == GP_OK)
+        answer = twice_answer(&at->mode, gp_slave_init(&at->memory->first.end, set, app_len),
+                              twin_gp_slave_init(&at->memory->second.end, set, app_len));
+    return twice_slave_begin(at, answer, set->master_len);
 }
 
-static inline bool both_ok(uint8_t of_first, uint8_t of_second) {
-    return stop_unless(of_first == GP_OK && of_second == GP_OK);
+static inline uint8_t twice_slave_init_exact(twice_slave *at, const gp_slave_settings *set, const uint8_t *app,
+                                             size_t app_len) {
+    uint8_t answer = twice_slave_prepare(at);
+    if (answer == GP_OK)
+        answer = twice_answer(&at->mode, gp_slave_init_exact(&at->memory->first.end, set, app, app_len),
+                              twin_gp_slave_init_exact(&at->memory->second.end, set, app, app_len));
+    return twice_slave_begin(at, answer, set->master_len);
 }
 
-static inline bool is_equal_frame(void) {
-    return first.out.len == second.out.len && first.out.len <= GP_MOST_FRAME &&
-           memcmp(first.out.bytes, second.out.bytes, first.out.len) == 0;
+static inline uint8_t twice_slave_init_ranges(twice_slave *at, const gp_slave_settings *set, const uint8_t *low,
+                                              size_t low_len, const uint8_t *high, size_t high_len) {
+    uint8_t answer = twice_slave_prepare(at);
+    if (answer == GP_OK)
+        answer =
+            twice_answer(&at->mode, gp_slave_init_ranges(&at->memory->first.end, set, low, low_len, high, high_len),
+                         twin_gp_slave_init_ranges(&at->memory->second.end, set, low, low_len, high, high_len));
+    return twice_slave_begin(at, answer, set->master_len);
 }
 
-/* After each step: false if it stopped. Else the outputs and the frame may leave. */
-static inline bool compared(void) {
-    if (!both_ok(gp_slave_state(&first.slave, &first.state), twin_gp_slave_state(&second.slave, &second.state)))
-        return false;
-    if (!both_ok(gp_slave_outputs(&first.slave, first.outputs, TWICE_MASTER_LEN),
-                 twin_gp_slave_outputs(&second.slave, second.outputs, TWICE_MASTER_LEN)))
-        return false;
-    if (!stop_unless(first.state == second.state && memcmp(first.outputs, second.outputs, TWICE_MASTER_LEN) == 0))
-        return false;
-    if (!stop_unless(is_equal_frame() && memcmp(&first.did, &second.did, sizeof first.did) == 0)) return false;
-    twice_out = first.out;
-    memcpy(twice_outputs, second.outputs, TWICE_MASTER_LEN);
-    return true;
+#undef TWICE_END
+
+/* ---- A master ---- */
+
+#define TWICE_END master
+#include "twice_end.h"
+
+static inline uint8_t twice_master_init(twice_master *at, const gp_master_settings *set, const uint8_t *app,
+                                        size_t app_len) {
+    uint8_t answer = twice_master_prepare(at);
+    if (answer == GP_OK)
+        answer = twice_answer(&at->mode, gp_master_init(&at->memory->first.end, set, app, app_len),
+                              twin_gp_master_init(&at->memory->second.end, set, app, app_len));
+    return twice_master_begin(at, answer, set->slave_len);
 }
 
-static inline bool twice_init(const gp_slave_settings *settings) {
-    return stop_unless(gp_slave_size() == sizeof first.memory && twin_gp_slave_size() == sizeof second.memory) &&
-           both_ok(gp_slave_init(&first.slave, settings, 0), twin_gp_slave_init(&second.slave, settings, 0));
+static inline uint8_t twice_master_accept(twice_master *at, const uint8_t *frame, size_t frame_len, gp_did *did) {
+    twice_master_memory *const both = at->memory;
+    return twice_master_stepped(
+        at,
+        TWICE_BOTH(gp_master_accept(&both->first.end, frame, frame_len, &both->first.did),
+                   twin_gp_master_accept(&both->second.end, frame, frame_len, &both->second.did)),
+        NULL, did);
 }
 
-static inline bool twice_deliver(const uint8_t *frame, size_t len) {
-    return both_ok(gp_slave_deliver(&first.slave, frame, len, &first.out, &first.did),
-                   twin_gp_slave_deliver(&second.slave, frame, len, &second.out, &second.did)) &&
-           compared();
+static inline uint8_t twice_master_due(twice_master *at, uint8_t *due) {
+    uint8_t first = 0, second = 0;
+    const uint8_t answer =
+        TWICE_BOTH(gp_master_due(&at->memory->first.end, &first), twin_gp_master_due(&at->memory->second.end, &second));
+    return twice_read(&at->mode, answer, &first, &second, due, sizeof *due);
 }
 
-static inline bool twice_tick(void) {
-    return both_ok(gp_slave_tick(&first.slave, &first.out, &first.did),
-                   twin_gp_slave_tick(&second.slave, &second.out, &second.did)) &&
-           compared();
+static inline uint8_t twice_master_reply(twice_master *at, gp_frame *out) {
+    twice_master_memory *const both = at->memory;
+    return twice_master_stepped(at,
+                                TWICE_BOTH(gp_master_reply(&both->first.end, &both->first.out),
+                                           twin_gp_master_reply(&both->second.end, &both->second.out)),
+                                out, NULL);
 }
 
-static inline bool twice_put(const uint8_t load[TWICE_SLAVE_LEN]) {
-    return both_ok(gp_slave_put(&first.slave, load, TWICE_SLAVE_LEN),
-                   twin_gp_slave_put(&second.slave, load, TWICE_SLAVE_LEN));
+static inline uint8_t twice_master_inputs(twice_master *at, uint8_t *inputs, size_t inputs_len) {
+    return twice_master_outputs(at, inputs, inputs_len);
 }
 
-static inline bool twice_nonce(uint32_t id) {
-    return both_ok(gp_slave_nonce(&first.slave, id), twin_gp_slave_nonce(&second.slave, id));
-}
+#undef TWICE_END
+#undef TWICE_BOTH
+#undef TWICE_SECOND
+#undef TWICE_FIRST
+#undef TWICE_HANDLE
+#undef TWICE
+#undef TWICE_JOINED
+#undef TWICE_JOIN
 
 #endif
