@@ -15,8 +15,9 @@ from layer.program import Complaint, Tool, text_of, write_whole
 
 HELP = "writes the frames of a report as a capture for Wireshark"
 PORT = 51000  # of the master; the slave has the next one
+PAIRS, LONGEST = 16, 65_507  # pairs of a run, and bytes for which a datagram has room
 PCAP = struct.pack("<IHHiIII", 0xA1B2C3D4, 2, 4, 0, 0, 65535, 228)  # the packets are IPv4
-ENTRY = re.compile(r"(\d+)(?: (\d+))? ([ms]) .* > ([0-9a-f]+)")
+ENTRY = re.compile(r"(\d{1,6})(?: (\d+))? ([ms]) .* > ([0-9a-f]+)")
 
 
 def checksum(header: bytes) -> int:
@@ -39,15 +40,27 @@ def packets(report: str, port: int) -> Iterator[bytes]:
     """The records of a capture."""
     for line in report.splitlines():
         if found := ENTRY.fullmatch(line):
-            packet = datagram(int(found[2] or 1), found[3], bytes.fromhex(found[4]), port)
+            pair, digits = int(found[2] or 1), found[4]
+            if not 0 < pair <= PAIRS or len(digits) % 2 or len(digits) > 2 * LONGEST:
+                why = f"pairs go from 1 to {PAIRS}, and a byte of a frame has two digits"
+                raise Complaint(f"replay writes no line {line[:80]!r}: {why}")
+            packet = datagram(pair, found[3], bytes.fromhex(digits), port)
             seconds, rest = divmod(int(found[1]), 1000)
             yield struct.pack("<IIII", seconds, rest * 1000, len(packet), len(packet)) + packet
+
+
+def port_of(text: str) -> int:
+    """The port of the master."""
+    if not re.fullmatch("[1-9][0-9]{0,4}", text) or int(text) > 65534:
+        raise argparse.ArgumentTypeError(f"{text} isn't from 1 to 65534: the slave's port is the next one")
+    return int(text)
 
 
 def take(parser: argparse.ArgumentParser) -> None:
     parser.add_argument("report", help="the report of a replay, or - for standard input")
     parser.add_argument("--into", required=True, metavar="FILE", help="the capture to write")
-    parser.add_argument("--port", type=int, default=PORT, help=f"the UDP port of the master, {PORT} if it isn't given")
+    port = f"the UDP port of the master, {PORT} if it isn't given"
+    parser.add_argument("--port", type=port_of, default=PORT, help=port)
 
 
 def run(given: argparse.Namespace, _tool: Tool) -> int:

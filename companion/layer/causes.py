@@ -123,8 +123,8 @@ class Causes:
         if cut is not None:
             return f" ({self.by(cut)})"
         if first:
-            return f": a frame that the {ENDS[first.sent.end]} sent in {self.steps[first.sent.step].when} never came"
-        return f": it took its last frame in {self.steps[taken.step].when}" if taken else ""
+            return f": a frame that the {ENDS[first.sent.end]} sent {self.steps[first.sent.step].during} never came"
+        return f": it took its last frame {self.steps[taken.step].during}" if taken else ""
 
     def why_drive(self, drive: str, entry: Entry, on: bool) -> str:
         """Why a drive's bit changed at its slave."""

@@ -8,7 +8,7 @@ from typing import TYPE_CHECKING, Any, Iterator
 from layer.causes import Change, drives_of, place_of
 from layer.journal import ENDS, Entry, Pair
 from layer.program import TOP
-from layer.reactions import outputs_of, presses
+from layer.reactions import is_guarded, outputs_of, presses
 from layer.words import WORDS, code_words
 
 if TYPE_CHECKING:
@@ -21,13 +21,20 @@ MOST_LINES = 6  # at the top of a page
 def first_lines(changes: list[Change]) -> list[str]:
     """Which drives went off, when and why: a line for those that did together."""
     drives = [change for change in changes if change.drive]
-    offs = groupby((change for change in drives if change.is_off), lambda change: (change.step.when, change.why))
-    lines = [f"{spoken([change.drive for change in same])} went off in {when}: {why}" for (when, why), same in offs]
+    offs = groupby((change for change in drives if change.is_off), lambda change: (change.step.during, change.why))
+    lines = [f"{spoken([change.drive for change in same])} went off {when}: {why}" for (when, why), same in offs]
     if len(lines) > MOST_LINES:
         lines[MOST_LINES - 1 :] = [f"{len(lines) - MOST_LINES + 1} more such lines stand below"]
     if drives and not lines:
-        lines = [f"No drive went off. Drive {drives[0].drive} went on in {drives[0].step.when}: {drives[0].why}"]
+        lines = [f"No drive went off. Drive {drives[0].drive} went on {drives[0].step.during}: {drives[0].why}"]
     return lines or ["No drive was on"]
+
+
+def refusal_lines(told: list[str]) -> list[str]:
+    """That a script was refused, where and why, by what is told of it; and that the rest is of what ran before."""
+    at = next((number for number, line in enumerate(told) if line.startswith("refused ")), None)
+    words = [] if at is None else [*told[:at], told[at + 1]]
+    return [f"The script was refused: {'; '.join(words)}", "All else is of what ran before that line"] if words else []
 
 
 def spoken(drives: list[str]) -> str:
@@ -115,29 +122,39 @@ class Chart:
             "marks": [(self.ran.steps[entry.step].x, what) for entry, what in marks],
         }
 
+    def proved(self, bound: dict[str, str], limit: int) -> int | None:
+        """The proved limit of a bound; None where a premise of the law isn't seen to hold (docs/promises.md)."""
+        others = any(self.ran.pairs[place_of(bound[key])[0]].other for key in ("estop", "drive"))
+        changes = any(line.text.startswith("app ") for line in self.ran.script)
+        return limit - 3 if is_guarded(bound, self.ran.tables) and not others and not changes else None
+
     def bound(self, number: int, line: str, said: str) -> dict[str, Any]:
         """What is shown of a bound."""
         bound = self.ran.tables["bound"][number]
         found = presses(bound, self.ran.script, outputs_of(self.ran.report))
-        _, _, _, limit, *_ = line.split(" ")
+        limit = int(line.split(" ")[3])
         return {
             "stop": bound["estop"],
             "drive": bound["drive"],
-            "limit": int(limit),
+            "limit": limit,
+            "proved": self.proved(bound, limit),
             "line": line,
             "said": said[0].upper() + said[1:],
             "presses": [(press.tick, press.off) for press in found],
         }
 
 
-def page_of(ran: Ran, script: str, bounds: list[tuple[str, str]], counts: list, seeds: list[int] | None) -> str:
-    """The page of a run, with its script as it was written."""
+def page_of(
+    ran: Ran, script: str, bounds: list[tuple[str, str]], counts: list, seeds: list[int] | None, others: list[int]
+) -> str:
+    """The page of a run, with its script as it was written; others are the seeds with an `other` entry."""
     chart = Chart(ran)
     lanes = [chart.lane(pair, end) for pair in ran.pairs.values() for end in "ms"]
     told = [chart.bound(number, line, said) for number, (line, said) in enumerate(bounds)]
     offs = [change.step.tick for change in ran.changes if change.is_off]
     data = {
-        "first": first_lines(ran.changes),
+        "first": refusal_lines(ran.refusal()) + first_lines(ran.changes),
+        "refused": ran.refused_line(),
         "at": offs[0] if offs else 1,
         "ticks": chart.ticks,
         "script": [
@@ -150,6 +167,7 @@ def page_of(ran: Ran, script: str, bounds: list[tuple[str, str]], counts: list, 
         "changes": [(max(1, change.step.tick), change.text, change.is_off) for change in ran.changes],
         "texts": list(chart.texts),
         "lines": script.rstrip("\n").split("\n"),
-        "seeds": seeds,
+        "seeds": seeds if counts else None,
+        "others": len(others),
     }
     return TEMPLATE.read_text().replace("DATA", json.dumps(data, separators=(",", ":")).replace("<", "\\u003c"))

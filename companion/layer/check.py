@@ -12,13 +12,14 @@ from typing import Any, Iterator
 from layer.explain import explained
 from layer.forms import KEYS
 from layer.net import Net
-from layer.program import Tool, text_of
+from layer.program import Complaint, Tool, text_of
 from layer.toml_lines import Place, lines_of, tables_of
 from layer.words import code_words
 
 HELP = "explains what is wrong with a plant's configuration"
 SCRIPT = "fsoe 1 plant\nend\n"
 LOADED, REFUSED = 0, 3  # statuses of the program
+TAKEN = "ticks 0\n"  # the first line of the report that SCRIPT gives
 Told = tuple[Place, str]  # where a warning stands, and what it says
 Tables = dict[str, list[dict[str, Any]]]
 
@@ -104,15 +105,23 @@ def warnings(text: str, loaded: bool) -> Iterator[Told]:
         yield from restarts(tables, net) if app == "net" else ()
 
 
+def judged(path: str, tool: Tool) -> tuple[int, str, list[str]]:
+    """The program's status for a configuration, the text of it, and what is to be said of it."""
+    text = text_of(path)
+    status, report = tool.ask("plant", path, text=SCRIPT)
+    if (status == LOADED) != report.startswith(TAKEN):
+        raise Complaint(f"status {status} of the program doesn't belong to its report, {report[:80]!r}")
+    return status, text, ["the program takes it"] if status == LOADED else explained(report, text) or [report.rstrip()]
+
+
 def take(parser: argparse.ArgumentParser) -> None:
     parser.add_argument("configuration", metavar="CONF", help="the configuration of a plant, a TOML file")
 
 
 def run(given: argparse.Namespace, tool: Tool) -> int:
-    text = text_of(given.configuration)
-    status, report = tool.ask("plant", given.configuration, text=SCRIPT)
+    status, text, said = judged(given.configuration, tool)
     places = lines_of(text)
-    print("\n".join(explained(report, text) or [report.rstrip() if status != LOADED else "the program takes it"]))
+    print("\n".join(said))
     for (name, number, key), why in warnings(text, status == LOADED) if status in (LOADED, REFUSED) else ():
         line = places.get((name, number, key)) or places.get((name, number, ""))
         print(f"warning: {f'line {line}: ' if line else ''}{why}")

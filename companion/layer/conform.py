@@ -18,6 +18,7 @@ from layer.rules import RULES, SETTINGS, hostile, many
 
 HELP = "compares a node program of another maker with the proved one"
 PAGE = "docs/protocol.md"
+ENDS = ("slave", "master")
 
 
 @dataclass(frozen=True)
@@ -37,8 +38,9 @@ def cases_of(given: argparse.Namespace) -> Iterator[Case]:
         ("hostile channel", "step", functools.partial(hostile, seed=seed), 8) for seed in range(1, given.seeds + 1)
     ]
     rare = [("65,536 frames", "number-fits-seal", many, 1)] if given.long else []
+    ends = (given.end,) if given.end else ENDS
     for number, setting in enumerate(SETTINGS):
-        for (rule, place, do, count), end in itertools.product((*RULES, *chance, *rare), ("slave", "master")):
+        for (rule, place, do, count), end in itertools.product((*RULES, *chance, *rare), ends):
             if number < count:
                 yield Case(rule, place, do, setting, end)
 
@@ -83,7 +85,7 @@ def table(results: list[Result]) -> Iterator[str]:
     yield f"{'rule':28}{'slave':>16}{'master':>16}"
     for rule in dict.fromkeys(case.rule for case, *_ in results):
         cells = []
-        for end in ("slave", "master"):
+        for end in ENDS:
             own = [(count, found) for case, count, found in results if (case.rule, case.end) == (rule, end)]
             passed = f"{sum(count for count, _ in own)} passed" if own else "not tried"
             cells.append("differs" if any(found for _, found in own) else passed)
@@ -91,6 +93,7 @@ def table(results: list[Result]) -> Iterator[str]:
 
 
 def take(parser: argparse.ArgumentParser) -> None:
+    parser.add_argument("--end", choices=ENDS, help="try this end alone")
     parser.add_argument("--seeds", type=int, default=2, help="how many hostile channels are tried for each setting")
     parser.add_argument("--first", action="store_true", help="end at the first answer that differs")
     parser.add_argument("--long", action="store_true", help="let the sequence numbers pass 65,535, too")

@@ -13,13 +13,14 @@ from layer.words import WORDS
 
 HELP = "says in words why a line or a configuration is refused"
 WORDS_OF_IMAGES = {"Position": "the bytes leave the image"}
+WITHOUT_FORM = ("Long", "NoNewline", "TooMany")  # causes that aren't about the words of the line
 LONG = 100  # digits of a line that are shown
 
 
-def shown(number: int, line: str) -> str:
+def shown(where: str, line: str) -> str:
     """A line as people can see it, also a carriage return or a tab in it."""
     seen = "".join(letter if letter.isprintable() else f"\\x{ord(letter):02x}" for letter in line[:LONG])
-    return f"line {number} is: {seen}{' ...' if len(line) > LONG else ''}"
+    return f"{where} is: {seen}{' ...' if len(line) > LONG else ''}"
 
 
 def next_header_lines(kind: Kind, before: list[str]) -> list[str]:
@@ -46,7 +47,7 @@ def expected(lines: list[str], number: int) -> list[str]:
     """The forms of the lines that may stand at this place."""
     kind = KINDS.get(lines[0]) if lines else None
     if kind is None or number == 1:
-        return list(KINDS)
+        return [f"{first}, for {of.command}" for first, of in KINDS.items()]
     before = lines[: number - 1]
     if kind.header and "go" not in before:
         return next_header_lines(kind, before)
@@ -55,18 +56,43 @@ def expected(lines: list[str], number: int) -> list[str]:
     return [kind.events[key]] if key in kind.events else list(kind.events.values())
 
 
-def refusal(number: int, cause: str, text: str | None) -> Iterator[str]:
-    """What a refused line is, why it is refused, and what was expected there."""
-    lines = text.split("\n") if text is not None else []
+def why_refused(number: int, cause: str, lines: list[str]) -> str:
+    """Why a line is refused."""
     first = lines[0] if lines and lines[0] in KINDS else ""
-    if number <= len(lines):
-        yield shown(number, lines[number - 1])
+    if first and number == 1 and cause == "Header":
+        return f"this is a file for {KINDS[first].command}, and another command read it"
     words = WORDS_OF_IMAGES if first == "fsoe 1 image" else {}
     why = words.get(cause) or WORDS["causes"][cause]
     most = KINDS[first].most if first else "too many"
-    yield why.replace("“{first}”", f"“{first}”" if first else "one of the program's").replace("{most}", most)
-    forms = expected(lines, number) if lines and cause not in ("Long", "NoNewline", "TooMany") else []
-    if len(forms) == 1:
+    return why.replace("“{first}”", f"“{first}”" if first else "one of the program's").replace("{most}", most)
+
+
+def why_unknown(number: int, cause: str, lines: list[str], count: int) -> str:
+    """Why it isn't known what was expected in a line of an input with so many lines, if it isn't."""
+    if number > 1 and lines[0] not in KINDS:
+        return "line 1 of the input begins no file for the program, so the report isn't of it"
+    if number > count + (cause == "End"):
+        return f"the input has {count} lines, so the report isn't of it: what was expected in line {number} isn't known"
+    return ""
+
+
+def refusal(last: str, number: int, cause: str, text: str | None, where: str) -> Iterator[str]:
+    """What a refused line is, by the report and in words, and what was expected there."""
+    lines = text.split("\n") if text is not None else []
+    count = len(lines) - (lines[-1:] == [""])
+    unknown = why_unknown(number, cause, lines, count) if lines else ""
+    if number <= count:
+        yield shown(where or f"line {number}", lines[number - 1])
+    elif cause == "End" and 0 < count == number - 1:
+        yield shown(where or f"line {count}, the last one,", lines[count - 1])
+    yield last
+    yield why_refused(number, cause, lines)
+    is_other_file = number == 1 and lines[:1] and lines[0] in KINDS
+    has_form = lines and not unknown and not is_other_file and cause not in WITHOUT_FORM
+    forms = expected(lines, number) if has_form else []
+    if unknown:
+        yield unknown
+    elif len(forms) == 1:
         yield f"expected there: {forms[0]}"
     elif forms:
         yield "expected there:"
@@ -115,12 +141,13 @@ def form_of(word: str, rest: list[str]) -> str | None:
     return KEYS[rest[0]][rest[-1]] if len(rest) > 1 else TABLES[rest[0]]
 
 
-def fault(words: list[str], text: str | None) -> Iterator[str]:
+def fault(last: str, text: str | None) -> Iterator[str]:
     """What a configuration's fault is about, what it is, and what was expected there."""
-    word, *rest = words
+    _, word, *rest = last.split(" ")
     number = fault_line(word, rest, text) if text is not None else None
     if number and word != "TooLong":
-        yield shown(number, text.split("\n")[number - 1].strip())
+        yield shown(f"line {number}", text.split("\n")[number - 1].strip())
+    yield last
     if word == "Later" and rest == ["0"]:
         yield "a drive's wire names a block that doesn't exist"
     else:
@@ -131,14 +158,17 @@ def fault(words: list[str], text: str | None) -> Iterator[str]:
         yield f"expected there: {form}"
 
 
-def explained(report: str, text: str | None) -> list[str]:
-    """The last line of a report and what it says; nothing where nothing is refused."""
+def explained(report: str, text: str | None, where: str = "") -> list[str]:
+    """The line that is refused, the last line of a report and what it says; nothing where nothing is refused.
+
+    The line is one of the text, unless `where` names it.
+    """
     last = report.rstrip("\n").split("\n")[-1]
-    if found := re.fullmatch(r"refused (\d+) (\w+)", last):
+    if found := re.fullmatch(r"refused ([1-9]\d*) (\w+)", last):
         if found[2] in WORDS["causes"]:
-            return [last, *refusal(int(found[1]), found[2], text)]
+            return list(refusal(last, int(found[1]), found[2], text, where))
     if last.startswith("config ") and last.split(" ")[1] in FAULTS:
-        return [last, *fault(last.split(" ")[1:], text)]
+        return list(fault(last, text))
     if last == "desk failed":
         return [last, "the file isn't there, or a read of it failed"]
     if last.startswith("usage: "):

@@ -67,8 +67,9 @@ PAIRS = {"t": "t: one tick of all", "end": "end"} | {f"<k> {word}": f"<k> {form}
 
 @dataclass(frozen=True)
 class Kind:
-    """A kind of input: the first words of its header lines, its events, and how many of these may come."""
+    """A kind of input: its command, the first words of its header lines, its events, and how many of these may come."""
 
+    command: str
     header: tuple[str, ...]
     events: dict[str, str]
     most: str = "200,000 events"
@@ -76,13 +77,13 @@ class Kind:
 
 END = ("lengths", "master", "slave", "profile", "app", "rule", "bytes", "range")
 KINDS = {
-    "fsoe 1 node master": Kind(("lengths", "master", "profile", "app", "go"), NODE),
-    "fsoe 1 node slave": Kind(("lengths", "slave", "profile", "rule", "bytes", "range", "go"), NODE),
-    "fsoe 1 pair": Kind((*END, "go"), PAIR | {"end": "end"}),
-    "fsoe 2 pairs": Kind(("pair", *END, "go"), PAIRS, "200,000 entries"),
-    "fsoe 1 image": Kind(("size", "slot", *END, "go"), IMAGE, "2,000 events"),
-    "fsoe 1 trace": Kind(("lengths", "go"), TRACE, "200,000 frames"),
-    "fsoe 1 plant": Kind((), SCRIPT, "2,000 events"),
+    "fsoe 1 node master": Kind("node master", ("lengths", "master", "profile", "app", "go"), NODE),
+    "fsoe 1 node slave": Kind("node slave", ("lengths", "slave", "profile", "rule", "bytes", "range", "go"), NODE),
+    "fsoe 1 pair": Kind("replay", (*END, "go"), PAIR | {"end": "end"}),
+    "fsoe 2 pairs": Kind("replay", ("pair", *END, "go"), PAIRS, "200,000 entries"),
+    "fsoe 1 image": Kind("image", ("size", "slot", *END, "go"), IMAGE, "2,000 events"),
+    "fsoe 1 trace": Kind("diagnose", ("lengths", "go"), TRACE, "200,000 frames"),
+    "fsoe 1 plant": Kind("plant", (), SCRIPT, "2,000 events"),
 }
 NEXT = {  # the header lines that may come after one, as far as the kind has them
     "size": ("slot",),

@@ -12,9 +12,8 @@ import sys
 import tomllib
 from typing import Any, Iterator
 
-from layer.check import LOADED, SCRIPT
-from layer.explain import explained
-from layer.program import Complaint, Tool, text_of, write_whole
+from layer.check import LOADED, judged
+from layer.program import Complaint, Tool, write_whole
 from layer.toml_lines import tables_of
 
 HELP = "writes the controller of a plant's configuration as C"
@@ -149,10 +148,9 @@ def take(parser: argparse.ArgumentParser) -> None:
 
 
 def run(given: argparse.Namespace, tool: Tool) -> int:
-    text = text_of(given.configuration)
-    status, report = tool.ask("plant", given.configuration, text=SCRIPT)
+    status, text, said = judged(given.configuration, tool)
     if status != LOADED:
-        print("\n".join(explained(report, text) or [report.rstrip()]), file=sys.stderr)
+        print("\n".join(said), file=sys.stderr)
         return status
     tables = tables_of(tomllib.loads(text))
     app = tables["plant"][0]["app"]

@@ -27,6 +27,11 @@ class Step:
         """When it was."""
         return f"tick {self.tick}" if self.x < self.tick else f"after tick {self.tick}"
 
+    @property
+    def during(self) -> str:
+        """When it was, after a verb."""
+        return f"in {self.when}" if self.x < self.tick else self.when
+
 
 def steps_of(journal: str, script: list[Line]) -> list[Step]:
     """The steps of a journal. Those of a tick have equal shares of its unit; events between ticks stand at its end."""

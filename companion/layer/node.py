@@ -7,6 +7,8 @@ import time
 from dataclasses import dataclass
 from typing import Sequence
 
+from layer.program import Complaint
+
 
 @dataclass(frozen=True)
 class Answer:
@@ -34,7 +36,10 @@ class Node:
     """A node program of any maker. One that has ended, or doesn't answer in time, gives empty answers."""
 
     def __init__(self, command: Sequence[str], header: Sequence[str], patience: float) -> None:
-        self.process = subprocess.Popen(command, stdin=subprocess.PIPE, stdout=subprocess.PIPE, bufsize=0)
+        try:
+            self.process = subprocess.Popen(command, stdin=subprocess.PIPE, stdout=subprocess.PIPE, bufsize=0)
+        except OSError as why:
+            raise Complaint(f"{command[0]} can't be run: {why.strerror}") from why
         self.patience, self.rest = patience, b""
         self.say(*header)
 

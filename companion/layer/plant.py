@@ -52,6 +52,14 @@ class Ran:
         ticks = outputs_of(self.report)
         return [seen_of(bound, self.script, ticks) for bound in self.tables.get("bound", [])]
 
+    def refused_line(self) -> int | None:
+        """The number of the script's line that was refused, if one was."""
+        return line_refused(self.report, self.script)
+
+    def refusal(self) -> list[str]:
+        """Why it was, in words."""
+        return [] if self.refused_line() is None else refused(self.report, "", self.script)
+
     def begun_twice(self) -> list[int]:
         """The ticks in which an end began two sessions, the second with the id of the first."""
         begun = Counter(
@@ -92,19 +100,24 @@ def ran(
     return status, report, Ran(tables, script, report, steps, pairs, changes)
 
 
+def line_refused(report: str, script: list[Line]) -> int | None:
+    """The number of the script's line that the program refuses, if it does; of its last line, if the script ends."""
+    word, _, number = report.rstrip("\n").rpartition("\n")[2].rpartition(" ")[0].partition(" ")
+    if word != "refused":
+        return None
+    return script[min(int(number), len(script)) - 1].source if script else 1
+
+
 def refused(report: str, text: str, script: list[Line]) -> list[str]:
     """Why the program refuses a configuration or a line, in words."""
-    last = report.rstrip("\n").split("\n")[-1]
-    if not last.startswith("refused "):
-        return explained(report, text) or [last]
-    number = int(last.split(" ")[1])
-    source = [f"it comes from line {script[number - 1].source} of the script"] if number <= len(script) else []
-    return explained(report, plain(script)) + source
+    if (source := line_refused(report, script)) is not None:
+        return explained(report, plain(script), f"line {source} of the script")
+    return explained(report, text) or report.rstrip("\n").split("\n")[-1:]
 
 
 def take(parser: argparse.ArgumentParser) -> None:
     parser.add_argument("configuration", metavar="CONF", help="the configuration of a plant, a TOML file")
-    parser.add_argument("script", metavar="SCRIPT", help="the script, or - for standard input")
+    parser.add_argument("script", metavar="SCRIPT", nargs="?", help="the script, or - for standard input")
     parser.add_argument("--plain", action="store_true", help="write the script that the program reads, and no more")
     parser.add_argument("--chart", metavar="FILE", help="write a page with a chart of the run")
     seeds = "run all seeds from A to B, and tell how long reactions took; the rest is of seed A"
@@ -133,9 +146,9 @@ def connections_of(text: str) -> int:
         return 0
 
 
-def prepared(given: argparse.Namespace, source: str) -> tuple[str, list[Line]]:
+def prepared(given: argparse.Namespace, text: str, source: str) -> tuple[str, list[Line]]:
     """The configuration and the lines of the script that are run."""
-    script, text = expanded(source), text_of(given.configuration)
+    script = expanded(source)
     if given.rates:
         if min(given.rates) < 0 or sum(given.rates) > 10_000:
             raise Complaint("rates go from 0 on, and are at most 10,000 together")
@@ -146,8 +159,11 @@ def prepared(given: argparse.Namespace, source: str) -> tuple[str, list[Line]]:
 
 
 def run(given: argparse.Namespace, tool: Tool) -> int:
+    configuration = text_of(given.configuration)  # first: the script may be typed
+    if given.script is None:
+        raise Complaint(f"{given.configuration} is run over a script: name its file, or - for standard input")
     source = text_of(given.script)
-    text, script = prepared(given, source)
+    text, script = prepared(given, configuration, source)
     if given.plain:
         print(plain(script), end="")
         return 0
@@ -160,7 +176,7 @@ def run(given: argparse.Namespace, tool: Tool) -> int:
     if not done:
         print("\n".join(refused(report, text, script)))
         return status
-    lines, bounds, seen = list(told(done, status, text, given.fresh)), done.bounds(), []
+    lines, bounds, seen, others = list(told(done, status, text, given.fresh)), done.bounds(), [], []
     if given.seeds and status in RAN:
         others, seen = over_seeds(lab if rates else tool, text, script, range(first, last + 1), rates)
         status = int(bool(others))
@@ -168,10 +184,10 @@ def run(given: argparse.Namespace, tool: Tool) -> int:
         lines.append(f"seeds {first} to {last}: {len(others)} with an other entry{first_other}")
         for (line, _), each in zip(bounds, seen):
             lines += [summary(line, each), *rows(line, each.counts)]
-    elif rates:
+    elif rates and status in RAN:
         lines += [summary(line, each) for (line, _), each in zip(bounds, done.seen())]
     if given.chart:
-        page = page_of(done, source, bounds, [each.counts for each in seen], given.seeds)
+        page = page_of(done, source, bounds, [each.counts for each in seen], given.seeds, others)
         write_whole(given.chart, page.encode())
     print("\n".join(lines))
     return status

@@ -7,6 +7,7 @@ import subprocess
 from dataclasses import dataclass
 
 TOP = pathlib.Path(__file__).resolve().parents[2]
+LAST = ("bound", "config", "conforms", "desk", "events", "frame", "other", "out", "refused", "usage:")  # of a report
 
 
 class Complaint(Exception):
@@ -32,9 +33,18 @@ class Tool:
         return [str(path.absolute()), *words]
 
     def ask(self, *words: str, text: str = "") -> tuple[int, str]:
-        """The status and the report for these words and this input."""
-        ran = subprocess.run(self.command(*words), input=text.encode(), stdout=subprocess.PIPE)
-        return ran.returncode, ran.stdout.decode()
+        """The status and the report for these words and this input. A journal has no last line of its own."""
+        command = self.command(*words)
+        try:
+            ran = subprocess.run(command, input=text.encode(), stdout=subprocess.PIPE)
+        except OSError as why:
+            raise Complaint(f"{command[0]} can't be run: {why.strerror}") from why
+        report = ran.stdout.decode(errors="replace")
+        last = report.rstrip("\n").rpartition("\n")[2]
+        if words[0] != "journal" and last.split(" ")[0] not in LAST:
+            wrote = f"its last line is {last[:80]!r}" if report else "it writes nothing"
+            raise Complaint(f"{command[0]} gives no report of {words[0]}: {wrote}, and its status is {ran.returncode}")
+        return ran.returncode, report
 
 
 def lab_of(given: str | None) -> Tool:

@@ -13,7 +13,7 @@ from dataclasses import dataclass
 from typing import Iterator
 
 from example_node import PARAMETER, RESET, SESSION, read_back
-from layer.capture import PORT
+from layer.capture import PORT, port_of
 from layer.program import Complaint, Tool, write_whole
 
 HELP = "has a recording judged, session by session"
@@ -42,7 +42,8 @@ def frames_of(path: str, port: int) -> dict[int, Part]:
     if not shutil.which("tshark"):
         raise Complaint("recordings are read by tshark, which isn't there (apt-get install tshark)")
     names = [word for name in FIELDS for word in ("-e", name)]
-    words = ["tshark", "-r", path, "-Y", f"udp.port == {port} && udp.port == {port + 1}", "-T", "fields", *names]
+    wanted = f"udp.port == {port} && udp.port == {port + 1} && !icmp && !icmpv6"  # an ICMP message quotes a datagram
+    words = ["tshark", "-r", path, "-Y", wanted, "-T", "fields", *names]
     ran = subprocess.run(words, capture_output=True, text=True)
     if ran.returncode:
         raise Complaint(f"tshark doesn't read {path}: {ran.stderr.strip().splitlines()[-1]}")
@@ -102,11 +103,12 @@ def why_not(part: Part, lengths: tuple[int, int]) -> str | None:
 def judged(part: Part, text: str, tool: Tool) -> tuple[int, str]:
     """The program's status and verdict, with the recording's number of the first frame that differs."""
     status, report = tool.ask("diagnose", text=text)
-    _, *lines = report.splitlines()
-    if status == 1:
-        _, number, *field = lines[-1].split(" ")
-        return status, f"differs in frame {part[int(number) - 1].number}, {' '.join(field)}"
-    return status, "conforms, " + lines[0] if status == 0 else report.splitlines()[-1]
+    *_, before, last = ["", *report.splitlines()]
+    word, _, field = last.partition(" ")
+    if word == "frame":
+        number, _, field = field.partition(" ")
+        return status, f"differs in frame {part[int(number) - 1].number}, {field}"
+    return status, f"conforms, {before}" if word == "conforms" else last
 
 
 def length_of(text: str) -> int:
@@ -120,7 +122,8 @@ def take(parser: argparse.ArgumentParser) -> None:
     parser.add_argument("recording", help="a file that tshark reads, such as pcapng")
     what = "the safe data bytes of master and slave"
     parser.add_argument("--lengths", type=length_of, nargs=2, required=True, metavar=("LM", "LS"), help=what)
-    parser.add_argument("--port", type=int, default=PORT, help=f"the UDP port of the master, {PORT} if it isn't given")
+    port = f"the UDP port of the master, {PORT} if it isn't given"
+    parser.add_argument("--port", type=port_of, default=PORT, help=port)
     parser.add_argument("--into", metavar="FOLDER", help="the folder for the files of the parts, each a trace")
 
 

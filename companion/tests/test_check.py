@@ -6,7 +6,7 @@ import subprocess
 import sys
 
 import pytest
-from conftest import TOOL, TOP, gatepast
+from conftest import ENVIRONMENT, TOOL, TOP, gatepast
 from hypothesis import given, strategies
 from layer.check import warnings
 from layer.explain import expected, explained
@@ -36,8 +36,8 @@ def test_each_refusal_is_explained():
     assert len(RUNS) > 300
     for name, last, configuration, text in RUNS:
         lines = explained(last, configuration if last.startswith("config") else text)
-        assert lines[0] == last and len(lines) > 1, name
-        assert not re.search(r"[{}]", "".join(lines[1:]).replace(text, "")) or "{" in text, (name, lines)
+        assert last in lines[:2] and lines[-1] != last, name
+        assert not re.search(r"[{}]", "".join(lines).replace(text, "")) or "{" in text, (name, lines)
 
 
 LENGTHS = ["lengths 2 2"]
@@ -69,9 +69,32 @@ def test_header_lines_are_expected_where_they_may_stand(command, first, lines):
 
 
 def test_what_cannot_be_seen_is_shown():
-    assert explained("refused 3 Number", "fsoe 1 node slave\nlengths 2 2\nslave 2 200 1000 2\r\n")[1] == (
+    assert explained("refused 3 Number", "fsoe 1 node slave\nlengths 2 2\nslave 2 200 1000 2\r\n")[0] == (
         "line 3 is: slave 2 200 1000 2\\x0d"
     )
+
+
+@pytest.mark.parametrize("first", KINDS)
+def test_the_command_of_a_file_is_named(first):
+    command = "node master" if KINDS[first].command != "node master" else "replay"
+    report = TOOL.ask(*command.split(" "), text=first + "\n")[1]
+    assert explained(report, first + "\n") == [
+        f"line 1 is: {first}",
+        "refused 1 Header",
+        f"this is a file for {KINDS[first].command}, and another command read it",
+    ]
+
+
+def test_what_is_not_known_of_another_input_is_told():
+    start = "fsoe 1 pair\nlengths 2 2\n"
+    for number, text in ((3, start), (3, start[:-1]), (9, start)):
+        known = f"the input has 2 lines, so the report isn't of it: what was expected in line {number} isn't known"
+        assert explained(f"refused {number} Header", text)[2:] == [known]
+    assert explained("refused 3 End", start)[0] == "line 2, the last one, is: lengths 2 2"
+    assert explained("refused 3 End", start)[3].startswith("expected there: master <connection id>")
+    assert "the input has 2 lines" in explained("refused 4 End", start)[-1]
+    other = "line 1 of the input begins no file for the program, so the report isn't of it"
+    assert explained("refused 2 Word", EXAMPLE)[1:] == ["refused 2 Word", "no event begins with this word", other]
 
 
 NUMBER = r"\d[\d,]*\d|\d"
@@ -114,7 +137,7 @@ def test_lines_of_a_configuration_are_found():
         ("", "NoInput 2.0", 'line 26 is: ins = ["i1.0", "i2.0"]'),
         ("", "NoChannel", 'line 3 is: channel = "perfect"'),
     ):
-        assert explained(f"config {fault}", EXAMPLE.replace(line, "", 1))[1] == wanted
+        assert explained(f"config {fault}", EXAMPLE.replace(line, "", 1))[:2] == [wanted, f"config {fault}"]
     assert "zeros" in explained("config NoApp", EXAMPLE)[-1] and "hostile" in explained("config NoChannel", EXAMPLE)[-1]
 
 
@@ -232,12 +255,37 @@ def test_what_is_meant_gives_no_warning():
     assert [*warnings(net, True), *warnings(mirror, True), *warnings(zeros, True)] == []
 
 
+def dimensioned(*words):
+    """Status, standard output and standard error of companion/dimension."""
+    command = [sys.executable, TOP / "companion" / "dimension", *words]
+    ran = subprocess.run(command, capture_output=True, text=True, env=ENVIRONMENT)
+    return ran.returncode, ran.stdout, ran.stderr
+
+
+@pytest.mark.parametrize(
+    "old, new, why",
+    (
+        ('estop = "i1.0"', 'estop = "i0.0"', "config NoInput 0.0\n"),
+        ('estop = "i1.0"', 'estop = "i1.16"', "config NoInput 1.16\n"),
+        ('drive = "o2.0"', 'drive = "o3.0"', "config NoOutput 3.0\n"),
+        ("watchdog = 5", "watchdog = 0", "config Range connection 1 watchdog\n"),
+        ("watchdog = 5", "watchdog = -5", "config Range connection 1 watchdog\n"),
+        ("watchdog = 5\n", "", "config Missing connection 1 watchdog\n"),
+    ),
+)
+def test_no_times_are_told_of_what_the_program_refuses(tmp_path, old, new, why):
+    (tmp_path / "plant.toml").write_text((EXAMPLE + BOUND.format(0, 0)).replace(old, new, 1))
+    status, said, told = dimensioned(tmp_path / "plant.toml", "1")
+    assert (status, said) == (3, "") and why in told and told.startswith("line ")
+    status, said, told = dimensioned("--program", "/bin/true", tmp_path / "plant.toml", "1")
+    assert (status, said) == (2, "") and told.startswith("dimension: /bin/true gives no report of plant")
+
+
 def test_reaction_times_are_those_of_the_duties(tmp_path):
     (tmp_path / "plant.toml").write_text(EXAMPLE + BOUND.format(0, 0))
-    words = [tmp_path / "plant.toml", "2", "--input", "10", "--late", "0.5", "--clocks", "0.01"]
-    ran = subprocess.run([sys.executable, TOP / "companion" / "dimension", *words], capture_output=True, text=True)
+    status, said, _ = dimensioned(tmp_path / "plant.toml", "2", "--input", "10", "--late", "0.5", "--clocks", "0.01")
     others = "input 10 ms, late 1 ms, application 0 ms, output 0 ms, stopping 0 ms"
-    assert ran.stdout.splitlines() == [
+    assert status == 0 and said.splitlines() == [
         "connection 1 watchdog 5 hand 5 least 2",
         "connection 2 watchdog 5 hand 5 least 2",
         "bound i1.0 o2.0 limit 20 ticks, 40 ms",
@@ -251,7 +299,7 @@ def test_what_is_refused_comes_with_the_programs_status(tmp_path):
     status, said, _ = gatepast("check", file)
     assert (
         status == 3
-        and "config Missing connection 1 watchdog\nline 6 is: [[connection]]" in said
+        and said.startswith("line 6 is: [[connection]]\nconfig Missing connection 1 watchdog\n")
         and "watchdog is meant" in said
     )
     file.write_bytes(b"\xff")
@@ -260,5 +308,25 @@ def test_what_is_refused_comes_with_the_programs_status(tmp_path):
         assert (status, said) == (2, "") and why.startswith("gatepast: ")
     file.write_text("[plant\n")
     status, said, _ = gatepast("check", file)
-    assert status == 3 and "config Syntax\nline 1 is: [plant\n" in said
+    assert status == 3 and said.startswith("line 1 is: [plant\nconfig Syntax\n")
     assert "no program at" in gatepast("--program", tmp_path, "check", file)[2]
+
+
+def test_what_is_no_report_is_refused(tmp_path):
+    """A program that answers nothing, no report, another report, or that the system can't run."""
+    lines = {"nothing": "", "words": "echo all is well", "other": "echo other none", "binary": "printf '\\377'"}
+    for name, text in {**{name: f"#!/bin/sh\n{line}\n" for name, line in lines.items()}, "none": "no program"}.items():
+        (tmp_path / name).write_text(text)
+        (tmp_path / name).chmod(0o700)
+        status, said, why = gatepast("--program", tmp_path / name, "check", TOP / "examples" / "emergency_stop.toml")
+        assert (status, said) == (2, "") and why.startswith("gatepast: ") and why.count("\n") == 1, name
+    plant, script = TOP / "examples" / "emergency_stop.toml", TOP / "examples" / "emergency_stop.script"
+    others = (["vectors"], ["campaign", 1, 2, "--fresh"], ["conform", "true"])
+    for words in (["plant", plant, script], ["generate", plant], *others):
+        status, _, why = gatepast("--program", "/bin/true", *words)
+        assert status == 2 and re.fullmatch("gatepast: .*\n", why), words
+
+
+def test_the_version_is_that_of_the_package():
+    version = re.search("(?m)^Version: (.*)$", (TOP / "embed" / "gatepast.pc.in").read_text())[1]
+    assert gatepast("--version") == (0, f"gatepast {version}\n", "")

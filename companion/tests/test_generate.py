@@ -127,8 +127,8 @@ def test_the_largest_controller_compiles(tmp_path):
 @pytest.mark.parametrize(
     "old, new, status, why",
     (
-        ("watchdog = 5", "watchdog = 0", 3, "config Range connection 1 watchdog\nline 9 is: watchdog = 0\n"),
-        ('"b1"]', '"b9"]', 3, "config Later 2\nline 31 is: "),
+        ("watchdog = 5", "watchdog = 0", 3, "line 9 is: watchdog = 0\nconfig Range connection 1 watchdog\n"),
+        ('"b1"]', '"b9"]', 3, 'line 31 is: ins = ["i1.2", "b9"]\nconfig Later 2\n'),
         ('app = "net"', 'app = "mirror"', 2, "gatepast: {} runs mirror: a controller in C runs the net alone\n"),
     ),
 )

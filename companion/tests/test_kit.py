@@ -129,10 +129,12 @@ def test_places_of_rules_stand_in_the_page():
     assert {place for _, place, _, _ in RULES} <= anchors
 
 
-def test_the_proved_program_passes():
-    status, said, _ = gatepast("conform", "--seeds", 0, "--", *TOOL.command("node"))
+@pytest.mark.parametrize("end", ("slave", "master"))
+def test_the_proved_program_passes_at_each_end_alone(end):
+    only = ["sh", "-c", f'test "$3" = {end} && exec "$@"', "sh"]
+    status, said, _ = gatepast("conform", "--end", end, "--seeds", 0, "--", *only, *TOOL.command("node"))
     assert status == 0 and len(said.splitlines()) == len(RULES) + 1
-    assert "differs" not in said and "not tried" not in said
+    assert "differs" not in said and said.count("not tried") == len(RULES)
 
 
 @pytest.mark.parametrize("old, new", ALTERED, ids=[new.strip() for _, new in ALTERED])

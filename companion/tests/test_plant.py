@@ -1,13 +1,16 @@
 """Scripts for people, the causes of changes in a plant, its bounds, and its chart."""
+import json
 import re
 import shutil
 import tomllib
+from dataclasses import replace
+from types import SimpleNamespace
 
 import pytest
 from conftest import ENVIRONMENT, TOOL, TOP, WITH_LAB, gatepast
 from hypothesis import given, settings, strategies
-from layer.causes import drives_of
-from layer.journal import Direction, Entry, Pair, bit_of, header_of, steps_of
+from layer.causes import Causes, drives_of
+from layer.journal import Direction, Entry, Pair, Step, Way, bit_of, header_of, steps_of
 from layer.plant import ran
 from layer.program import Complaint, Tool
 from layer.reactions import Seen, over_seeds, presses, with_key
@@ -106,6 +109,17 @@ def test_a_frame_of_another_session_was_not_taken_last():
         entry = Entry("s", did, state, "00", "", 0, "ts", entry)
         last.append(entry.last_taken())
     assert [taken.did if taken else None for taken in last] == [None, "took Session", "took Session", None]
+
+
+@pytest.mark.parametrize("at, when", ((0, "in tick 1"), (1, "after tick 1")))
+def test_it_is_said_when_a_frame_was_sent_or_taken(at, when):
+    steps = [Step(["t"], 1, 0.5, None), Step(["z", "1"], 1, 1, None), Step(["t"], 2, 1.5, None)]
+    taken = Entry("m", "took ProcessData", "Data", "00", "", at, "rm", None)
+    lost = Way(Entry("s", "reset own", "Reset", "00", "2a", at, "zs", None), None, "lost")
+    never, last = f"a frame that the slave sent {when} never came", f"it took its last frame {when}"
+    for ways, why in (([lost], never), ([], last)):
+        pair, expired = SimpleNamespace(ways=ways, cuts=[None] * 3), replace(taken, step=2, before=taken)
+        assert Causes({}, steps, {}).why_none_came(pair, expired) == f": {why}"
 
 
 def test_an_entry_that_is_other_is_the_one_of_its_number():
@@ -249,11 +263,21 @@ def test_bounds_are_said_in_words(tmp_path, script, old, wanted):
 def test_what_is_refused_is_explained(tmp_path):
     page = tmp_path / "a.html"
     status, told, _ = gatepast("plant", EXAMPLE, "-", text="fsoe 1 plant\n# all\n\nt 2\nx 1\nend\n")
-    assert status == 4 and "refused 4 Word\nline 4 is: x 1\n" in told
-    assert told.endswith("it comes from line 5 of the script\n")
+    assert status == 4 and "\nline 5 of the script is: x 1\nrefused 4 Word\nno event begins with this word\n" in told
+    last = "line 3 of the script is: t\nrefused 4 End\n"
+    for script, told in (("", "refused 1 End\n"), ("fsoe 1 plant\n#\nt 2\n", last)):
+        assert gatepast("plant", EXAMPLE, "-", text=script)[1].partition("the text ends here")[0].endswith(told)
     (tmp_path / "plant.toml").write_text(EXAMPLE.read_text().replace("watchdog = 5", "watchdog = 0"))
     status, told, _ = gatepast("plant", tmp_path / "plant.toml", "-", "--chart", page, text=SCRIPT)
-    assert status == 3 and told.startswith("config Range connection 1 watchdog\nline 9 is: watchdog = 0\n")
+    assert status == 3 and told.startswith("line 9 is: watchdog = 0\nconfig Range connection 1 watchdog\n")
+    for words in (["--rates", 0, 0, 0, 0], ["--seeds", 3, 5], []):
+        put = "fsoe 1 plant\nt\np 1 0z00\nend"
+        (tmp_path / "bound.toml").write_text(EXAMPLE.read_text() + BOUND)
+        status, told, why = gatepast("plant", tmp_path / "bound.toml", "-", *words, text=put)
+        assert (status, why) == (4, "") and "line 3 of the script is: p 1 0z00\nrefused 3 Hex\n" in told
+    assert "name its file, or - for standard input" in gatepast("plant", EXAMPLE)[2]
+    for words in (["none.toml"], ["none.toml", "none.script"]):
+        assert gatepast("plant", *words) == (2, "", "gatepast: none.toml can't be read: No such file or directory\n")
     nowhere = tmp_path / "no" / "a.html"
     for words in (["--seeds", 4, 3], ["--seeds", 0, 10_000], ["--chart", nowhere], ["--lab", tmp_path]):
         status, told, why = gatepast("plant", EXAMPLE, "-", *words, text=SCRIPT)
@@ -297,7 +321,9 @@ def test_seeds_with_an_other_entry_are_told(tmp_path):
     (tmp_path / "plant.toml").write_text(HOSTILE)
     for first in (46, 47):
         script = "fsoe 1 plant\np 1 0500\np 2 0100\nt 60\nend"
-        status, told, _ = gatepast("plant", tmp_path / "plant.toml", "-", "--seeds", first, 47, text=script)
+        words = ["--seeds", first, 47, "--chart", tmp_path / "a.html"]
+        status, told, _ = gatepast("plant", tmp_path / "plant.toml", "-", *words, text=script)
+        assert '"others":1}' in (tmp_path / "a.html").read_text()
         assert status == 1 and f"\nseeds {first} to 47: 1 with an other entry, the first 47\n" in told
     assert re.search(r"^other (\d): .*\n  tick [1-9]\d*: in connection \1 a frame passed", told, re.M)
 
@@ -310,7 +336,75 @@ def test_presses_are_seen():
     assert [(press.tick, press.off) for press in presses(bound, script, [on, on, on, on])] == [(1, None), (3, None)]
 
 
+def data_of(tmp_path, script, text=EXAMPLE.read_text() + BOUND):
+    """The data of the page of a run."""
+    said(tmp_path, script, text, "--chart", tmp_path / "a.html")
+    return json.loads(re.search(r'type="application/json">(.*)</script>', (tmp_path / "a.html").read_text())[1])
+
+
+@WITH_LAB
+@pytest.mark.parametrize(
+    "lines, when",
+    (("z 2\nt", "after tick 6: its slave was reset, line 9: z 2"), ("h 1 1\nt", "in tick 7: the slave of connection")),
+)
+def test_the_page_says_first_when_a_drive_went_off(tmp_path, lines, when):
+    assert data_of(tmp_path, f"{ON}{lines}\nend")["first"][0].startswith(f"Drive o2.0 went off {when}")
+
+
+@WITH_LAB
+def test_the_proved_limit_is_told_where_its_premises_hold(tmp_path):
+    text = EXAMPLE.read_text() + BOUND
+    unlike = text.replace("watchdog = 5", "watchdog = 9", 1)
+    for plant, script, limits in (
+        (text, f"{ON}end", (17, 20)),
+        (unlike, f"{ON}end", (25, 28)),
+        (text.replace('estop = "i1.0"', 'estop = "i1.1"'), f"{ON}end", (None, 20)),
+        (text, f"{ON}app zeros\nend", (None, 20)),
+    ):
+        (bound,) = data_of(tmp_path, script, plant)["bounds"]
+        assert (bound["proved"], bound["limit"]) == limits
+    readme = (TOP / "README.md").read_text()
+    assert "2·5 + 2·5 − 3" in readme and "2·5 + 2·5 = 20" in readme
+    (tmp_path / "plant.toml").write_text(HOSTILE.replace("seed = 1", "seed = 47"))
+    words = [tmp_path / "plant.toml", "-", "--chart", tmp_path / "a.html"]
+    assert gatepast("plant", *words, text="fsoe 1 plant\np 1 0500\np 2 0100\nt 60\nend")[0] == 1
+    assert '"limit":20,"proved":null' in (tmp_path / "a.html").read_text()
+
+
 BROWSER = next(filter(None, map(shutil.which, check_named("page").BROWSERS)), None)
+
+
+def words_in(page, place):
+    """The text of the first element of a page that a selector finds."""
+    return page.value(f"document.querySelector('{place}').textContent")
+
+
+def looks_at_the_bound(page):
+    """Limits, lines and arrow of a drive that is off in tick 8, after a press before tick 4."""
+    assert words_in(page, ".bound .count") == "after 5; proved: 17, report: 20"
+    assert "off 17 ticks after the press at the latest" in words_in(page, "#bounds")
+    assert page.value("document.querySelectorAll('#lines svg').length") == 5
+    assert words_in(page, "#seeds").endswith("proved: 17, report: 20")
+    page.value("data.others = 1; drawSeeds()")
+    assert words_in(page, "#seeds").endswith("limit 20")
+    assert words_in(page, "#window") == "The chart shows all 28 ticks"
+    page.value("press('Home'); for (let closer = 0; closer < 9; closer++) press('+')")
+    assert re.fullmatch("The chart shows ticks 1 to [2-6] of 28: .*", words_in(page, "#window"))
+    page.value("go(5)")
+    tip = page.value("Number(document.querySelector('#chart .arrow').getAttribute('x2'))")
+    assert tip > page.value("x(7)") > page.value("width()")
+    assert "#edges" in page.value("getComputedStyle(document.querySelector('#chart .arrow')).clipPath")
+    page.value("for (let wider = 0; wider < 9; wider++) press('-'); press('Home')")
+
+
+def looks_at_labels(page):
+    """What isn't text has a label."""
+    unnamed = ":not([aria-label]):not([aria-labelledby])"
+    pictures = f"svg[role=img]{unnamed}, svg:not([role]):not([aria-hidden])"
+    assert page.value("document.querySelectorAll('svg[role=img]').length") == 2
+    assert page.value(f"document.querySelectorAll('{pictures}').length") == 0
+    named = "every((part) => /[a-z]/.test(part.textContent))"
+    assert page.value(f"[...document.querySelectorAll('button{unnamed}')].{named}")
 
 
 @WITH_LAB
@@ -318,11 +412,16 @@ BROWSER = next(filter(None, map(shutil.which, check_named("page").BROWSERS)), No
 def test_the_chart_shows_what_happened(tmp_path):
     script = SCRIPT.replace("end", "p 1 0500\ncut 1 0\nt 20\nend")
     said(tmp_path, script, HOSTILE.replace("hostile", "perfect"), "--chart", tmp_path / "a.html", "--seeds", "1", "3")
+    other = "fsoe 1 plant\nt 4\n# all\nx 1\nend\n"
+    words = ["--seeds", 3, 5, "--chart", tmp_path / "b.html"]
+    assert gatepast("plant", EXAMPLE, "-", *words, text=other)[0] == 4
     page = check_named("page").Browser(BROWSER, tmp_path / "profile")
     page.opened((tmp_path / "a.html").as_uri())
     page.look(1200, 900, "dark")
+    looks_at_the_bound(page)
+    looks_at_labels(page)
     why = "connection 1 is down: its master was reset, watchdog expired (line 10: cut 1 1)"
-    assert page.value("document.querySelector('h1').textContent") == f"Drive o2.0 went off in tick 8: {why}"
+    assert words_in(page, "h1") == f"Drive o2.0 went off in tick 8: {why}"
     lanes = page.value("[...document.querySelectorAll('.lane')].map((lane) => lane.dataset.name)")
     assert lanes == ["1 master", "1 slave", "2 master", "2 slave"]
     page.value(
@@ -333,10 +432,18 @@ def test_the_chart_shows_what_happened(tmp_path):
     told = page.value("[...document.querySelectorAll('#told p')].map((line) => line.textContent)")
     assert told[0] == "Tick 1" and told[-1].startswith("1 master: sent a frame, took Reset, took Session")
     page.value("dispatchEvent(new KeyboardEvent('keydown', { key: 'n' }))")
-    assert page.value("document.querySelector('#told p').textContent") == "Tick 3"
+    assert words_in(page, "#told p") == "Tick 3"
     for width in (360, 1600):
         page.look(width, 900, "light")
         assert page.value("document.scrollingElement.scrollWidth") <= width
+    page.opened((tmp_path / "b.html").as_uri())
+    assert page.value("[...document.querySelectorAll('h1 div')].map((line) => line.textContent)") == [
+        "The script was refused: line 4 of the script is: x 1; no event begins with this word",
+        "All else is of what ran before that line",
+        "No drive was on",
+    ]
+    assert words_in(page, "li.refused") == "x 1" and words_in(page, "#window") == "The chart shows all 4 ticks"
+    assert words_in(page, "#seeds-head") == ""
     complaints = page.complaints
     page.end()
     assert complaints == []

@@ -36,7 +36,7 @@ def said_of(report, lengths="2 2", change=lambda frames: frames):
 @given(strategies.lists(strategies.tuples(strategies.sampled_from("ms"), strategies.binary(min_size=1, max_size=255))))
 def test_captures_have_the_frames_of_a_report(frames):
     report = "".join(
-        f"{number} {number % 16} {end} took Reset Reset 00 > {frame.hex()}\n"
+        f"{number} {number % 16 + 1} {end} took Reset Reset 00 > {frame.hex()}\n"
         for number, (end, frame) in enumerate(frames, 1)
     )
     records = list(packets(report, 51000))
@@ -47,7 +47,7 @@ def test_captures_have_the_frames_of_a_report(frames):
         assert (seconds * 1000 + microseconds // 1000, length, whole) == (number, len(record) - 16, len(record) - 16)
         assert checksum(header) == 0 and struct.unpack(">H", header[2:4]) == (length,)
         hosts = (1, 2) if end == "m" else (2, 1)
-        assert header[12:20] == bytes(part for host in hosts for part in (10, 0, number % 16, host))
+        assert header[12:20] == bytes(part for host in hosts for part in (10, 0, number % 16 + 1, host))
         ports = [50999 + host for host in hosts]
         assert struct.unpack(">HHHH", udp[:8]) == (*ports, len(udp), 0) and udp[8:] == frame
 
@@ -59,6 +59,26 @@ def test_a_report_without_frames_leaves_no_file(tmp_path):
         status, said, why = gatepast("pcap", "-", "--into", into, text="1 m again Reset 00 > 2a\n")
         assert (status, said) == (2, "") and "can't be written" in why
         assert not [*tmp_path.iterdir(), *tmp_path.parent.glob("*.part")]
+
+
+@pytest.mark.parametrize("line", ("5 999 m took", "5 0 m took", "5 17 s took"))
+def test_a_line_that_replay_never_writes_is_refused(tmp_path, line):
+    for frame in ("2a00", "2a0", "2a" * 65_508):
+        text = f"1 m again Reset 0000 > 2a\n{line} > {frame}\n"
+        status, said, why = gatepast("pcap", "-", "--into", tmp_path / "a.pcap", text=text)
+        assert (status, said) == (2, "") and why.startswith(f"gatepast: replay writes no line '{line}")
+        text, is_right = text.replace(line, "5 16 m took"), frame == "2a00"
+        status, said, why = gatepast("pcap", "-", "--into", tmp_path / "a.pcap", text=text)
+        assert (status, said) == ((0, "2 frames\n") if is_right else (2, "")) and why.count("\n") == (not is_right)
+
+
+def test_a_port_leaves_room_for_the_next_one(tmp_path):
+    for port in ("0", "65535", "99999", "-1", "x"):
+        for words in (["pcap", "-", "--into", tmp_path / "a.pcap"], ["trace", tmp_path / "a.pcap", "--lengths", 2, 2]):
+            status, said, why = gatepast(*words, "--port", port, text="1 m again Reset 0000 > 2a\n")
+            assert (status, said) == (2, "") and "Traceback" not in why and "65534" in why
+    words = ["pcap", "-", "--into", tmp_path / "a.pcap", "--port", "65534"]
+    assert gatepast(*words, text="1 m again Reset 0000 > 2a\n") == (0, "1 frames\n", "")
 
 
 def test_the_dissector_has_the_words_of_the_page():
@@ -136,7 +156,28 @@ def test_what_differs_is_told_by_the_number_in_the_recording(tmp_path):
         "conversation 0 part 1, frames 1 to 19: differs in frame 19, Crc 0",
         "conversation 0 part 2, frames 20 to 20: not judged: the slave ended a session",
     ]
+    for line in ("true", "echo other none"):
+        (tmp_path / "program").write_text(f"#!/bin/sh\n{line}\n")
+        (tmp_path / "program").chmod(0o700)
+        said, why = gatepast("--program", tmp_path / "program", "trace", tmp_path / "a.pcap", "--lengths", 2, 2)[1:]
+        assert "conforms" not in said and "Traceback" not in why
     assert (tmp_path / "0-1.trace").read_text().startswith("fsoe 1 trace\nlengths 2 2\ngo\nm 2a0000")
     assert gatepast("trace", tmp_path / "a.pcap", "--lengths", 2, 3)[:2] == (2, "")
     status, said, why = gatepast("trace", COMPANION / "gatepast.lua", "--lengths", 2, 2)
     assert (status, said) == (2, "") and why.startswith("gatepast: tshark")
+
+
+@WITH_TSHARK
+def test_a_datagram_that_icmp_quotes_is_left_out(tmp_path):
+    report = report_of(["ds -1", "dm -1"] * 9)
+    records = list(packets(report, 51000))
+    packet = records[3][16:]  # the answer says that it can't be delivered
+    message = struct.pack(">BBHI", 3, 3, 0, 0) + packet
+    message = message[:2] + struct.pack(">H", checksum(message + b"\0" * (len(message) % 2))) + message[4:]
+    start = struct.pack(">BBHHHBB", 0x45, 0, 20 + len(message), 0, 0, 64, 1)
+    header = start + struct.pack(">H", checksum(start + bytes(2) + packet[16:20] + packet[12:16]))
+    quoting = header + packet[16:20] + packet[12:16] + message
+    record = struct.pack("<IIII", 0, 4500, len(quoting), len(quoting)) + quoting
+    (tmp_path / "a.pcap").write_bytes(PCAP + b"".join([*records[:4], record, *records[4:]]))
+    told = f"conversation 0 part 1, frames 1 to {len(records) + 1}: conforms, read 1 2 100 0\n"
+    assert gatepast("trace", tmp_path / "a.pcap", "--lengths", 2, 2) == (0, told, "")
