@@ -59,8 +59,8 @@
  *     A controller lies in a gp_controller_memory, and what it has for its connections and blocks in a region that the
  *     program hands in: an array of gp_unit. open takes room there for as many as `most` says, and block for a
  *     block's inputs; connect, block and drive take more if there are more than that. If there is no room, they answer
- *     GP_NO_MEMORY, and may have used up some of it. Nothing is given back before end. GP_REGION_UNITS is tried to be
- *     enough.
+ *     GP_NO_MEMORY, and may have used up some of it. Nothing is given back before end. start closes the region:
+ *     from then on no call gets more of it. GP_REGION_UNITS is tried to be enough.
  *
  * Answers
  *     Each call returns a number of enum gp_answer or enum gp_controller_answer, except gp_.._version, gp_.._size and

@@ -279,6 +279,18 @@ static void no_memory(void) {
     }
 }
 
+/* A start closes the region: a controller whose memory is made what it was before gets nothing more from there. */
+static void closed_region(void) {
+    static const gp_most nothing = {0, 0, 0};
+    ANSWERS(GP_OK, gp_controller_open(&controller, region, sizeof region, &nothing));
+    before = memory;
+    ANSWERS(GP_OK, gp_controller_start(&controller, &fault));
+    memory = before;
+    for (int which = 0; which < 3; which++)
+        MUST(call_that_allocates(which) == GP_NO_MEMORY && nothing_was_written());
+    ANSWERS(GP_OK, gp_controller_end(&controller));
+}
+
 /* One connection, whose output bit 15 is its input bit 0 unless a block says no. */
 static void started(void) {
     opened();
@@ -411,6 +423,7 @@ int main(void) {
     bad_nets();
     region_that_is_enough();
     no_memory();
+    closed_region();
     while_it_runs();
     steps();
     printf("%u answers as they are to be\n", tried);

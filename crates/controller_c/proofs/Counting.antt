@@ -5,7 +5,7 @@ use Rattle.std.proofs.lemmas.Grind.{common_steps}
 use Rattle.std.proofs.lemmas.List.Sums.{sum_by-cons}
 use Rattle.std.proofs.lemmas.List.{get_or-set_same, get_or-set_other}
 use Rattle.fsoe_base.specs.declared.did.Did.{Did}
-use Rattle.controller_c.specs.Counts.{AreTallies, CountsStep, RaisesAt, begins_session, dropped_place, found_place, is_local, is_place, peer_place, raised, tally}
+use Rattle.controller_c.specs.Counts.{AreTallies, CountsStep, RaisesAt, dropped_place, found_place, is_local, is_place, peer_place, raised, tally, took_reset}
 use Rattle.controller_c.specs.declared.counts.GpCounts.{GpCounts}
 
 capped : (b : Bool) (n m : ℕ) → m ≡ cond b 1 0 + n → min m 4294967295 ≡ raised b (min n 4294967295)
@@ -35,11 +35,11 @@ tallies_more place_of d done old new r are = record {
 }
 
 -- the counts, each of which is raised where the step says so
-pub counts_step : (old new : GpCounts) (d : Did) → new.sessions ≡ raised (begins_session d.took) old.sessions → new.local ≡ raised (is_local d.reset) old.local
+pub counts_step : (old new : GpCounts) (d : Did) → new.sessions ≡ raised (took_reset d.took) old.sessions → new.local ≡ raised (is_local d.reset) old.local
     → RaisesAt (peer_place d.reset) old.peer new.peer → RaisesAt (found_place d.reset) old.found new.found → RaisesAt (dropped_place d.dropped) old.dropped new.dropped → CountsStep old d new
 counts_step old new d sessions local peer found dropped = record {
   stands = λ done h. record {
-    sessions = sessions ∙ ap (raised (begins_session d.took)) h.sessions ∙ sym (tally_more (λ (x : Did). begins_session x.took) d done);
+    sessions = sessions ∙ ap (raised (took_reset d.took)) h.sessions ∙ sym (tally_more (λ (x : Did). took_reset x.took) d done);
     local = local ∙ ap (raised (is_local d.reset)) h.local ∙ sym (tally_more (λ (x : Did). is_local x.reset) d done);
     peer = tallies_more (λ x. peer_place x.reset) d done old.peer new.peer peer h.peer;
     found = tallies_more (λ x. found_place x.reset) d done old.found new.found found h.found;

@@ -9,9 +9,9 @@ use Rattle.multi_master.specs.Standing.{links, settings_at}
 use Rattle.controller_c.specs.ControllerView.{ControllerView, input_lens, output_lens}
 use Rattle.controller_c.specs.declared.numbers.TheConstants.{NOT_RUNNING, NO_BLOCK, NO_CONNECTION, NO_INPUT, NO_OUTPUT}
 
--- whether this is one of so many numbers, which begin with 1
-abbrev pub is_number : ℕ → ℕ → Bool
-is_number count number = nat_le 1 number && nat_le number count
+-- whether one of so many has this number: they are numbered from 1
+abbrev pub has_number : ℕ → ℕ → Bool
+has_number count number = nat_le 1 number && nat_le number count
 
 -- the answer of a call that wants a controller that runs
 abbrev pub if_running : ControllerView → ℕ → ℕ
@@ -19,7 +19,7 @@ if_running old answer = if old.running then answer else NOT_RUNNING
 
 -- the answer of a call of one connection
 abbrev pub if_connected : ControllerView → ℕ → ℕ → ℕ
-if_connected old connection answer = if is_number (links old.multi) connection then answer else NO_CONNECTION
+if_connected old connection answer = if has_number (links old.multi) connection then answer else NO_CONNECTION
 
 -- the answer of a call of one connection of a controller that runs
 abbrev pub if_stepping : ControllerView → ℕ → ℕ → ℕ
@@ -27,7 +27,7 @@ if_stepping old connection answer = if_running old (if_connected old connection 
 
 -- the answer of a call about a block of the net that runs
 abbrev pub if_block : ControllerView → ℕ → ℕ → ℕ
-if_block old block answer = if is_number (length old.multi.app.blocks) block then answer else NO_BLOCK
+if_block old block answer = if has_number (length old.multi.app.blocks) block then answer else NO_BLOCK
 
 -- the answer of a call about an output bit and an input bit
 abbrev pub if_bits : ControllerView → (output input : Bit) → ℕ → ℕ

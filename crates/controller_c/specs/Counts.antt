@@ -19,10 +19,10 @@ raised false n = n
 abbrev pub tally : (Did → Bool) → List Did → ℕ
 tally test done = min (count_by test done) 4294967295
 
--- a master begins a session where it takes a Reset frame
-abbrev pub begins_session : Option Took → Bool
-begins_session None = false
-begins_session (Some took) = is_reset took.command
+-- whether a Reset frame was taken: there a master begins a session
+abbrev pub took_reset : Option Took → Bool
+took_reset None = false
+took_reset (Some took) = is_reset took.command
 
 abbrev pub is_local : Option Cause → Bool
 is_local (Some reset_cause.Local) = true
@@ -60,7 +60,7 @@ pub record AreTallies (place_of : Did → Option ℕ) (numbers : List ℕ) (done
 
 -- the counts stand for these steps
 pub record CountsStand (counts : GpCounts) (done : List Did) : Type 0 where
-  pub sessions : counts.sessions ≡ tally (λ d. begins_session d.took) done
+  pub sessions : counts.sessions ≡ tally (λ d. took_reset d.took) done
   pub local : counts.local ≡ tally (λ d. is_local d.reset) done
   pub peer : AreTallies (λ d. peer_place d.reset) counts.peer done
   pub found : AreTallies (λ d. found_place d.reset) counts.found done

@@ -10,8 +10,8 @@ use Rattle.controller_c.specs.declared.wire.GpFault.{GpFault}
 use Rattle.controller_c.specs.declared.wire.GpWire.{GpWire}
 
 -- the bit that is named
-abbrev pub bit_of : GpBit → Bit
-bit_of b = record { link = b.connection; bit = b.bit }
+abbrev pub named_bit : GpBit → Bit
+named_bit b = record { link = b.connection; bit = b.bit }
 
 -- the wire that is named
 abbrev pub wire_of : GpWire → Wire

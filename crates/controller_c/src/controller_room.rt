@@ -63,17 +63,34 @@ impl ControllerRoom {
     {
         let net = Net::of_faultless(Vec::new(region), Vec::new(region));
         let connections = usize::from(most.connections);
+        let (Ok(multi), Ok(blocks), Ok(drives), Ok(dids), Ok(frames), Ok(counts)) = (
+            MultiMaster::within(region, connections, net),
+            Vec::with_capacity(region, usize::from(most.blocks)),
+            Vec::with_capacity(region, usize::from(most.drives)),
+            Vec::with_capacity(region, connections),
+            Vec::with_capacity(region, connections),
+            Vec::with_capacity(region, connections),
+        ) else {
+            return Err(AllocError);
+        };
         Ok(ControllerRoom {
-            multi: MultiMaster::within(region, connections, net)?,
-            blocks: Vec::with_capacity(region, usize::from(most.blocks))?,
-            drives: Vec::with_capacity(region, usize::from(most.drives))?,
+            multi,
+            blocks,
+            drives,
             running: false,
-            dids: Vec::with_capacity(region, connections)?,
-            frames: Vec::with_capacity(region, connections)?,
-            counts: Vec::with_capacity(region, connections)?,
+            dids,
+            frames,
+            counts,
             heard: Did::nothing(),
             sent: FrameBuf::new(),
         })
+    }
+
+    /// The masters.
+    pub(crate) fn multi(&self) -> &MultiMaster<Net<InRegion>, InRegion>
+        ensures { result.now ≡ self.now.multi }
+    {
+        &self.multi
     }
 
     /// Adds a connection with these settings, the last one. After a refusal nothing is changed.
@@ -100,8 +117,8 @@ impl ControllerRoom {
         Ok(())
     }
 
-    /// Puts the blocks and drives that were given into a net, which runs from now on, and runs its first cycle. Doesn't
-    /// allocate.
+    /// Puts the blocks and drives that were given into a net, which runs from now on, and runs its first cycle. The region
+    /// is closed: nothing allocates any more.
     pub(crate) fn start(&mut self)
         requires idle { self.old.running ≡ false }
         requires faultless { IsNewNet (given_net self.old) }
@@ -112,5 +129,6 @@ impl ControllerRoom {
         let drives = mem::replace(&mut self.drives, Vec::new(alloc));
         self.multi.change_app(Net::of_faultless(blocks, drives));
         self.running = true;
+        alloc.close();
     }
 }

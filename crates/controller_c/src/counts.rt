@@ -1,6 +1,6 @@
 //! How often a connection was reset, dropped frames and began sessions.
 ghost use Rattle.std.specs.Prelude.{◌≡◌, ◌<◌, [], length, IfSome};
-ghost use Rattle.controller_c.specs.Counts.{CountsEach, CountsStand, CountsStep, RaisesAt, begins_session, code_place, dropped_place, found_place, is_local, peer_place, raised};
+ghost use Rattle.controller_c.specs.Counts.{CountsEach, CountsStand, CountsStep, RaisesAt, code_place, dropped_place, found_place, is_local, peer_place, raised, took_reset};
 
 use fsoe_base::{Cause, Code, Command, Did, Dropped, Took};
 
@@ -43,9 +43,9 @@ fn raise_at(numbers: &mut [u32], place: Option<usize>)
     }
 }
 
-/// Whether a session began.
-fn begins_session(took: &Option<Took>) -> bool
-    ensures { result ≡ begins_session took.now }
+/// Whether a Reset frame was taken, with which a session begins.
+fn took_reset(took: &Option<Took>) -> bool
+    ensures { result ≡ took_reset took.now }
 {
     match took {
         Some(took) => matches!(took.command, Command::Reset),
@@ -113,7 +113,7 @@ impl GpCounts {
     pub fn add(&mut self, did: &Did)
         ensures { CountsStep self.old did.now self.new }
     {
-        raise(&mut self.sessions, begins_session(&did.took));
+        raise(&mut self.sessions, took_reset(&did.took));
         raise(&mut self.local, matches!(did.reset, Some(Cause::Local)));
         raise_at(&mut self.peer, peer_place(did.reset));
         raise_at(&mut self.found, found_place(did.reset));

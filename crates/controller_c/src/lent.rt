@@ -54,12 +54,12 @@ pub(crate) use lent;
 pub(crate) use running;
 
 impl ControllerRoom {
-    ghost use Rattle.controller_c.specs.Answers.{is_number};
+    ghost use Rattle.controller_c.specs.Answers.{has_number};
     ghost use Rattle.multi_master.specs.Standing.{HasLink, links};
 
     /// Whether there is a connection with this number.
     pub(crate) fn has(&self, connection: u16) -> bool
-        ensures told { result ≡ is_number (links self.now.multi) connection }
+        ensures told { result ≡ has_number (links self.now.multi) connection }
         ensures link { result ≡ true → HasLink self.now.multi connection }
     {
         connection >= 1 && connection <= self.multi.links()

@@ -4,7 +4,7 @@ ghost use Rattle.std.specs.Prelude.{◌≡◌, ◌≢◌, ◌<◌, ◌++◌, ◌
 ghost use Rattle.c_values.specs.Place.{Between};
 ghost use Rattle.controller_c.specs.Handle.{IsSoundController, answer_by};
 ghost use Rattle.controller_c.specs.Making.{AddsBlock, ConnectsBy, block_answer, connect_answer, connection_number, drive_answer, kind_number};
-ghost use Rattle.controller_c.specs.Wire.{bit_of, wire_of};
+ghost use Rattle.controller_c.specs.Wire.{named_bit, wire_of};
 
 use crate::controller::GpController;
 use crate::lent::{idle, lent};
@@ -141,7 +141,7 @@ pub extern "C" fn gp_controller_drive(
     ensures place { controller.new.place.at ≡ controller.old.place.at }
     ensures answer { result ≢ NO_MEMORY → result ≡ answer_by controller.old.place.controller drive_answer }
     ensures memory_alone { result ≡ NO_MEMORY → answer_by controller.old.place.controller drive_answer ≡ OK }
-    ensures adds { result ≡ OK → Between controller.old.place.controller controller.new.place.controller (λ old new. new ≡ record old { drives = old.drives ++ record { out = bit_of output.now; from = wire_of from.now } ∷ [] }) }
+    ensures adds { result ≡ OK → Between controller.old.place.controller controller.new.place.controller (λ old new. new ≡ record old { drives = old.drives ++ record { out = named_bit output.now; from = wire_of from.now } ∷ [] }) }
     ensures refused { result ≢ OK → controller.new ≡ controller.old }
 {
     let room = idle!(controller);

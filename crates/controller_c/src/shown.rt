@@ -11,7 +11,7 @@ ghost use Rattle.c_values.specs.Place.{IfThere};
 ghost use Rattle.controller_c.specs.Answers.{if_bits, if_block, if_connected, if_running, if_set, if_stepping};
 ghost use Rattle.controller_c.specs.ControllerView.{masters_of};
 ghost use Rattle.controller_c.specs.Handle.{IsSoundController, answer_by};
-ghost use Rattle.controller_c.specs.Wire.{bit_of};
+ghost use Rattle.controller_c.specs.Wire.{named_bit};
 ghost use Rattle.controller_c.specs.Shown.{ShowsChangedAt, ShowsFlag, ShowsTermsAt};
 
 use crate::controller::GpController;
@@ -35,7 +35,7 @@ pub extern "C" fn gp_controller_connections(controller: &mut GpController, count
     ensures refused { result ≢ OK → count.new ≡ count.old }
 {
     let room = lent!(controller);
-    *count = room.multi.links();
+    *count = room.multi().links();
     OK
 }
 
@@ -54,7 +54,7 @@ pub extern "C" fn gp_controller_state(
     ensures refused { result ≢ OK → state.new ≡ state.old }
 {
     let room = connected!(lent!(controller), connection);
-    *state = state_number(room.multi.state(connection));
+    *state = state_number(room.multi().state(connection));
     OK
 }
 
@@ -73,7 +73,7 @@ pub extern "C" fn gp_controller_age(
     ensures refused { result ≢ OK → age.new ≡ age.old }
 {
     let room = connected!(lent!(controller), connection);
-    *age = room.multi.age(connection);
+    *age = room.multi().age(connection);
     OK
 }
 
@@ -92,7 +92,7 @@ pub extern "C" fn gp_controller_held(
     ensures refused { result ≢ OK → held.new ≡ held.old }
 {
     let room = connected!(lent!(controller), connection);
-    *held = flag(room.multi.held(connection));
+    *held = flag(room.multi().held(connection));
     OK
 }
 
@@ -112,7 +112,7 @@ pub extern "C" fn gp_controller_inputs(
     ensures refused { result ≢ OK → inputs.new ≡ inputs.old }
 {
     let room = connected!(lent!(controller), connection);
-    if !copied(room.multi.outputs(connection), inputs) {
+    if !copied(room.multi().outputs(connection), inputs) {
         return BAD_LENGTH;
     }
     OK
@@ -134,7 +134,7 @@ pub extern "C" fn gp_controller_offer(
     ensures refused { result ≢ OK → offer.new ≡ offer.old }
 {
     let room = connected!(lent!(controller), connection);
-    if !copied(room.multi.offer(connection), offer) {
+    if !copied(room.multi().offer(connection), offer) {
         return BAD_LENGTH;
     }
     OK
@@ -157,7 +157,7 @@ pub extern "C" fn gp_controller_terms(
     ensures refused { result ≢ OK → terms.new ≡ terms.old }
 {
     let room = connected!(lent!(controller), connection);
-    if !tells(room.multi.terms(connection), terms) {
+    if !tells(room.multi().terms(connection), terms) {
         return NOT_IN_DATA;
     }
     OK
@@ -178,7 +178,7 @@ pub extern "C" fn gp_controller_changed(
     ensures refused { result ≢ OK → changed.new ≡ changed.old }
 {
     let room = connected!(lent!(controller), connection);
-    *changed = flag(room.multi.changed().contains(&connection));
+    *changed = flag(room.multi().changed().contains(&connection));
     OK
 }
 
@@ -198,7 +198,7 @@ pub extern "C" fn gp_controller_value(
     ensures refused { result ≢ OK → value.new ≡ value.old }
 {
     let room = running!(controller);
-    let net = room.multi.app();
+    let net = room.multi().app();
     if block == 0 || block > net.blocks() {
         return NO_BLOCK;
     }
@@ -218,20 +218,20 @@ pub extern "C" fn gp_controller_guards(
 ) -> u8
     requires { IsSoundController controller.old }
     ensures unchanged { controller.new ≡ controller.old }
-    ensures answer { result ≡ answer_by controller.old.place.controller (λ old. if_stepping old output.now.connection (if_connected old input.now.connection (if_bits old (bit_of output.now) (bit_of input.now) OK))) }
-    ensures shown { result ≡ OK → IfThere controller.old.place.controller (λ old. ShowsFlag guards.new (λ told. ShowsApp (masters_of old.multi) told (λ app. app.guards (bit_of output.now) (bit_of input.now)))) }
+    ensures answer { result ≡ answer_by controller.old.place.controller (λ old. if_stepping old output.now.connection (if_connected old input.now.connection (if_bits old (named_bit output.now) (named_bit input.now) OK))) }
+    ensures shown { result ≡ OK → IfThere controller.old.place.controller (λ old. ShowsFlag guards.new (λ told. ShowsApp (masters_of old.multi) told (λ app. app.guards (named_bit output.now) (named_bit input.now)))) }
     ensures refused { result ≢ OK → guards.new ≡ guards.old }
 {
     let room = connected!(running!(controller), output.connection);
     let room = connected!(room, input.connection);
-    let lengths = data_lengths(&room.multi);
+    let lengths = data_lengths(room.multi());
     if !has_bit(lengths.outputs.as_slice(), output.named()) {
         return NO_OUTPUT;
     }
     if !has_bit(lengths.inputs.as_slice(), input.named()) {
         return NO_INPUT;
     }
-    *guards = flag(room.multi.guards(output.named(), input.named()));
+    *guards = flag(room.multi().guards(output.named(), input.named()));
     OK
 }
 

@@ -60,7 +60,7 @@ pub(crate) fn data_lengths(multi: &MultiMaster<Net<InRegion>, InRegion>) -> Data
 }
 
 /// Starts the controller: its blocks and drives become the net that runs, which has its first cycle. If the net has a
-/// fault, the number of the first one is returned, and `fault` says where it is. Allocates nothing.
+/// fault, the number of the first one is returned, and `fault` says where it is. Allocates nothing, and closes the region.
 #[unsafe(no_mangle)]
 #[tactic(auto, using(c_values::proofs::Places::vacuous, crate::proofs::Places::guards))]
 pub extern "C" fn gp_controller_start(controller: &mut GpController, fault: &mut GpFault) -> u8

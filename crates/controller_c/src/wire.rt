@@ -35,11 +35,11 @@ pub struct GpFault {
 }
 
 impl GpBit {
-    ghost use Rattle.controller_c.specs.Wire.{bit_of};
+    ghost use Rattle.controller_c.specs.Wire.{named_bit};
 
     /// The bit that is named.
     pub(crate) fn named(&self) -> Bit
-        ensures { result ≡ bit_of self.now }
+        ensures { result ≡ named_bit self.now }
     {
         Bit {
             link: self.connection,

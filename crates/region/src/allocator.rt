@@ -13,7 +13,7 @@ const UNIT: usize = 16;
 /// The bytes that a region takes of its own memory, where it lies.
 const PLACE: usize = 32;
 
-/// The bytes that are free, and how many they are.
+/// The bytes that are free, and how many they are. A closed region has none.
 #[derive(Drop)]
 struct Free {
     memory: Memory,
@@ -22,7 +22,7 @@ struct Free {
 }
 
 /// An allocator over memory of the program's. Collections hold it, or a `&` to it. It gives blocks from the start of its
-/// memory to the end, each of whole units of 16 bytes, and never takes one back.
+/// memory to the end, each of whole units of 16 bytes, and never takes one back. Once it is closed, it gives none.
 #[derive(Drop)]
 pub struct Region {
     free: Cell<Option<Free>>,
@@ -51,6 +51,11 @@ impl Region {
             Ok(place) => Ok(Box::leak(place)),
             Err(_) => Err(AllocError),
         }
+    }
+
+    /// Refuses each request from now on. What was given stays. No contract sees what lies in a cell: this is tried.
+    pub fn close(&self) {
+        self.free.set(None);
     }
 
     /// Takes the next `size` bytes off, rounded up to whole units, if so many are left.
