@@ -5,15 +5,18 @@
  *     static gp_controller_memory memory;
  *     static gp_unit region[GP_REGION_UNITS(CONNECTIONS, BLOCKS, DRIVES)];
  *     static gp_controller controller = GP_CONTROLLER_IN(&memory);
+ *     static const gp_most most = {CONNECTIONS, BLOCKS, DRIVES};
  *     static gp_frame out, last[CONNECTIONS + 1];
  *     static gp_did did;
  *     static gp_fault fault;
  *
  *     void make(void) {
+ *         uint16_t number = 0;
+ *         uint8_t guards = 0;
  *         if (gp_controller_version() != GP_CONTROLLER_VERSION) fail();
  *         if (gp_controller_open(&controller, region, sizeof region, &most) != GP_OK) fail();
- *         if (gp_controller_connect(&controller, &settings, app, app_len, &connection) != GP_OK) fail();     (each)
- *         if (gp_controller_block(&controller, kind, n, inputs, inputs_len, &block) != GP_OK) fail();        (each)
+ *         if (gp_controller_connect(&controller, &settings, app, app_len, &number) != GP_OK) fail();         (each)
+ *         if (gp_controller_block(&controller, kind, n, inputs, inputs_len, &number) != GP_OK) fail();       (each)
  *         if (gp_controller_drive(&controller, &output, &from) != GP_OK) fail();                             (each)
  *         if (gp_controller_start(&controller, &fault) != GP_OK) fail();
  *         if (gp_controller_guards(&controller, &output, &stop, &guards) != GP_OK || !guards) fail();        (each)
@@ -33,18 +36,20 @@
  *                 follow(c);
  *             }
  *         }
- *         if (a frame of connection c came) {
- *             if (gp_controller_deliver(&controller, c, frame, frame_len, &out, &did) != GP_OK) fail();
- *             follow(c);
+ *         if (a frame of connection k came) {
+ *             if (gp_controller_deliver(&controller, k, frame, frame_len, &out, &did) != GP_OK) fail();
+ *             follow(k);
  *         }
  *         for each connection c to which nothing was sent for 3 milliseconds: if (last[c].len != 0) send(c, last[c]);
  *     }
  *
- * A program that was late counts all ticks before it delivers what waited. fail() resets each connection, sends the
- * frames that this gives, and ends; gp_controller_hold keeps a connection at zeros without a reset. guards says that
- * the output is 0 whenever the input is: ask for each output that moves something and each stop that has to stop it,
- * and don't run if one answers 0. Whole programs are examples/estop.c and udp_estop.c. What gatepast.h says of frames,
- * of ids and of resets holds for each connection, but did.used is always 0: nothing shows here that an id comes again.
+ * Yours are the three numbers in capitals, what each (each) line names of its connection, block or drive, stop, and
+ * fail() and send(). Number the connections and blocks in the order of their calls, from 1. A program that was late
+ * counts all ticks before it delivers what waited. fail() resets each connection, sends the frames that this gives, and
+ * ends; gp_controller_hold keeps a connection at zeros without a reset. guards says that the output is 0 whenever the
+ * input `stop` is: ask for each output that moves something and each stop that has to stop it, and don't run if one
+ * answers 0. Whole programs are examples/estop.c and udp_estop.c. What gatepast.h says of frames, of ids and of resets
+ * holds for each connection, but did.used is always 0: nothing shows here that an id comes again.
  *
  * Cycles
  *     In a cycle the net reads the inputs of all connections and sets their outputs: each output bit that a drive names
