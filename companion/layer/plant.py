@@ -18,8 +18,10 @@ from layer.journal import Pair, Step, pairs_of, steps_of
 from layer.program import Complaint, Tool, lab_of, text_of, write_whole
 from layer.reactions import MOST_SEEDS, Seen, Tables, outputs_of, over_seeds, report_of, rows, said_of, seen_of, summary
 from layer.reactions import with_file, with_key
+from layer.schedules import write_schedules
 from layer.script import Line, expanded, with_fresh_ids
 from layer.script import text_of as plain
+from layer.startup import short_watchdogs, started
 from layer.toml_lines import tables_of
 
 HELP = "runs a plant, and says what changed in it, and why"
@@ -127,10 +129,14 @@ def take(parser: argparse.ArgumentParser) -> None:
     parser.add_argument("--fresh", action="store_true", help="give each end its next session id before each tick")
     lab = "the proved program that writes journals; else GATEPAST_LAB names it, else it is the one that is built here"
     parser.add_argument("--lab", metavar="FILE", help=lab)
+    schedules = "write what happened to each connection as a file for replay, connection_1.pair and so on"
+    parser.add_argument("--schedules", metavar="FOLDER", help=schedules)
 
 
 def told(done: Ran, status: int, text: str, fresh: bool) -> Iterator[str]:
-    """What is said of a run: its changes, how it ended, and its bounds."""
+    """What is said of a run: its start, its changes, how it ended, and its bounds."""
+    yield from started(done)
+    yield from short_watchdogs(done.tables)
     yield from (change.text for change in done.changes)
     if fresh and (ticks := done.begun_twice()):
         yield f"ticks in which an end began two sessions with one id: {len(ticks)}, the first {ticks[0]}"
@@ -189,5 +195,7 @@ def run(given: argparse.Namespace, tool: Tool) -> int:
     if given.chart:
         page = page_of(done, source, bounds, [each.counts for each in seen], given.seeds, others)
         write_whole(given.chart, page.encode())
+    if given.schedules:
+        write_schedules(given.schedules, done.pairs, done.tables["connection"])
     print("\n".join(lines))
     return status

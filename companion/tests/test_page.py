@@ -1,10 +1,12 @@
-"""The outputs on the companion's page are those of its commands, and the chart in docs/ is that of its plant."""
+"""The outputs on the companion's page are those of its commands, the chart in docs/ is that of its plant, and the
+plants of the page ran so."""
 import re
 import shutil
 import subprocess
+import sys
 
 import pytest
-from conftest import ENVIRONMENT, TOP
+from conftest import ENVIRONMENT, TOP, WITH_LAB
 
 PAGE = (TOP / "docs" / "companion.md").read_text()
 SHOWN = re.findall(r"```sh\n(.*?)```\n\n```text\n(.*?)```", PAGE, re.S)
@@ -26,3 +28,9 @@ def test_output_is_as_shown(folder, command, wanted):
     assert (ran.stdout, ran.stderr) == (wanted, "")
     if "--chart" in command:
         assert (folder / "stop.html").read_text() == (TOP / "docs" / "plant.html").read_text()
+
+
+@WITH_LAB
+def test_the_examples_of_the_page_ran_so(tmp_path):
+    subprocess.run([sys.executable, TOP / "page" / "plants", tmp_path / "plants.json"], env=ENVIRONMENT, check=True)
+    assert (tmp_path / "plants.json").read_text() == (TOP / "page" / "src" / "plants.json").read_text()

@@ -11,13 +11,13 @@ function frameTable(title, hex) {
   const rows = parts
     ? [
         ["command", `${parts.command} (${parts.code.toString(16).padStart(2, "0").toUpperCase()}h)`],
-        ["data", parts.data],
+        ["data", `<span class="hex">${parts.data}</span>`],
         [parts.crcs.length === 1 ? "CRC" : "CRCs", parts.crcs.map((crc) => `${crcHex(crc)}h`).join(" ")],
         ["connection id", parts.conn],
       ]
     : [["", "as many bytes as no frame has"]];
   const cells = rows.map(([name, value]) => `<tr><th scope="row">${name}</th><td>${value}</td></tr>`).join("");
-  return `<table><caption>${title} <code>${hex}</code></caption>${cells}</table>`;
+  return `<table><caption>${title} <code class="hex">${hex}</code></caption>${cells}</table>`;
 }
 
 const FIRST_OTHER = `This is the first <strong>other</strong> entry: a frame passed the test of the CRCs here that isn't the one that the end
@@ -38,7 +38,7 @@ export function aboutEvent(run, n) {
   if (!event || !entry) return "<p>Choose an event in the schedule, in the chart or in the report.</p>";
   const arrow = arrowOf(n);
   return [
-    `<h3>Event ${n} <code>${escaped(event.text.length > 40 ? `${event.text.slice(0, 39)}…` : event.text)}</code></h3>`,
+    `<h3>Event ${n} <code>${escaped(event.text)}</code></h3>`,
     `<p>${sentence(eventWords(event, arrow))} The ${ENDS[entry.at]} ${didWords(entry.did)}.</p>`,
     otherWords(n, report.other),
     `<p>After it the ${ENDS[entry.at]} is in state <strong>${entry.state}</strong> (${STATES[entry.state]}),`,

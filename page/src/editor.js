@@ -1,50 +1,29 @@
 // The editor of a schedule: lines with numbers, the line of the event that is shown, and the line that is refused.
+import { linesOf } from "./lines.js";
 import { choose, hover, watch } from "./link.js";
-
-const LINE = 20;
-const PAD = 6;
 
 /** Watches the text field in a box, and calls back when its text changes. */
 export function editorOf(box, changed) {
-  const field = box.querySelector("textarea");
-  const gutter = box.querySelector(".gutter");
-  const bars = box.querySelector(".bars");
-  let lines = 1;
   let firstLine = 0; // the line of the first event, less 1
   let count = 0; // how many events were run
   let refused = 0;
   let shown = { chosen: 0, hovered: 0 };
 
-  const bar = (kind, line) => (line ? `<div class="${kind}" style="top:${PAD + (line - 1) * LINE - field.scrollTop}px"></div>` : "");
   const lineOf = (n) => (n && n <= count ? firstLine + n : 0);
-
-  function draw() {
-    const first = Math.floor(field.scrollTop / LINE);
-    const last = Math.min(lines, first + Math.ceil(field.clientHeight / LINE) + 1);
-    const numbers = [];
-    for (let line = first + 1; line <= last; line++) numbers.push(line === refused ? `<div class="refused">▶${line}</div>` : `<div>${line}</div>`);
-    gutter.innerHTML = `<div style="transform:translateY(${PAD + first * LINE - field.scrollTop}px)">${numbers.join("")}</div>`;
-    bars.innerHTML = bar("hover", lineOf(shown.hovered)) + bar("chosen", lineOf(shown.chosen)) + bar("refused", refused);
-  }
-
+  const lines = linesOf(box, () => [["hover", lineOf(shown.hovered)], ["chosen", lineOf(shown.chosen)], ["refused", refused]]);
+  const { field } = lines;
   const eventOf = (line) => (line > firstLine && line <= firstLine + count ? line - firstLine : 0);
   const caretLine = () => field.value.slice(0, field.selectionStart).split("\n").length;
 
   field.addEventListener("input", () => changed(field.value));
-  field.addEventListener("scroll", draw, { passive: true });
-  new ResizeObserver(draw).observe(field);
-  field.addEventListener("pointermove", (at) => hover(eventOf(Math.floor((at.offsetY + field.scrollTop - PAD) / LINE) + 1), "editor"));
+  field.addEventListener("pointermove", (at) => hover(eventOf(lines.lineAt(at.offsetY)), "editor"));
   field.addEventListener("pointerleave", () => hover(0, "editor"));
   for (const when of ["keyup", "click"]) field.addEventListener(when, () => choose(eventOf(caretLine()), "editor"));
   watch((state, why) => {
     shown = { ...state };
     const line = lineOf(state.chosen);
-    if (why.chose && why.by !== "editor" && line) {
-      const top = PAD + (line - 1) * LINE;
-      if (top < field.scrollTop) field.scrollTop = top - LINE;
-      else if (top + LINE > field.scrollTop + field.clientHeight) field.scrollTop = top + 2 * LINE - field.clientHeight;
-    }
-    draw();
+    if (why.chose && why.by !== "editor" && line) lines.bringIntoSight(line);
+    lines.draw();
   });
 
   return {
@@ -70,11 +49,10 @@ export function editorOf(box, changed) {
     },
     /** Notes what the run made of the text. */
     ran(schedule, events, refusedLine) {
-      lines = schedule.lines;
       firstLine = schedule.events.length ? schedule.events[0].line - 1 : 0;
       count = events;
       refused = refusedLine;
-      draw();
+      lines.count();
     },
   };
 }

@@ -6,11 +6,15 @@ import { editorOf } from "./editor.js";
 import { engineOf } from "./engine.js";
 import { EXAMPLES } from "./examples.js";
 import { choose, chosen, watch } from "./link.js";
+import { menuOf } from "./menu.js";
 import { scheduleOf } from "./number.js";
+import { numberForm } from "./number_form.js";
+import { plantTab } from "./plant.js";
 import { reportView } from "./report_view.js";
 import { runOf } from "./run.js";
 import { savedChart } from "./saved.js";
 import { ALONE, COLOURS, PARTS } from "./style.js";
+import { tabsOf } from "./tabs.js";
 import { canTry, linesOf } from "./tries.js";
 import { causeWords, endingWords } from "./words.js";
 
@@ -21,16 +25,20 @@ const bytesOfBase64 = (text) => Uint8Array.from(atob(text), (letter) => letter.c
 
 let engine = null;
 let run = null;
+let shown = ""; // the text of the example, or what else was shown
 let timer = 0;
 
 // What is said of an event takes room from the report: so it is first, and the report brings the event's line into sight after it.
 watch((_, why) => why.chose && showEvent());
 const chart = chartView(by("chart-box"));
 const report = reportView(by("report-box"));
-const editor = editorOf(by("editor"), () => {
+const editor = editorOf(by("editor"), (text) => {
+  menu.edited(text !== shown);
+  by("example-about").classList.toggle("changed", text !== shown);
   clearTimeout(timer);
   timer = setTimeout(runText, PATIENCE);
 });
+const menu = menuOf(by("examples"), EXAMPLES, ({ text, about }) => showText(text, about));
 
 function showEnding() {
   const { status, place, report: said } = run;
@@ -58,10 +66,12 @@ function runText() {
   showEvent();
 }
 
-/** Shows a text, with an event of it in sight: the first other entry, or the last. */
-function showText(text, about) {
+/** Shows a text, with an event of it in sight: the first other entry, or the last. One that is no example has a name. */
+function showText(text, about, name = "") {
+  if (name) menu.tell(name);
   by("example-about").textContent = about;
   choose(0, "page");
+  shown = text;
   editor.set(text);
   runText();
   if (run) choose(run.report.other || run.report.entries.length, "page");
@@ -89,16 +99,7 @@ function setUp() {
   const style = document.createElement("style");
   style.textContent = COLOURS + PARTS;
   document.head.append(style);
-  const examples = by("examples");
-  for (const { name } of EXAMPLES) examples.append(new Option(name));
-  examples.addEventListener("change", () => showText(EXAMPLES[examples.selectedIndex].text, EXAMPLES[examples.selectedIndex].about));
-  by("number-form").addEventListener("submit", (event) => {
-    event.preventDefault();
-    const number = BigInt(by("number").value || 0) & 0xffffffffffffffffn;
-    const events = Math.min(Math.max(Number(by("events").value) || 1, 1), 200000);
-    const about = `The first ${events} events of the schedule of the number ${number}, as “bulk ${number} ${events}” runs them.`;
-    showText(scheduleOf(number, events), about);
-  });
+  numberForm(by("number-form"), by("number-refused"), showText);
   by("save").addEventListener("click", save);
   for (const button of document.querySelectorAll("[data-try]")) button.addEventListener("click", () => tryAt(button.dataset.try));
 }
@@ -123,13 +124,21 @@ globalThis.gatepast = {
 };
 
 setUp();
-globalThis.gatepast.ready = engineOf(bytesOfBase64(BYTES)).then(
+const showTab = tabsOf(document.querySelector(".tabs"));
+const plant = plantTab((text, name, eventOf) => {
+  showTab("pair");
+  showText(text, "", name);
+  if (run) choose(eventOf(run), "page");
+});
+if (plant.served || location.hash === "#plant") showTab("plant");
+const engineReady = engineOf(bytesOfBase64(BYTES)).then(
   (made) => {
     engine = made;
-    showText(EXAMPLES[0].text, EXAMPLES[0].about);
+    menu.pick(0);
   },
   (why) => {
     by("ending").textContent = why.message;
     by("ending").className = "note strong";
   },
 );
+globalThis.gatepast.ready = Promise.all([engineReady, plant.ready]);

@@ -32,7 +32,7 @@ function eventOf(text, line) {
  */
 export function readSchedule(text) {
   const lines = text.split("\n");
-  const schedule = { lengths: { m: 2, s: 2 }, conn: 1, events: [], lines: lines.length };
+  const schedule = { lengths: { m: 2, s: 2 }, conn: 1, events: [] };
   let at = 0;
   for (; at < lines.length && lines[at] !== "go"; at++) {
     const fields = lines[at].split(" ");

@@ -58,5 +58,5 @@ export const PARTS = `
 .chart .mark .act{fill:var(--paper);stroke:var(--ink)}
 `;
 
-/** The whole style of a chart that stands alone. */
-export const ALONE = `svg{${LIGHT}}${PARTS}`;
+/** The whole style of a chart that stands alone, dark where the system asks for it. */
+export const ALONE = `svg{${LIGHT}}@media(prefers-color-scheme:dark){svg{${DARK}}}${PARTS}`;
