@@ -121,6 +121,9 @@ extern "C" {
 /* The version of this header: one more with each change of a call, a number, a size or a struct in it. */
 #define GP_VERSION 2
 
+/* The bytes of the line that gp_build writes. */
+#define GP_BUILD_LENGTH 136
+
 /* The memory of an end. gp_slave_size() and gp_master_size() return the same numbers. */
 #define GP_SLAVE_SIZE 2888
 #define GP_MASTER_SIZE 2336
@@ -281,6 +284,10 @@ typedef struct gp_master {
 
 /* Returns the version of the archive. */
 uint32_t gp_version(void);
+
+/* Writes a line of ASCII with its line end: the sources and the toolchain that the archive was made of. text_len is
+   GP_BUILD_LENGTH; else the answer is GP_BAD_LENGTH. */
+GP_CHECKED uint8_t gp_build(uint8_t *text, size_t text_len);
 
 /* ---- A slave ---- */
 

@@ -219,6 +219,9 @@ uint32_t gp_controller_version(void);
 size_t gp_controller_size(void);
 size_t gp_controller_align(void);
 
+/* As gp_build, of this archive. */
+GP_CHECKED uint8_t gp_controller_build(uint8_t *text, size_t text_len);
+
 /* ---- A controller is made ---- */
 
 /* Creates a controller in its memory, without a connection, a block or a drive. It doesn't run. `size` is the bytes of

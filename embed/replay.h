@@ -52,6 +52,9 @@ enum gp_replay_status {
     GP_REPLAY_CUT = 7    /* the memory is full: call again with more */
 };
 
+/* The bytes of the line that gp_replay_build writes. */
+#define GP_BUILD_LENGTH 136
+
 /* How a replay ended. */
 typedef struct gp_ended {
     uint64_t place; /* GP_REPLAY_OTHER: the number of the first `other` entry; GP_REPLAY_LINE: the number of the line;
@@ -63,6 +66,10 @@ typedef struct gp_ended {
    first part of the report fills that memory; with every other status the first ended->len bytes are the whole report.
    Bytes behind them are not written. A report that fits exactly is not cut. */
 GP_CHECKED uint8_t gp_replay(const uint8_t *text, size_t text_len, uint8_t *report, size_t report_len, gp_ended *ended);
+
+/* Writes a line of ASCII with its line end: the sources and the toolchain that the archive was made of. text_len is
+   GP_BUILD_LENGTH; else the status is GP_REPLAY_CUT, and nothing is written. */
+GP_CHECKED uint8_t gp_replay_build(uint8_t *text, size_t text_len);
 
 #ifdef __cplusplus
 }

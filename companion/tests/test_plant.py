@@ -147,7 +147,7 @@ LINES = strategies.sampled_from(PUTS + [line.format(link) for line in OTHERS for
 
 @WITH_LAB
 def test_the_program_of_journals_takes_no_word_more():
-    usage = "usage: fsoe_lab crc, journal|rates <file> [<lose> <alter> <repeat> <late>]\n"
+    usage = "usage: fsoe_lab build|crc, journal|rates <file> [<lose> <alter> <repeat> <late>]\n"
     assert LAB.ask("journal", "file", *"12345") == LAB.ask("journal") == (2, usage)
 
 

@@ -1,5 +1,5 @@
 //! The handle of a controller.
-ghost use Rattle.std.specs.Prelude.{◌≡◌, ◌≢◌, false, true, Some};
+ghost use Rattle.std.specs.Prelude.{◌≡◌, ◌≢◌, ◌==◌, if◌then◌else◌, false, length, true, Some};
 ghost use Rattle.c_values.specs.Place.{served};
 ghost use Rattle.controller_c.specs.Handle.{IsSoundController, open_answer};
 ghost use Rattle.controller_c.specs.Making.{empty_controller};
@@ -9,7 +9,8 @@ use crate::controller_place::ControllerPlace;
 use crate::controller_room::ControllerRoom;
 use crate::most::GpMost;
 use crate::numbers::NO_MEMORY;
-use c_values::numbers::{BUSY, NO_END, NO_ROOM, OK};
+use build_text::{BUILD, BUILD_LENGTH, copy_build};
+use c_values::numbers::{BAD_LENGTH, BUSY, NO_END, NO_ROOM, OK};
 use region::{Memory, Region};
 use std::mem::{align_of, size_of};
 
@@ -26,6 +27,16 @@ pub extern "C" fn gp_controller_version() -> u32
     ensures { result ≡ version }
 {
     1
+}
+
+/// Writes the text that names the sources and the toolchain that the archive was made of, to as many bytes.
+#[unsafe(no_mangle)]
+pub extern "C" fn gp_controller_build(text: &mut [u8]) -> u8
+    ensures answer { result ≡ (if length text.old == BUILD_LENGTH then OK else BAD_LENGTH) }
+    ensures written { result ≡ OK → text.new ≡ BUILD }
+    ensures refused { result ≢ OK → text.new ≡ text.old }
+{
+    if copy_build(text) { OK } else { BAD_LENGTH }
 }
 
 /// The bytes of memory that a controller takes, besides the region in which its connections and blocks lie.

@@ -2,6 +2,7 @@
 use Rattle.std.specs.Prelude.{ℕ, ◌+◌, nat_le, List, [], ◌∷◌, Bool, true, false, bytes_eq, codes, Option, Some, None, if◌then◌else◌}
 use Rattle.fsoe_io.specs.declared.status.Ended.{Ended}
 use Rattle.fsoe_io.specs.declared.status.Status.TheVariants as status
+use Rattle.build_text.specs.declared.text.TheConstants.{BUILD}
 use Rattle.file_run.specs.Outside.{Outside}
 use Rattle.plant_file.specs.Handed.{DeskTold, Handed}
 use Rattle.plant_file.specs.Noted.{RanWanted}
@@ -45,16 +46,25 @@ file_named words = []
 
 -- the line that is written where the words name nothing
 abbrev pub usage_line : List ℕ
-usage_line = codes "usage: fsoe_lab crc, journal|rates <file> [<lose> <alter> <repeat> <late>]\n"
+usage_line = codes "usage: fsoe_lab build|crc, journal|rates <file> [<lose> <alter> <repeat> <late>]\n"
 
 -- whether they ask for the counts of the changes of data
 abbrev pub counts_asked : List (List ℕ) → Bool
 counts_asked (word ∷ []) = bytes_eq word (codes "crc")
 counts_asked words = false
 
--- what holds of the run of what the words name: the counts were written, or a plant ran by the file; without either the
--- usage line was written
-abbrev pub Runs : {C S : Type 0} → Bool → Option Trial → Ended → Outside → DeskTold → Handed C S → Type 0
-Runs true trial ended o desk h = WroteLine counts_text status.Ok ended o h
-Runs false None ended o desk h = WroteLine usage_line status.Usage ended o h
-Runs false (Some trial) ended o desk h = RanFile (RanWanted trial.wanted) ended o desk h
+-- whether they ask what the program was made of
+abbrev pub build_asked : List (List ℕ) → Bool
+build_asked (word ∷ []) = bytes_eq word (codes "build")
+build_asked words = false
+
+-- the text that they ask for
+abbrev pub text_asked : List (List ℕ) → Option (List ℕ)
+text_asked words = if build_asked words then Some BUILD else (if counts_asked words then Some counts_text else None)
+
+-- what holds of the run of what the words name: a text was written, or a plant ran by the file; without either the usage
+-- line was written
+abbrev pub Runs : {C S : Type 0} → Option (List ℕ) → Option Trial → Ended → Outside → DeskTold → Handed C S → Type 0
+Runs (Some text) trial ended o desk h = WroteLine text status.Ok ended o h
+Runs None None ended o desk h = WroteLine usage_line status.Usage ended o h
+Runs None (Some trial) ended o desk h = RanFile (RanWanted trial.wanted) ended o desk h

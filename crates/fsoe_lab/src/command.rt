@@ -1,6 +1,6 @@
 //! The arguments that name a command.
 ghost use Rattle.std.specs.Prelude.{◌≡◌, ◌≤◌, IfSome, map, string_bytes};
-ghost use Rattle.fsoe_lab.specs.Command.{counts_asked, file_named, rates_of, rates_said, trial_said};
+ghost use Rattle.fsoe_lab.specs.Command.{build_asked, counts_asked, file_named, rates_of, rates_said, trial_said};
 
 use plant_file::Wanted;
 use rate_channel::Rates;
@@ -81,6 +81,16 @@ pub fn counts_asked(words: &[String]) -> bool
 {
     match words {
         [word] => word.as_bytes() == b"crc".as_slice(),
+        _ => false,
+    }
+}
+
+/// Whether the arguments ask what the program was made of.
+pub fn build_asked(words: &[String]) -> bool
+    ensures { result ≡ build_asked (map string_bytes words.now) }
+{
+    match words {
+        [word] => word.as_bytes() == b"build".as_slice(),
         _ => false,
     }
 }

@@ -1,12 +1,13 @@
 //! A second program for trials. Its commands `rates` and `journal` run a plant over a script from standard input. The
 //! user may give four rates: about how many of 10,000 frames are lost, altered and repeated, and about how many of
-//! 10,000 pulls give nothing. `rates` writes the report of the plant, `journal` its journal. A third command, `crc`, only
-//! writes how many changes of data turn how many bits of them and of their CRC.
+//! 10,000 pulls give nothing. `rates` writes the report of the plant, `journal` its journal. Two commands only write a
+//! text: `crc` how many changes of data turn how many bits of them and of their CRC, `build` what the program was made
+//! of.
 #![tactic(auto)]
 
-ghost use Rattle.std.specs.Prelude.{◌≡◌, ◌⊎◌, IfSome, None, false, map, string_bytes};
+ghost use Rattle.std.specs.Prelude.{◌≡◌, ◌⊎◌, IfSome, None, map, string_bytes};
 ghost use Rattle.fsoe_io.specs.declared.status.Status.TheVariants.{Usage, Write};
-ghost use Rattle.fsoe_lab.specs.Command.{counts_asked, trial_said};
+ghost use Rattle.fsoe_lab.specs.Command.{text_asked, trial_said};
 
 mod command;
 mod counts;
@@ -26,7 +27,7 @@ use std::process::ExitCode;
 /// Runs the command of all these words, with the applications and the channels that the program has for plants. None if
 /// there is no memory for these.
 fn run_program(rt: HostRuntime, words: &[String]) -> Option<Status>
-    ensures usage { trial_said (map string_bytes words.now) ≡ None → counts_asked (map string_bytes words.now) ≡ false → IfSome result (λ s. (s ≡ Usage) ⊎ (s ≡ Write)) }
+    ensures usage { trial_said (map string_bytes words.now) ≡ None → text_asked (map string_bytes words.now) ≡ None → IfSome result (λ s. (s ≡ Usage) ⊎ (s ≡ Write)) }
 {
     let alloc = rt.alloc();
     let zeros = Box::new(alloc, Zeros).ok()?;

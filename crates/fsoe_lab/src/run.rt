@@ -3,11 +3,12 @@ ghost use Rattle.std.specs.Prelude.{◌≡◌, ◌≢◌, ℕ, List, [], None, m
 ghost use Rattle.file_run.specs.Outside as outside;
 ghost use Rattle.multi_master.specs.Calls.{app_view};
 ghost use Rattle.plant_file.specs.Handed.{handed};
-ghost use Rattle.fsoe_lab.specs.Command.{Runs, counts_asked, file_named, trial_said};
+ghost use Rattle.fsoe_lab.specs.Command.{Runs, file_named, text_asked, trial_said};
 
-use crate::command::{counts_asked, file_named, trial_said};
+use crate::command::{build_asked, counts_asked, file_named, trial_said};
 use crate::counts::write_counts;
 use black_channel::Channel;
+use build_text::BUILD;
 use failsafe_io::Application;
 use fb_net::AppEntry;
 use file_run::write_report;
@@ -18,13 +19,13 @@ use std::alloc::Global;
 
 /// What is written if the arguments name no command.
 const USAGE: &[u8] =
-    b"usage: fsoe_lab crc, journal|rates <file> [<lose> <alter> <repeat> <late>]\n";
+    b"usage: fsoe_lab build|crc, journal|rates <file> [<lose> <alter> <repeat> <late>]\n";
 
 /// Runs the command of the arguments after the program's name: `rates <file>` runs a plant as `plant <file>` of
 /// `fsoe_tool` does; `journal <file>` does so too, but writes the plant's journal in place of its report. After either,
 /// the argument `journal` has the journal. The rates after the file are those of a channel that the caller hands in.
-/// `crc` writes how many changes of data turn how many bits. If the arguments are others, it writes the usage line, with
-/// status `Usage`. Neither needs the source and the desk.
+/// `crc` writes how many changes of data turn how many bits, and `build` what the program was made of. If the arguments
+/// are others, it writes the usage line, with status `Usage`. None of these needs the source and the desk.
 pub fn run<D: Desk, S: Source, K: Sink>(
     alloc: Global,
     words: &[String],
@@ -37,7 +38,7 @@ pub fn run<D: Desk, S: Source, K: Sink>(
 ) -> Ended
     requires empty { journal.old ≡ [] }
     ensures runs { let A = ⟦<Box<dyn Application> as Application>⟧ in let C = ⟦<Box<dyn Channel> as Channel>⟧ in
-        Runs (counts_asked (map string_bytes words.now)) (trial_said (map string_bytes words.now)) result
+        Runs (text_asked (map string_bytes words.now)) (trial_said (map string_bytes words.now)) result
         (record { source = outside.told S.left S.faults source.old source.new; sink = outside.told K.written K.faults sink.old sink.new })
         (let file = file_named (map string_bytes words.now) in record { text = D.holds desk.old file; faults_before = D.faults desk.old file; faults_after = D.faults desk.new file })
         (handed (app_view A.rule A.holds A.guards) C.name C.told apps.items channels.old.items channels.new.items source.old source.new journal.new) }
@@ -45,6 +46,13 @@ pub fn run<D: Desk, S: Source, K: Sink>(
     ensures unasked { trial_said (map string_bytes words.now) ≡ None → desk.new ≡ desk.old }
     ensures others { (other : List ℕ) → other ≢ file_named (map string_bytes words.now) → D.faults desk.new other ≡ D.faults desk.old other }
 {
+    if build_asked(words) {
+        let ended = Ended {
+            status: Status::Ok,
+            place: 0,
+        };
+        return write_report(sink, &BUILD, ended);
+    }
     if counts_asked(words) {
         return write_counts(sink);
     }

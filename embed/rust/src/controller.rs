@@ -1,6 +1,6 @@
 //! A controller, by the feature `controller` and an archive of its own.
 
-mod ffi;
+pub(crate) mod ffi;
 mod net;
 
 use core::marker::PhantomData;

@@ -114,6 +114,7 @@ const _: () = {
 
 extern "C" {
     pub fn gp_version() -> u32;
+    pub fn gp_build(text: *mut u8, text_len: usize) -> u8;
 
     pub fn gp_slave_size() -> usize;
     pub fn gp_slave_align() -> usize;

@@ -60,6 +60,37 @@ pub use settings::{App, MasterSettings, One, Profile, Rule, SlaveSettings, Two};
 pub use slave::{Slave, SlaveMemory};
 pub use step::{Cause, Code, Command, Dropped, State, Step, Terms, Took};
 
+/// The bytes of the line that [`build`] returns.
+pub const BUILD_LENGTH: usize = 136;
+
+/// A line with its line end: the sources and the toolchain that the archive was made of.
+///
+/// ```
+/// assert!(gatepast::build().starts_with(b"gatepast 0.2.0 sources "));
+/// ```
+pub fn build() -> [u8; BUILD_LENGTH] {
+    build_by(ffi::gp_build)
+}
+
+/// What [`build`] returns, of the archive of the controller.
+#[cfg(feature = "controller")]
+pub fn controller_build() -> [u8; BUILD_LENGTH] {
+    build_by(controller::ffi::gp_controller_build)
+}
+
+/// What [`build`] returns, of the archive of `replay`.
+#[cfg(feature = "replay")]
+pub fn replay_build() -> [u8; BUILD_LENGTH] {
+    build_by(replay::ffi::gp_replay_build)
+}
+
+fn build_by(call: unsafe extern "C" fn(*mut u8, usize) -> u8) -> [u8; BUILD_LENGTH] {
+    let mut text = [0; BUILD_LENGTH];
+    // SAFETY: the pointer leads to so many bytes, all with values.
+    done(unsafe { call(text.as_mut_ptr(), text.len()) });
+    text
+}
+
 /// The bytes of memory that a slave and a master take.
 pub const SIZES: (usize, usize) = (ffi::SLAVE_SIZE, ffi::MASTER_SIZE);
 

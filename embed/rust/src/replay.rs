@@ -1,6 +1,6 @@
 //! A pair file over a text in memory, by the feature `replay` and an archive of its own.
 
-mod ffi;
+pub(crate) mod ffi;
 
 /// How a replay ended.
 #[derive(Clone, Copy, Debug, PartialEq, Eq)]

@@ -74,6 +74,7 @@ const _: () = {
 
 extern "C" {
     pub fn gp_controller_version() -> u32;
+    pub fn gp_controller_build(text: *mut u8, text_len: usize) -> u8;
     pub fn gp_controller_size() -> usize;
     pub fn gp_controller_align() -> usize;
     pub fn gp_controller_open(

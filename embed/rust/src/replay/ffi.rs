@@ -21,4 +21,5 @@ extern "C" {
         report_len: usize,
         ended: *mut Ended,
     ) -> u8;
+    pub fn gp_replay_build(text: *mut u8, text_len: usize) -> u8;
 }
