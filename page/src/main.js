@@ -134,6 +134,7 @@ if (plant.served || location.hash === "#plant") showTab("plant");
 const engineReady = engineOf(bytesOfBase64(BYTES)).then(
   (made) => {
     engine = made;
+    by("build").textContent = engine.build;
     menu.pick(0);
   },
   (why) => {
