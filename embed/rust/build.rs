@@ -1,10 +1,10 @@
 //! Finds the archives: in the folder that GATEPAST_LIB names, as `lib` of the prefix of embed/install, or where `rt lib` leaves them.
 
-use std::path::PathBuf;
+use std::path::{Path, PathBuf};
 
 fn main() {
     println!("cargo:rerun-if-env-changed=GATEPAST_LIB");
-    link("gatepast", "fsoe_c");
+    tell_build(&link("gatepast", "fsoe_c"));
     if std::env::var_os("CARGO_FEATURE_CONTROLLER").is_some() {
         link("gatepast_controller", "controller_c");
     }
@@ -13,8 +13,25 @@ fn main() {
     }
 }
 
-/// Links an archive of this name, or of that of the crate that it is made of.
-fn link(installed: &str, made_of: &str) {
+/// Tells packages that depend on this one of which sources and by which compiler the archive is made: by `DEP_GATEPAST_BUILD`
+/// and `DEP_GATEPAST_COMPILER`.
+fn tell_build(archive: &Path) {
+    let bytes = std::fs::read(archive).unwrap();
+    let text = String::from_utf8_lossy(&bytes);
+    let line = text
+        .match_indices("gatepast ")
+        .filter_map(|(at, _)| text[at..].lines().next())
+        .find(|line| line.contains(" sources "));
+    let compiler = match text.contains("built: backend=rattle ") {
+        true => "rattle",
+        false => "llvm",
+    };
+    println!("cargo:build={}", line.unwrap_or("unknown"));
+    println!("cargo:compiler={compiler}");
+}
+
+/// Links an archive of this name, or of that of the crate that it is made of, and returns it.
+fn link(installed: &str, made_of: &str) -> PathBuf {
     let here = PathBuf::from(std::env::var("CARGO_MANIFEST_DIR").unwrap());
     let folder = match std::env::var("GATEPAST_LIB") {
         Ok(folder) => PathBuf::from(folder),
@@ -29,10 +46,9 @@ fn link(installed: &str, made_of: &str) {
                 folder.display()
             )
         });
+    let archive = folder.join(format!("lib{name}.a"));
     println!("cargo:rustc-link-search=native={}", folder.display());
     println!("cargo:rustc-link-lib=static={name}");
-    println!(
-        "cargo:rerun-if-changed={}",
-        folder.join(format!("lib{name}.a")).display()
-    );
+    println!("cargo:rerun-if-changed={}", archive.display());
+    archive
 }
