@@ -139,7 +139,7 @@ enum gp_answer {
     GP_NO_END = 1,       /* no end is there: before init, or after end */
     GP_BUSY = 2,         /* init: an end is there already */
     GP_BAD_LENGTH = 3,   /* init: a length is neither 1 nor even and from 2 to 126; put, offer: not as many bytes as
-                            this end sends; outputs: as its peer sends */
+                            this end sends; outputs: as its peer sends; build: not GP_BUILD_LENGTH */
     GP_BAD_PROFILE = 4,  /* init: the profile is neither 1 nor 2 */
     GP_BAD_NONCE = 5,    /* init, nonce: a session id above 65535 in profile 1 */
     GP_BAD_CONN = 6,     /* init: the connection id is 0 */

@@ -45,6 +45,15 @@ static inline void put_handle(size_t at, bool live) {
     put_number(HANDLE + LIVE, live);
 }
 
+/* The module's own line, without its memory: there may be none yet. */
+static inline uint8_t tell_build(uint8_t *text, size_t text_len) {
+    static const char line[] = "@BUILD@\n";
+    _Static_assert(sizeof line == GP_BUILD_LENGTH + 1, "the line");
+    if (text_len != GP_BUILD_LENGTH) return GP_BAD_LENGTH;
+    memcpy(text, line, GP_BUILD_LENGTH);
+    return GP_OK;
+}
+
 static inline bool is_live(void) {
     return memory[HANDLE + LIVE] != 0;
 }

@@ -31,7 +31,7 @@ enum table_test_answer {
 
 enum { TABLE_BYTES = 512, TABLES = 4 * TABLE_TEST_CHANNELS, TABLE_TEST_BYTES = TABLES * TABLE_BYTES };
 
-/* How far the test came. After a fault it stays at the byte that is wrong. */
+/* How far the test came. After a fault it stays at the byte that is wrong. A turned bit here skips bytes of one walk. */
 typedef struct table_test {
     uint16_t place;
 } table_test;

@@ -8,10 +8,11 @@
  *
  * Both channels get each call. What they answer, write and read has to be equal, and after each step their states, ages
  * and outputs, before anything leaves. Then all is as with one end. At the first difference the call returns
- * TWICE_STOPPED, and so does each later one, until the program starts anew: outputs and all else that a call writes are
- * zeros then, and no frame is sent. The memory stays where it is, as does a channel's.
+ * TWICE_STOPPED, and so does each later one: outputs and all else that a call writes are zeros then, and there is no
+ * frame to send. Switch off, don't send the last frame again, and don't set the handle anew: the program starts anew.
  *
- * The comparison is outside of both channels: it is tested, and not proved. `__typeof__` is known to gcc and clang.
+ * The comparison is outside of both channels, which have memcpy, memmove and memset in common: it is tested, and not
+ * proved. `__typeof__` and `__attribute__` are known to gcc and clang.
  */
 #ifndef GATEPAST_TWICE_H
 #define GATEPAST_TWICE_H
@@ -90,6 +91,36 @@ static inline void twice_give_did(gp_did *to, const gp_did *from) {
     (at->mode == TWICE_RUNS && at->memory != NULL ? twice_answer(&at->mode, (of_first), (of_second)) \
                                                   : twice_idle(&at->mode))
 
+/* A call whose answer has to be looked at. */
+#define TWICE_CALL __attribute__((warn_unused_result)) static inline uint8_t
+
+/* The body of an init, with what it is given besides the handle. */
+#define TWICE_INIT(name, outputs_len, ...)                                                       \
+    uint8_t answer = TWICE(_prepare)(at);                                                        \
+    if (answer == GP_OK)                                                                         \
+        answer = twice_answer(&at->mode, TWICE_FIRST(name)(&at->memory->first.end, __VA_ARGS__), \
+                              TWICE_SECOND(name)(&at->memory->second.end, __VA_ARGS__));         \
+    return TWICE(_begin)(at, answer, (outputs_len))
+
+/* A reader of one number. */
+#define TWICE_NUMBER(name, type)                                                                 \
+    TWICE_CALL TWICE(name)(TWICE_HANDLE *at, type *to) {                                         \
+        type first = 0, second = 0;                                                              \
+        const uint8_t answer = TWICE_BOTH(TWICE_FIRST(name)(&at->memory->first.end, &first),     \
+                                          TWICE_SECOND(name)(&at->memory->second.end, &second)); \
+        return twice_read(&at->mode, answer, &first, &second, to, sizeof *to);                   \
+    }
+
+/* A reader of safe data. No end has as many as fit here. */
+#define TWICE_BYTES(name)                                                                            \
+    TWICE_CALL TWICE(name)(TWICE_HANDLE *at, uint8_t *to, size_t to_len) {                           \
+        uint8_t first[GP_MOST_DATA + 1] = {0}, second[GP_MOST_DATA + 1] = {0};                       \
+        const size_t len = to_len < sizeof first ? to_len : sizeof first;                            \
+        const uint8_t answer = TWICE_BOTH(TWICE_FIRST(name)(&at->memory->first.end, first, len),     \
+                                          TWICE_SECOND(name)(&at->memory->second.end, second, len)); \
+        return twice_read(&at->mode, answer, first, second, to, len);                                \
+    }
+
 #ifdef __cplusplus
 extern "C" {
 #endif
@@ -110,31 +141,17 @@ extern __typeof__(gp_master_reply) twin_gp_master_reply;
 #define TWICE_END slave
 #include "twice_end.h"
 
-static inline uint8_t twice_slave_init(twice_slave *at, const gp_slave_settings *set, uint16_t app_len) {
-    uint8_t answer = twice_slave_prepare(at);
-    if (answer == GP_OK)
-        answer = twice_answer(&at->mode, gp_slave_init(&at->memory->first.end, set, app_len),
-                              twin_gp_slave_init(&at->memory->second.end, set, app_len));
-    return twice_slave_begin(at, answer, set->master_len);
+TWICE_CALL twice_slave_init(twice_slave *at, const gp_slave_settings *set, uint16_t app_len) {
+    TWICE_INIT(_init, set->master_len, set, app_len);
 }
 
-static inline uint8_t twice_slave_init_exact(twice_slave *at, const gp_slave_settings *set, const uint8_t *app,
-                                             size_t app_len) {
-    uint8_t answer = twice_slave_prepare(at);
-    if (answer == GP_OK)
-        answer = twice_answer(&at->mode, gp_slave_init_exact(&at->memory->first.end, set, app, app_len),
-                              twin_gp_slave_init_exact(&at->memory->second.end, set, app, app_len));
-    return twice_slave_begin(at, answer, set->master_len);
+TWICE_CALL twice_slave_init_exact(twice_slave *at, const gp_slave_settings *set, const uint8_t *app, size_t app_len) {
+    TWICE_INIT(_init_exact, set->master_len, set, app, app_len);
 }
 
-static inline uint8_t twice_slave_init_ranges(twice_slave *at, const gp_slave_settings *set, const uint8_t *low,
-                                              size_t low_len, const uint8_t *high, size_t high_len) {
-    uint8_t answer = twice_slave_prepare(at);
-    if (answer == GP_OK)
-        answer =
-            twice_answer(&at->mode, gp_slave_init_ranges(&at->memory->first.end, set, low, low_len, high, high_len),
-                         twin_gp_slave_init_ranges(&at->memory->second.end, set, low, low_len, high, high_len));
-    return twice_slave_begin(at, answer, set->master_len);
+TWICE_CALL twice_slave_init_ranges(twice_slave *at, const gp_slave_settings *set, const uint8_t *low, size_t low_len,
+                                   const uint8_t *high, size_t high_len) {
+    TWICE_INIT(_init_ranges, set->master_len, set, low, low_len, high, high_len);
 }
 
 #undef TWICE_END
@@ -144,16 +161,11 @@ static inline uint8_t twice_slave_init_ranges(twice_slave *at, const gp_slave_se
 #define TWICE_END master
 #include "twice_end.h"
 
-static inline uint8_t twice_master_init(twice_master *at, const gp_master_settings *set, const uint8_t *app,
-                                        size_t app_len) {
-    uint8_t answer = twice_master_prepare(at);
-    if (answer == GP_OK)
-        answer = twice_answer(&at->mode, gp_master_init(&at->memory->first.end, set, app, app_len),
-                              twin_gp_master_init(&at->memory->second.end, set, app, app_len));
-    return twice_master_begin(at, answer, set->slave_len);
+TWICE_CALL twice_master_init(twice_master *at, const gp_master_settings *set, const uint8_t *app, size_t app_len) {
+    TWICE_INIT(_init, set->slave_len, set, app, app_len);
 }
 
-static inline uint8_t twice_master_accept(twice_master *at, const uint8_t *frame, size_t frame_len, gp_did *did) {
+TWICE_CALL twice_master_accept(twice_master *at, const uint8_t *frame, size_t frame_len, gp_did *did) {
     twice_master_memory *const both = at->memory;
     return twice_master_stepped(
         at,
@@ -162,14 +174,9 @@ static inline uint8_t twice_master_accept(twice_master *at, const uint8_t *frame
         NULL, did);
 }
 
-static inline uint8_t twice_master_due(twice_master *at, uint8_t *due) {
-    uint8_t first = 0, second = 0;
-    const uint8_t answer =
-        TWICE_BOTH(gp_master_due(&at->memory->first.end, &first), twin_gp_master_due(&at->memory->second.end, &second));
-    return twice_read(&at->mode, answer, &first, &second, due, sizeof *due);
-}
+TWICE_NUMBER(_due, uint8_t)
 
-static inline uint8_t twice_master_reply(twice_master *at, gp_frame *out) {
+TWICE_CALL twice_master_reply(twice_master *at, gp_frame *out) {
     twice_master_memory *const both = at->memory;
     return twice_master_stepped(at,
                                 TWICE_BOTH(gp_master_reply(&both->first.end, &both->first.out),
@@ -177,11 +184,15 @@ static inline uint8_t twice_master_reply(twice_master *at, gp_frame *out) {
                                 out, NULL);
 }
 
-static inline uint8_t twice_master_inputs(twice_master *at, uint8_t *inputs, size_t inputs_len) {
+TWICE_CALL twice_master_inputs(twice_master *at, uint8_t *inputs, size_t inputs_len) {
     return twice_master_outputs(at, inputs, inputs_len);
 }
 
 #undef TWICE_END
+#undef TWICE_BYTES
+#undef TWICE_NUMBER
+#undef TWICE_INIT
+#undef TWICE_CALL
 #undef TWICE_BOTH
 #undef TWICE_SECOND
 #undef TWICE_FIRST

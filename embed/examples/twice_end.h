@@ -70,44 +70,13 @@ static inline uint8_t TWICE(_end)(TWICE_HANDLE *at) {
 
 /* Readers */
 
-static inline uint8_t TWICE(_state)(TWICE_HANDLE *at, uint8_t *state) {
-    uint8_t first = 0, second = 0;
-    const uint8_t answer = TWICE_BOTH(TWICE_FIRST(_state)(&at->memory->first.end, &first),
-                                      TWICE_SECOND(_state)(&at->memory->second.end, &second));
-    return twice_read(&at->mode, answer, &first, &second, state, sizeof *state);
-}
+TWICE_NUMBER(_state, uint8_t)
+TWICE_NUMBER(_held, uint8_t)
+TWICE_NUMBER(_age, uint16_t)
+TWICE_BYTES(_outputs)
+TWICE_BYTES(_offer)
 
-static inline uint8_t TWICE(_held)(TWICE_HANDLE *at, uint8_t *held) {
-    uint8_t first = 0, second = 0;
-    const uint8_t answer = TWICE_BOTH(TWICE_FIRST(_held)(&at->memory->first.end, &first),
-                                      TWICE_SECOND(_held)(&at->memory->second.end, &second));
-    return twice_read(&at->mode, answer, &first, &second, held, sizeof *held);
-}
-
-static inline uint8_t TWICE(_age)(TWICE_HANDLE *at, uint16_t *age) {
-    uint16_t first = 0, second = 0;
-    const uint8_t answer = TWICE_BOTH(TWICE_FIRST(_age)(&at->memory->first.end, &first),
-                                      TWICE_SECOND(_age)(&at->memory->second.end, &second));
-    return twice_read(&at->mode, answer, &first, &second, age, sizeof *age);
-}
-
-static inline uint8_t TWICE(_outputs)(TWICE_HANDLE *at, uint8_t *outputs, size_t outputs_len) {
-    uint8_t first[GP_MOST_DATA + 1] = {0}, second[GP_MOST_DATA + 1] = {0};
-    const size_t len = outputs_len < sizeof first ? outputs_len : sizeof first; /* no end has so many */
-    const uint8_t answer = TWICE_BOTH(TWICE_FIRST(_outputs)(&at->memory->first.end, first, len),
-                                      TWICE_SECOND(_outputs)(&at->memory->second.end, second, len));
-    return twice_read(&at->mode, answer, first, second, outputs, len);
-}
-
-static inline uint8_t TWICE(_offer)(TWICE_HANDLE *at, uint8_t *offer, size_t offer_len) {
-    uint8_t first[GP_MOST_DATA + 1] = {0}, second[GP_MOST_DATA + 1] = {0};
-    const size_t len = offer_len < sizeof first ? offer_len : sizeof first;
-    const uint8_t answer = TWICE_BOTH(TWICE_FIRST(_offer)(&at->memory->first.end, first, len),
-                                      TWICE_SECOND(_offer)(&at->memory->second.end, second, len));
-    return twice_read(&at->mode, answer, first, second, offer, len);
-}
-
-static inline uint8_t TWICE(_terms)(TWICE_HANDLE *at, gp_terms *terms) {
+TWICE_CALL TWICE(_terms)(TWICE_HANDLE *at, gp_terms *terms) {
     gp_terms first, second;
     memset(&first, 0, sizeof first);
     memset(&second, 0, sizeof second);
@@ -119,13 +88,14 @@ static inline uint8_t TWICE(_terms)(TWICE_HANDLE *at, gp_terms *terms) {
 
 /* Steps */
 
+/* Compares last what leaves: no channel runs between this and the copy. */
 static inline bool TWICE(_agree)(TWICE_HANDLE *at) {
     const TWICE(_channel) *const first = &at->memory->first, *const second = &at->memory->second;
     uint8_t state = 0, outputs[GP_MOST_DATA + 1] = {0};
     uint16_t age = 0;
-    return twice_equal_frames(&first->out, &second->out) && twice_equal_did(&first->did, &second->did) &&
-           TWICE(_state)(at, &state) == GP_OK && TWICE(_age)(at, &age) == GP_OK &&
-           at->memory->outputs_len < sizeof outputs && TWICE(_outputs)(at, outputs, at->memory->outputs_len) == GP_OK;
+    return TWICE(_state)(at, &state) == GP_OK && TWICE(_age)(at, &age) == GP_OK &&
+           at->memory->outputs_len < sizeof outputs && TWICE(_outputs)(at, outputs, at->memory->outputs_len) == GP_OK &&
+           twice_equal_frames(&first->out, &second->out) && twice_equal_did(&first->did, &second->did);
 }
 
 /* Gives what both channels did, or nothing once they differed. */
@@ -138,8 +108,7 @@ static inline uint8_t TWICE(_stepped)(TWICE_HANDLE *at, uint8_t answer, gp_frame
     return answer;
 }
 
-static inline uint8_t TWICE(_deliver)(TWICE_HANDLE *at, const uint8_t *frame, size_t frame_len, gp_frame *out,
-                                      gp_did *did) {
+TWICE_CALL TWICE(_deliver)(TWICE_HANDLE *at, const uint8_t *frame, size_t frame_len, gp_frame *out, gp_did *did) {
     TWICE(_memory) *const both = at->memory;
     return TWICE(_stepped)(
         at,
@@ -148,7 +117,7 @@ static inline uint8_t TWICE(_deliver)(TWICE_HANDLE *at, const uint8_t *frame, si
         out, did);
 }
 
-static inline uint8_t TWICE(_tick)(TWICE_HANDLE *at, gp_frame *out, gp_did *did) {
+TWICE_CALL TWICE(_tick)(TWICE_HANDLE *at, gp_frame *out, gp_did *did) {
     TWICE(_memory) *const both = at->memory;
     return TWICE(_stepped)(at,
                            TWICE_BOTH(TWICE_FIRST(_tick)(&both->first.end, &both->first.out, &both->first.did),
@@ -156,7 +125,7 @@ static inline uint8_t TWICE(_tick)(TWICE_HANDLE *at, gp_frame *out, gp_did *did)
                            out, did);
 }
 
-static inline uint8_t TWICE(_reset)(TWICE_HANDLE *at, gp_frame *out, gp_did *did) {
+TWICE_CALL TWICE(_reset)(TWICE_HANDLE *at, gp_frame *out, gp_did *did) {
     TWICE(_memory) *const both = at->memory;
     return TWICE(_stepped)(at,
                            TWICE_BOTH(TWICE_FIRST(_reset)(&both->first.end, &both->first.out, &both->first.did),
@@ -166,17 +135,17 @@ static inline uint8_t TWICE(_reset)(TWICE_HANDLE *at, gp_frame *out, gp_did *did
 
 /* Settings of what is sent */
 
-static inline uint8_t TWICE(_put)(TWICE_HANDLE *at, const uint8_t *load, size_t load_len) {
+TWICE_CALL TWICE(_put)(TWICE_HANDLE *at, const uint8_t *load, size_t load_len) {
     return TWICE_BOTH(TWICE_FIRST(_put)(&at->memory->first.end, load, load_len),
                       TWICE_SECOND(_put)(&at->memory->second.end, load, load_len));
 }
 
-static inline uint8_t TWICE(_hold)(TWICE_HANDLE *at, bool failsafe) {
+TWICE_CALL TWICE(_hold)(TWICE_HANDLE *at, bool failsafe) {
     return TWICE_BOTH(TWICE_FIRST(_hold)(&at->memory->first.end, failsafe),
                       TWICE_SECOND(_hold)(&at->memory->second.end, failsafe));
 }
 
-static inline uint8_t TWICE(_nonce)(TWICE_HANDLE *at, uint32_t id) {
+TWICE_CALL TWICE(_nonce)(TWICE_HANDLE *at, uint32_t id) {
     return TWICE_BOTH(TWICE_FIRST(_nonce)(&at->memory->first.end, id),
                       TWICE_SECOND(_nonce)(&at->memory->second.end, id));
 }

@@ -362,6 +362,7 @@ static void used_ids(void) {
 }
 
 int main(void) {
+    MUST(gp_build(data, GP_BUILD_LENGTH) == GP_OK && data[GP_BUILD_LENGTH - 1] == '\n'); /* before there is an end */
     MUST(gp_version() == GP_VERSION && gp_slave_size() == GP_SLAVE_SIZE && gp_master_size() == GP_MASTER_SIZE);
     MUST(gp_slave_align() == _Alignof(gp_slave_memory) && gp_master_align() == _Alignof(gp_master_memory));
     no_slave();

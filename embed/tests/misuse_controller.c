@@ -279,15 +279,17 @@ static void no_memory(void) {
     }
 }
 
-/* A start closes the region: a controller whose memory is made what it was before gets nothing more from there. */
+/* A start closes the region: a controller whose memory is made what it was before gets nothing more from there. On 32
+   bits the controller itself lies in the region, so it still runs. */
 static void closed_region(void) {
     static const gp_most nothing = {0, 0, 0};
+    const uint8_t wanted = sizeof(size_t) == 8 ? GP_NO_MEMORY : GP_RUNNING;
     ANSWERS(GP_OK, gp_controller_open(&controller, region, sizeof region, &nothing));
     before = memory;
     ANSWERS(GP_OK, gp_controller_start(&controller, &fault));
     memory = before;
     for (int which = 0; which < 3; which++)
-        MUST(call_that_allocates(which) == GP_NO_MEMORY && nothing_was_written());
+        MUST(call_that_allocates(which) == wanted && nothing_was_written());
     ANSWERS(GP_OK, gp_controller_end(&controller));
 }
 
@@ -414,6 +416,7 @@ static void steps(void) {
 }
 
 int main(void) {
+    MUST(gp_controller_build(data, GP_BUILD_LENGTH) == GP_OK && data[GP_BUILD_LENGTH - 1] == '\n');
     MUST(gp_controller_version() == GP_CONTROLLER_VERSION && gp_controller_size() == GP_CONTROLLER_SIZE);
     MUST(gp_controller_align() == _Alignof(gp_controller_memory));
     no_controller();

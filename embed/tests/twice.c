@@ -19,7 +19,7 @@ static gp_master_settings of_master;
 static gp_frame to_slave, to_master, out; /* the frames that come next */
 static gp_did did;
 static gp_terms terms;
-static uint8_t bytes[GP_MOST_DATA], state;
+static uint8_t bytes[GP_MOST_DATA], offer[GP_MOST_DATA], state, flag, due;
 static uint16_t age;
 static unsigned tried;
 
@@ -36,16 +36,34 @@ static void must(int line, bool holds) {
 
 #define MUST(what) must(__LINE__, (what))
 
-static bool is_zeros(const void *at, size_t len) {
+static bool each_is(const void *at, size_t len, uint8_t one, uint8_t another) {
     const uint8_t *each = at;
     for (size_t i = 0; i < len; i++)
-        if (each[i] != 0) return false;
+        if (each[i] != one && each[i] != another) return false;
     return true;
+}
+
+static bool is_zeros(const void *at, size_t len) {
+    return each_is(at, len, 0, 0);
+}
+
+#define BLANK(what) each_is(&(what), sizeof(what), 0, 0xFF)
+
+/* Nothing left a call that stopped: what it wrote is zeros, and all else is what fill wrote. */
+static bool nothing_left(void) {
+    return BLANK(out.len) && BLANK(did) && BLANK(terms) && BLANK(bytes) && BLANK(state) && BLANK(age);
 }
 
 static void exchange(void) {
     MUST(twice_slave_deliver(&slave, to_slave.bytes, to_slave.len, &to_master, &did) == GP_OK);
     MUST(twice_master_deliver(&master, to_master.bytes, to_master.len, &to_slave, &did) == GP_OK);
+}
+
+/* Fills what calls write to. */
+static void fill(void) {
+    memset(bytes, 0xFF, sizeof bytes), memset(offer, 0xFF, sizeof offer), memset(&terms, 0xFF, sizeof terms);
+    memset(&out, 0xFF, sizeof out), memset(&did, 0xFF, sizeof did);
+    state = flag = due = 0xFF, age = 0xFF;
 }
 
 /* Both ends anew in Data. The next step is this end's. */
@@ -60,8 +78,7 @@ static void begin(int end) {
     for (int i = 0; i < MOST_EXCHANGES && did.took != GP_COMMAND_PROCESS_DATA; i++) exchange();
     exchange();
     if (end == MASTER) MUST(twice_slave_deliver(&slave, to_slave.bytes, to_slave.len, &to_master, &did) == GP_OK);
-    memset(&out, 0xFF, sizeof out);
-    memset(&did, 0xFF, sizeof did);
+    fill();
 }
 
 static uint8_t deliver(int end) {
@@ -76,7 +93,8 @@ static uint8_t deliver_short(int end) {
 }
 
 static uint8_t accept_and_reply(void) {
-    const uint8_t answer = twice_master_accept(&master, to_master.bytes, to_master.len, &did);
+    static gp_did accepted;
+    const uint8_t answer = twice_master_accept(&master, to_master.bytes, to_master.len, &accepted);
     return answer == GP_OK ? twice_master_reply(&master, &out) : answer;
 }
 
@@ -87,22 +105,20 @@ static uint8_t tick(int end) {
 /* Both ends reset, and a session begins: its Session frames have both ids. */
 static uint8_t next_session(int end) {
     if (twice_master_reset(&master, &to_slave, &did) != GP_OK) return TWICE_STOPPED;
-    for (int i = 0; i < 2; i++) {
-        if (twice_slave_deliver(&slave, to_slave.bytes, to_slave.len, &out, &did) != GP_OK) return TWICE_STOPPED;
-        if (end == SLAVE && i == 1) break;
-        if (twice_master_deliver(&master, out.bytes, out.len, &to_slave, &did) != GP_OK) return TWICE_STOPPED;
-        if (end == MASTER) break;
-    }
-    return GP_OK;
+    if (end == SLAVE) exchange();
+    else MUST(twice_slave_deliver(&slave, to_slave.bytes, to_slave.len, &to_master, &did) == GP_OK);
+    return deliver(end);
 }
 
 /* A slave and a master that stopped do nothing any more. */
 static void slave_stays(void) {
     const uint16_t sent = of_slave.slave_len, got = of_slave.master_len;
-    memset(bytes, 0xFF, sizeof bytes), memset(&terms, 0xFF, sizeof terms), state = 0xFF, age = 0xFF;
+    fill();
     MUST(deliver(SLAVE) == TWICE_STOPPED && out.len == 0 && is_zeros(&did, sizeof did));
     MUST(twice_slave_outputs(&slave, bytes, got) == TWICE_STOPPED && is_zeros(bytes, got));
+    MUST(twice_slave_offer(&slave, offer, sent) == TWICE_STOPPED && is_zeros(offer, sent));
     MUST(twice_slave_state(&slave, &state) == TWICE_STOPPED && state == GP_RESET);
+    MUST(twice_slave_held(&slave, &flag) == TWICE_STOPPED && flag == 0);
     MUST(twice_slave_age(&slave, &age) == TWICE_STOPPED && age == 0);
     MUST(twice_slave_terms(&slave, &terms) == TWICE_STOPPED && terms.conn == 0 && terms.app_len == 0);
     MUST(tick(SLAVE) == TWICE_STOPPED && twice_slave_reset(&slave, &out, &did) == TWICE_STOPPED && out.len == 0);
@@ -115,16 +131,20 @@ static void slave_stays(void) {
 
 static void master_stays(void) {
     const uint16_t sent = of_slave.master_len, got = of_slave.slave_len;
-    memset(bytes, 0xFF, sizeof bytes), memset(&terms, 0xFF, sizeof terms), state = 0xFF, age = 0xFF;
+    fill();
     MUST(deliver(MASTER) == TWICE_STOPPED && out.len == 0 && is_zeros(&did, sizeof did));
     MUST(twice_master_inputs(&master, bytes, got) == TWICE_STOPPED && is_zeros(bytes, got));
+    MUST(twice_master_offer(&master, offer, sent) == TWICE_STOPPED && is_zeros(offer, sent));
     MUST(twice_master_state(&master, &state) == TWICE_STOPPED && state == GP_RESET);
+    MUST(twice_master_held(&master, &flag) == TWICE_STOPPED && flag == 0);
+    MUST(twice_master_due(&master, &due) == TWICE_STOPPED && due == 0);
     MUST(twice_master_age(&master, &age) == TWICE_STOPPED && age == 0);
     MUST(twice_master_terms(&master, &terms) == TWICE_STOPPED && terms.conn == 0 && terms.app_len == 0);
     MUST(tick(MASTER) == TWICE_STOPPED && twice_master_reset(&master, &out, &did) == TWICE_STOPPED && out.len == 0);
     MUST(twice_master_put(&master, data, sent) == TWICE_STOPPED && twice_master_hold(&master, true) == TWICE_STOPPED);
     MUST(twice_master_nonce(&master, 8) == TWICE_STOPPED && twice_master_end(&master) == TWICE_STOPPED);
-    MUST(twice_master_accept(&master, data, 7, &did) == TWICE_STOPPED && accept_and_reply() == TWICE_STOPPED);
+    MUST(twice_master_accept(&master, data, 7, &did) == TWICE_STOPPED);
+    MUST(twice_master_reply(&master, &out) == TWICE_STOPPED && out.len == 0);
     MUST(twice_master_init(&master, &of_master, app, APP_LEN) == TWICE_STOPPED);
 }
 
@@ -136,7 +156,7 @@ static void master_stays(void) {
         begin(end);                                                                      \
         MUST((alone) == GP_OK);                                                          \
         MUST((call) == TWICE_STOPPED && ((end) != SLAVE || slave.mode == TWICE_HALTED)); \
-        MUST((end) == SLAVE || master.mode == TWICE_HALTED);                             \
+        MUST(((end) == SLAVE || master.mode == TWICE_HALTED) && nothing_left());         \
         if ((end) == SLAVE) slave_stays();                                               \
         else master_stays();                                                             \
     } while (0)
