@@ -9,6 +9,7 @@ from layer.causes import Change, drives_of, place_of
 from layer.journal import ENDS, Entry, Pair
 from layer.program import TOP
 from layer.reactions import is_guarded, outputs_of, presses
+from layer.startup import spoken
 from layer.words import WORDS, code_words
 
 if TYPE_CHECKING:
@@ -22,7 +23,7 @@ def first_lines(changes: list[Change]) -> list[str]:
     """Which drives went off, when and why: a line for those that did together."""
     drives = [change for change in changes if change.drive]
     offs = groupby((change for change in drives if change.is_off), lambda change: (change.step.during, change.why))
-    lines = [f"{spoken([change.drive for change in same])} went off {when}: {why}" for (when, why), same in offs]
+    lines = [f"{spoken('Drive', [each.drive for each in same])} went off {when}: {why}" for (when, why), same in offs]
     if len(lines) > MOST_LINES:
         lines[MOST_LINES - 1 :] = [f"{len(lines) - MOST_LINES + 1} more such lines stand below"]
     if drives and not lines:
@@ -35,12 +36,6 @@ def refusal_lines(told: list[str]) -> list[str]:
     at = next((number for number, line in enumerate(told) if line.startswith("refused ")), None)
     words = [] if at is None else [*told[:at], told[at + 1]]
     return [f"The script was refused: {'; '.join(words)}", "All else is of what ran before that line"] if words else []
-
-
-def spoken(drives: list[str]) -> str:
-    """The names of one drive or more."""
-    *others, last = drives
-    return f"Drives {', '.join(others)} and {last}" if others else f"Drive {last}"
 
 
 def did_words(did: str) -> str:

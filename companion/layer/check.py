@@ -6,14 +6,13 @@ from __future__ import annotations
 
 import argparse
 import difflib
-import tomllib
 from typing import Any, Iterator
 
 from layer.explain import explained
 from layer.forms import KEYS
 from layer.net import Net
 from layer.program import Complaint, Tool, text_of
-from layer.toml_lines import Place, lines_of, tables_of
+from layer.toml_lines import Place, lines_of, read, tables_of
 from layer.words import code_words
 
 HELP = "explains what is wrong with a plant's configuration"
@@ -94,8 +93,8 @@ def restarts(tables: Tables, net: Net) -> Iterator[Told]:
 def warnings(text: str, loaded: bool) -> Iterator[Told]:
     """All warnings; of a configuration that is refused only those of names."""
     try:
-        tables = tables_of(tomllib.loads(text))
-    except tomllib.TOMLDecodeError:
+        tables = tables_of(read(text))
+    except Complaint:
         return
     yield from unread(tables)
     if loaded:

@@ -3,12 +3,11 @@ from __future__ import annotations
 
 import argparse
 import re
-import tomllib
 from typing import Iterator
 
 from layer.forms import FAULTS, HEADER, KEYS, KINDS, NEXT, TABLES, Kind
 from layer.program import Complaint, Tool, text_of
-from layer.toml_lines import lines_of
+from layer.toml_lines import lines_of, read
 from layer.words import WORDS
 
 HELP = "says in words why a line or a configuration is refused"
@@ -108,8 +107,8 @@ def bit_line(text: str, letter: str, bit: str) -> int | None:
 def syntax_fault(text: str) -> str:
     """What Python's reader of TOML says of a text; nothing if it takes it."""
     try:
-        tomllib.loads(text)
-    except tomllib.TOMLDecodeError as why:
+        read(text)
+    except Complaint as why:
         return str(why)
     return ""
 
@@ -153,7 +152,7 @@ def fault(last: str, text: str | None) -> Iterator[str]:
     else:
         yield FAULTS[word].format(*" ".join(rest).replace(".", " ").split(" "))
     if word == "Syntax" and text is not None and syntax_fault(text):
-        yield f"Python's reader says: {syntax_fault(text)}"
+        yield syntax_fault(text)
     if form := form_of(word, rest):
         yield f"expected there: {form}"
 

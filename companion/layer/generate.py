@@ -9,12 +9,11 @@ import argparse
 import pathlib
 import re
 import sys
-import tomllib
 from typing import Any, Iterator
 
 from layer.check import LOADED, judged
 from layer.program import Complaint, Tool, write_whole
-from layer.toml_lines import tables_of
+from layer.toml_lines import read, tables_of
 
 HELP = "writes the controller of a plant's configuration as C"
 KINDS = {"twohand": "TWO_HAND", "ondelay": "ON_DELAY", "offdelay": "OFF_DELAY"}  # others have their own names in C
@@ -152,7 +151,7 @@ def run(given: argparse.Namespace, tool: Tool) -> int:
     if status != LOADED:
         print("\n".join(said), file=sys.stderr)
         return status
-    tables = tables_of(tomllib.loads(text))
+    tables = tables_of(read(text))
     app = tables["plant"][0]["app"]
     if app != "net":
         raise Complaint(f"{given.configuration} runs {app}: a controller in C runs the net alone")

@@ -6,7 +6,6 @@ causes are what `replay` says of each connection, by the journal of the plant, w
 from __future__ import annotations
 
 import argparse
-import tomllib
 from collections import Counter
 from dataclasses import dataclass
 from typing import Iterator, Sequence
@@ -15,14 +14,14 @@ from layer.causes import Causes, Change
 from layer.chart import page_of
 from layer.explain import explained
 from layer.journal import Pair, Step, pairs_of, steps_of
-from layer.program import Complaint, Tool, lab_of, text_of, write_whole
+from layer.program import LAB, Complaint, Tool, lab_of, text_of, write_whole
 from layer.reactions import MOST_SEEDS, Seen, Tables, outputs_of, over_seeds, report_of, rows, said_of, seen_of, summary
 from layer.reactions import with_file, with_key
 from layer.schedules import write_schedules
 from layer.script import Line, expanded, with_fresh_ids
 from layer.script import text_of as plain
 from layer.startup import short_watchdogs, started
-from layer.toml_lines import tables_of
+from layer.toml_lines import read, tables_of
 
 HELP = "runs a plant, and says what changed in it, and why"
 REFUSED = 4  # a line of the script: what was done before it is shown
@@ -93,7 +92,7 @@ def ran(
     again, journal = with_file(lab, text, plain(script), "journal", rates)
     if again not in (*RAN, REFUSED):
         raise Complaint(f"the program that writes journals ends with status {again}, and the other with {status}")
-    tables = tables_of(tomllib.loads(text))
+    tables = tables_of(read(text))
     steps = steps_of(journal, script)
     if max((step.tick for step in steps), default=0) != len(outputs_of(report)):
         raise Complaint("the journal has another number of ticks than the report: the programs don't belong together")
@@ -127,8 +126,7 @@ def take(parser: argparse.ArgumentParser) -> None:
     rates = "run over a channel that does so to so many of 10,000 frames, and of 10,000 pulls gives so many late"
     parser.add_argument("--rates", type=int, nargs=4, metavar=("LOSE", "ALTER", "REPEAT", "LATE"), help=rates)
     parser.add_argument("--fresh", action="store_true", help="give each end its next session id before each tick")
-    lab = "the proved program that writes journals; else GATEPAST_LAB names it, else it is the one that is built here"
-    parser.add_argument("--lab", metavar="FILE", help=lab)
+    parser.add_argument("--lab", metavar="FILE", help=LAB)
     schedules = "write what happened to each connection as a file for replay, connection_1.pair and so on"
     parser.add_argument("--schedules", metavar="FOLDER", help=schedules)
 
@@ -147,8 +145,8 @@ def told(done: Ran, status: int, text: str, fresh: bool) -> Iterator[str]:
 def connections_of(text: str) -> int:
     """How many connections a configuration has; none if the program refuses it."""
     try:
-        return len(tables_of(tomllib.loads(text)).get("connection", []))
-    except tomllib.TOMLDecodeError:
+        return len(tables_of(read(text)).get("connection", []))
+    except Complaint:
         return 0
 
 

@@ -7,6 +7,7 @@ import subprocess
 from dataclasses import dataclass
 
 TOP = pathlib.Path(__file__).resolve().parents[2]
+LAB = "the proved program that writes journals; else GATEPAST_LAB names it, else it is the one that is built here"
 LAST = ("bound", "config", "conforms", "desk", "events", "frame", "other", "out", "refused", "usage:")  # of a report
 
 

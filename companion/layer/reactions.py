@@ -3,9 +3,9 @@ from __future__ import annotations
 
 import json
 import re
-import tomllib
 from collections import Counter
 from concurrent.futures import ProcessPoolExecutor
+from contextlib import suppress
 from dataclasses import dataclass
 from functools import partial, reduce
 from operator import add
@@ -17,7 +17,7 @@ from layer.journal import bit_of
 from layer.net import Net
 from layer.program import Complaint, Tool
 from layer.script import Line, text_of
-from layer.toml_lines import lines_of, tables_of
+from layer.toml_lines import lines_of, read, tables_of
 
 Tables = dict[str, list[dict[str, Any]]]
 MOST_SEEDS = 10_000
@@ -135,8 +135,8 @@ def with_key(text: str, key: str, value: int | str) -> str:
     """A configuration with another value of a key of the plant; one that the program refuses stays as it is."""
     shown = json.dumps(value)
     try:
-        wanted = tomllib.loads(text)
-    except tomllib.TOMLDecodeError:
+        wanted = read(text)
+    except Complaint:
         return text
     place, lines = lines_of(text).get(("plant", 1, key)), text.split("\n")
     if place:
@@ -144,10 +144,12 @@ def with_key(text: str, key: str, value: int | str) -> str:
     elif head := lines_of(text).get(("plant", 1, "")):
         lines.insert(head, f"{key} = {shown}")
     changed = "\n".join(lines)
-    if "plant" in wanted and tomllib.loads(changed) != wanted | {"plant": wanted["plant"] | {key: value}}:
-        how = "write it in a line of its own under [plant]"
-        raise Complaint(f"the {key} of the configuration can't be replaced: {how}")
-    return changed
+    if not isinstance(wanted.get("plant"), dict):
+        return text
+    with suppress(Complaint):
+        if read(changed) == wanted | {"plant": wanted["plant"] | {key: value}}:
+            return changed
+    raise Complaint(f"the {key} of the configuration can't be replaced: write it in a line of its own under [plant]")
 
 
 def with_file(tool: Tool, configuration: str, script: str, word: str, rates: Iterable[int]) -> tuple[int, str]:
@@ -171,7 +173,7 @@ def reactions_with(
     if status > 1:
         raise Complaint(f"with seed {seed} the program ends with status {status}: {report.splitlines()[-1]}")
     ticks = outputs_of(report)
-    return status, [seen_of(bound, script, ticks) for bound in tables_of(tomllib.loads(text)).get("bound", [])]
+    return status, [seen_of(bound, script, ticks) for bound in tables_of(read(text)).get("bound", [])]
 
 
 def over_seeds(

@@ -16,12 +16,13 @@ import sys
 import threading
 import time
 import webbrowser
+from contextlib import suppress
 from http.server import BaseHTTPRequestHandler
 from socketserver import TCPServer, ThreadingMixIn
 from tempfile import TemporaryDirectory
 from typing import Any
 
-from layer.program import TOP, Complaint, Tool, lab_of
+from layer.program import LAB, TOP, Complaint, Tool, lab_of
 
 HELP = "serves the page on this machine, to see plants live"
 HOST = "127.0.0.1"
@@ -30,9 +31,10 @@ HEAD = '<html lang="en"'  # of the page, which learns here that it is served
 MOST = 1 << 20  # bytes of a request
 DROPPED = 8 * MOST  # that are read of a larger one
 RUN_SECONDS = 20
-WAIT_SECONDS = 10  # that a request waits for another one's run
-PATIENCE = 10  # seconds for the bytes of a request
+WAIT_SECONDS = RUN_SECONDS + 2  # that a request waits for another one's run
+PATIENCE = 10  # seconds without a byte of a request
 REFUSED = 2  # the companion's status for what was given
+ENDING = (signal.SIGINT, signal.SIGTERM, signal.SIGHUP)  # Ctrl-C, kill, and the end of the terminal
 POLICY = (  # scripts and styles are in the page itself, which fetches from this server alone
     "default-src 'none'; script-src 'unsafe-inline' 'wasm-unsafe-eval'; style-src 'unsafe-inline'; img-src data:; "
     "connect-src 'self'; form-action 'none'; base-uri 'none'; frame-ancestors 'none'"
@@ -69,32 +71,38 @@ class Runs:
         self.environment = os.environ | {"GATEPAST_TOOL": program, "GATEPAST_LAB": lab, "PYTHONUTF8": "1"}
         self.turn = threading.Lock()
         self.running: subprocess.Popen | None = None
+        self.over = False
 
     def stop(self) -> None:
-        """Ends the run with all that it started."""
-        run = self.running
-        if run and run.poll() is None:
-            os.killpg(run.pid, signal.SIGKILL)
+        """Ends all that the run started, also if itself it has ended."""
+        run, self.running = self.running, None
+        if run:
+            with suppress(OSError):  # nothing of it is left
+                os.killpg(run.pid, signal.SIGKILL)
+
+    def end(self) -> None:
+        """Ends the run, and begins no other one. Its folder is removed then."""
+        self.over = True
+        self.stop()
+        self.turn.acquire(timeout=PATIENCE)
 
     def said(self, folder: str, until: float, *words: str) -> dict[str, Any]:
         """Status and lines of a command."""
         command = [sys.executable, "-B", TOP / "companion" / "gatepast", *words]
         pipes = {"stdin": subprocess.DEVNULL, "stdout": subprocess.PIPE, "stderr": subprocess.STDOUT}
+        environment = self.environment | {"TMPDIR": folder}  # a run that is ended removes no file of its own
         with subprocess.Popen(
-            command, cwd=folder, env=self.environment, start_new_session=True, encoding="utf-8", **pipes
-        ) as self.running:
+            command, cwd=folder, env=environment, start_new_session=True, encoding="utf-8", errors="replace", **pipes
+        ) as run:
+            self.running = run
             try:
-                text, _ = self.running.communicate(timeout=max(0, until - time.monotonic()))
+                text, _ = run.communicate(timeout=0 if self.over else max(0, until - time.monotonic()))
             except subprocess.TimeoutExpired:
-                self.stop()
                 why = f"a run may take {RUN_SECONDS} seconds here, and this one was ended"
                 return {"status": REFUSED, "lines": [f"{why}: take fewer ticks or connections"]}
             finally:
                 self.stop()
-        return {
-            "status": self.running.returncode,
-            "lines": [line.removeprefix("gatepast: ") for line in text.splitlines()],
-        }
+        return {"status": run.returncode, "lines": [line.removeprefix("gatepast: ") for line in text.splitlines()]}
 
     def answer(self, asked: dict[str, Any]) -> dict[str, Any]:
         """What `check` says of a configuration and, if that is taken, what `plant` says and makes of the run."""
@@ -103,6 +111,8 @@ class Runs:
         try:
             with TemporaryDirectory(dir=self.folder) as folder:
                 return self.answer_in(pathlib.Path(folder), asked, time.monotonic() + RUN_SECONDS)
+        except OSError as why:
+            raise Refusal(500, f"the plant can't be run: {why}") from why
         finally:
             self.turn.release()
 
@@ -134,15 +144,11 @@ class Server(ThreadingMixIn, TCPServer):
         super().__init__((HOST, port), Handler)
         self.host = f"{HOST}:{self.server_address[1]}"
         self.runs, self.token = runs, secrets.token_urlsafe()
-
-    @property
-    def address(self) -> str:
-        """Where the page is."""
-        return f"http://{self.host}/{self.token}/"
+        self.address = f"http://{self.host}/{self.token}/"
 
     def handle_error(self, _request: Any, _address: Any) -> None:
         """A browser that goes away needs no answer; all else is told."""
-        if not isinstance(sys.exc_info()[1], OSError):
+        if not isinstance(sys.exc_info()[1], (ConnectionError, TimeoutError)):
             print(f"gatepast: a request failed: {sys.exc_info()[1]!r}", file=sys.stderr)
 
 
@@ -232,12 +238,13 @@ def port_of(text: str) -> int:
 def take(parser: argparse.ArgumentParser) -> None:
     parser.add_argument("--port", type=port_of, default=0, help="the port; the system chooses one if it isn't given")
     parser.add_argument("--open", action="store_true", help="open the page in the browser")
-    lab = "the proved program that writes journals; else GATEPAST_LAB names it, else it is the one that is built here"
-    parser.add_argument("--lab", metavar="FILE", help=lab)
+    parser.add_argument("--lab", metavar="FILE", help=LAB)
 
 
 def ended(*_: Any) -> None:
-    """What a request of the system to end does."""
+    """What the first request of the system to end does. No other one breaks off what is removed then."""
+    for name in ENDING:
+        signal.signal(name, signal.SIG_IGN)
     raise KeyboardInterrupt
 
 
@@ -245,9 +252,10 @@ def run(given: argparse.Namespace, tool: Tool) -> int:
     program, lab = tool.command()[0], lab_of(given.lab).command()[0]
     if not PAGE.exists():
         raise Complaint(f"no page at {PAGE}")
-    for name in (signal.SIGINT, signal.SIGTERM):
-        signal.signal(name, ended)
     try:
+        for name in ENDING:
+            if name != signal.SIGHUP or signal.getsignal(name) != signal.SIG_IGN:  # nohup ignores it
+                signal.signal(name, ended)
         with TemporaryDirectory(ignore_cleanup_errors=True) as folder:
             serve(Runs(program, lab, folder), given.port, given.open)
     except KeyboardInterrupt:
@@ -269,4 +277,4 @@ def serve(runs: Runs, port: int, opened: bool) -> None:
                 webbrowser.open(server.address)
             server.serve_forever()
         finally:
-            runs.stop()
+            runs.end()

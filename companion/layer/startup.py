@@ -15,10 +15,10 @@ PULLS = 64  # frames that the channel gives in a tick at most
 WAYS = 2  # frames of a connection in a round: the master's, and the answer to it
 
 
-def spoken(word: str, count: int, names: list[str]) -> str:
-    """A word for so many, and their names."""
+def spoken(word: str, names: list[str]) -> str:
+    """A word for one or more, and their names; a range has more."""
     *others, last = names
-    return f"{word}{'s' if count > 1 else ''} {', '.join(others)}{' and ' if others else ''}{last}"
+    return f"{word}{'s' if others or ' ' in last else ''} {', '.join(others)}{' and ' if others else ''}{last}"
 
 
 def connections(numbers: list[int]) -> str:
@@ -29,17 +29,15 @@ def connections(numbers: list[int]) -> str:
             parts.append([])
         parts[-1].append(number)
     names = ([f"{part[0]} to {part[-1]}"] if len(part) > 2 else map(str, part) for part in parts)
-    return spoken("connection", len(numbers), list(chain.from_iterable(names)))
+    return spoken("connection", list(chain.from_iterable(names)))
 
 
 def needed(drive: str, tables: Tables) -> set[int]:
     """The connections that a drive needs: its own, and those whose bits its wire reads. None if nothing drives it."""
     own, app = place_of(drive)[0], tables["plant"][0]["app"]
     wires = {each["out"]: each["from"] for each in tables.get("drive", [])} if app == "net" else {}
-    if app == "mirror":
-        return {own}
     if drive not in wires:
-        return set()
+        return {own} if app == "mirror" else set()
     return {own, *(place_of(bit)[0] for bit in Net(tables.get("block", [])).bits_under(wires[drive]))}
 
 
@@ -53,14 +51,6 @@ def up_together(wanted: set[int], changes: list[Change]) -> int | None:
             if wanted <= up:
                 return change.step.tick
     return None
-
-
-def grouped(found: dict[str, str]) -> dict[str, list[str]]:
-    """The names of which the same is said."""
-    groups: dict[str, list[str]] = {}
-    for name, said in found.items():
-        groups.setdefault(said, []).append(name)
-    return groups
 
 
 def of_drive(drive: str, wanted: set[int], changes: list[Change]) -> str:
@@ -83,10 +73,12 @@ def started(done: Ran) -> Iterator[str]:
         yield f"start: {connections(numbers)} came to Data first in tick {tick}"
     if never := [number for number, at in first.items() if at is None]:
         yield f"start: {connections(never)} never came to Data"
-    wanted = {drive: needed(drive, done.tables) for drive in drives_of(done.tables)}
-    found = {drive: of_drive(drive, links, done.changes) for drive, links in wanted.items() if links}
-    for said, drives in grouped(found).items():
-        yield f"start: {spoken('drive', len(drives), drives)} {said}"
+    found: dict[str, list[str]] = {}  # the drives of which the same is said
+    for drive in drives_of(done.tables):
+        if links := needed(drive, done.tables):
+            found.setdefault(of_drive(drive, links, done.changes), []).append(drive)
+    for said, drives in found.items():
+        yield f"start: {spoken('drive', drives)} {said}"
 
 
 def short_watchdogs(tables: Tables) -> Iterator[str]:

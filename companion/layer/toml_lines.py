@@ -5,6 +5,8 @@ import re
 import tomllib
 from typing import Any
 
+from layer.program import Complaint
+
 TABLE = re.compile(r"\s*(\[\[?)\s*([\w-]+)\s*\]\]?\s*(?:#.*)?")
 KEY = re.compile(r"\s*([\w-]+)\s*=")
 Place = tuple[str, int, str]  # a table, its number from 1, and a key of it or the empty text for the table
@@ -25,6 +27,14 @@ def scanned(text: str) -> dict[Place, int]:
     return found
 
 
+def read(text: str) -> dict[str, Any]:
+    """The document of a configuration, if Python's reader takes it: deep arrays and long numbers it doesn't."""
+    try:
+        return tomllib.loads(text.removeprefix("\ufeff"))
+    except (ValueError, RecursionError) as why:
+        raise Complaint(f"Python's reader says: {why}") from why
+
+
 def tables_of(document: dict[str, Any]) -> dict[str, list[dict[str, Any]]]:
     """The tables of each name; a key outside all tables is one of the table without a name."""
     tables: dict[str, list[dict[str, Any]]] = {}
@@ -41,8 +51,8 @@ def tables_of(document: dict[str, Any]) -> dict[str, list[dict[str, Any]]]:
 def lines_of(text: str) -> dict[Place, int]:
     """The line of each table and key; none where the text is written in another way, such as tables in braces."""
     try:
-        tables = tables_of(tomllib.loads(text))
-    except tomllib.TOMLDecodeError:
+        tables = tables_of(read(text))
+    except Complaint:
         return scanned(text)
     keys = {
         (name, number, key) for name, found in tables.items() for number, table in enumerate(found, 1) for key in table

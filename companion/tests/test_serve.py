@@ -20,6 +20,7 @@ from layer.startup import connections, needed
 EXAMPLE = (TOP / "examples" / "emergency_stop.toml").read_text()
 SCRIPT = (TOP / "examples" / "emergency_stop.script").read_text()
 HOSTILE = EXAMPLE.replace('"perfect"', '"hostile"')
+UP, NEVER = "came to Data first in tick", "connection 2 never came to Data"
 ASKED = {"configuration": EXAMPLE, "script": SCRIPT, "rates": [], "fresh": False}
 
 
@@ -120,9 +121,20 @@ def test_one_run_is_at_a_time(served, monkeypatch):
     assert served.plant()[0] == 200
 
 
-def test_a_run_that_takes_long_is_ended_with_all_that_it_started(tmp_path, monkeypatch):
+@WITH_LAB
+def test_no_configuration_ends_in_a_traceback(tmp_path):
+    conf = tmp_path / "plant.toml"
+    lines = EXAMPLE.replace('"perfect"', '"""perfect"""')
+    for text in ("plant = 1", EXAMPLE + "a = " + "[" * 5000, EXAMPLE + "a = " + "1" * 5000, "\ufeff" + EXAMPLE, lines):
+        conf.write_text(text, encoding="utf-8")
+        for command in (["check", conf], ["plant", conf, "-", "--rates", 1, 1, 1, 1]):
+            assert "Traceback" not in gatepast(*command, text=SCRIPT)[2], text[-20:]
+
+
+@pytest.mark.parametrize("what", ("", "kill -9 $PPID; "))
+def test_a_run_that_takes_long_is_ended_with_all_that_it_started(tmp_path, monkeypatch, what):
     monkeypatch.setattr(serve, "RUN_SECONDS", 1.5)
-    program = script_file(tmp_path / "program", f'echo $$ >"{tmp_path}/pid"; exec sleep 600')
+    program = script_file(tmp_path / "program", f'echo $$ >"{tmp_path}/pid"; {what}exec sleep 600')
     (tmp_path / "runs").mkdir()
     one = Served(tmp_path / "runs", program)
     begun = time.monotonic()
@@ -131,6 +143,8 @@ def test_a_run_that_takes_long_is_ended_with_all_that_it_started(tmp_path, monke
     assert answer["check"]["lines"][0].startswith("a run may take 1.5 seconds here, and this one was ended")
     assert is_ended(int((tmp_path / "pid").read_text()))
     assert not list((tmp_path / "runs").iterdir())
+    (tmp_path / "runs").rmdir()
+    assert one.plant()[0] == 500
 
 
 @WITH_LAB
@@ -162,10 +176,11 @@ def test_what_is_answered_is_what_the_commands_say(tmp_path):
         assert len(answer.get("schedules", [])) == (2 if chart.exists() else 0)
 
 
-@pytest.mark.parametrize("name", (signal.SIGINT, signal.SIGTERM))
-def test_the_server_ends_when_it_is_told(tmp_path, name):
+@pytest.mark.parametrize("name", (signal.SIGINT, signal.SIGTERM, signal.SIGHUP))
+def test_the_server_ends_when_it_is_told_also_twice_and_during_plant(tmp_path, name):
     part, pid = tmp_path / "part", tmp_path / "pid"
-    program = script_file(tmp_path / "program", f'echo $$ >"{part}"; mv "{part}" "{pid}"; exec sleep 600')
+    checked = 'if [ $(wc -l) = 2 ]; then printf "ticks 0\\nother none\\n"; exit 0; fi'
+    program = script_file(tmp_path / "program", f'{checked}; echo $$ >"{part}"; mv "{part}" "{pid}"; exec sleep 600')
     (tmp_path / "temp").mkdir()
     words = [sys.executable, COMPANION / "gatepast", "--program", program, "serve", "--lab", program]
     environment = ENVIRONMENT | {"TMPDIR": str(tmp_path / "temp")}
@@ -178,6 +193,7 @@ def test_the_server_ends_when_it_is_told(tmp_path, name):
         time.sleep(0.05)
     busy = gatepast("--program", program, "serve", "--lab", program, "--port", found[1].split(":")[1])
     assert (busy[0], busy[1]) == (2, "") and "can't be used: Address already in use" in busy[2]
+    run.send_signal(name)
     run.send_signal(name)
     assert run.wait(30) == 0 and (run.stdout.read(), run.stderr.read()) == ("", "")
     assert is_ended(int(pid.read_text())) and not list((tmp_path / "temp").iterdir())
@@ -235,35 +251,20 @@ def test_a_drive_needs_the_connections_of_its_wire():
     (
         (
             "p 1 0500\np 2 0100\nt 2\np 1 0300\nt 2\np 1 0500\nt 2",
-            [
-                "connections 1 and 2 came to Data first in tick 1",
-                "drive o2.0 could run from tick 1 on, and went on first in tick 5",
-            ],
+            f"connections 1 and 2 {UP} 1\ndrive o2.0 could run from tick 1 on, and went on first in tick 5",
         ),
         (
             "cut 1 1\nt 3\ncut 1 0\nt 6",
-            [
-                "connection 2 came to Data first in tick 1",
-                "connection 1 came to Data first in tick 6",
-                "drive o2.0 could run from tick 6 on, and never went on",
-            ],
+            f"connection 2 {UP} 1\nconnection 1 {UP} 6\ndrive o2.0 could run from tick 6 on, and never went on",
         ),
-        (
-            "cut 2 1\nt 3",
-            [
-                "connection 1 came to Data first in tick 1",
-                "connection 2 never came to Data",
-                "drive o2.0 could never run: connection 2 never came to Data",
-            ],
-        ),
+        ("cut 2 1\nt 3", f"connection 1 {UP} 1\n{NEVER}\ndrive o2.0 could never run: {NEVER}"),
     ),
 )
 def test_the_start_is_told(tmp_path, script, wanted):
     conf = tmp_path / "plant.toml"
     conf.write_text(EXAMPLE)
     status, told, _ = gatepast("plant", conf, "-", text=f"fsoe 1 plant\n{script}\nend\n")
-    assert status == 0
-    assert [line.removeprefix("start: ") for line in told.splitlines() if line.startswith("start: ")] == wanted
+    assert status == 0 and re.findall("^start: (.*)", told, re.M) == wanted.split("\n")
 
 
 @WITH_LAB

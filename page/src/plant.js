@@ -40,7 +40,7 @@ const lineIn = (lines, form) => Number(lines.map((line) => form.exec(line)?.[1])
 async function answerOf(asked) {
   try {
     const said = await fetch("plant", { method: "POST", body: JSON.stringify(asked) });
-    return said.ok ? said.json() : { check: { status: 2, lines: [await said.text()] }, plant: NONE };
+    return said.ok ? await said.json() : { check: { status: 2, lines: [await said.text()] }, plant: NONE };
   } catch {
     const why = "The server doesn't answer. Start companion/gatepast serve again, and open the address that it prints.";
     return { check: { status: 2, lines: [why] }, plant: NONE };
