@@ -3,15 +3,14 @@ from __future__ import annotations
 
 from typing import Any
 
-# Which inputs guard a block of a kind: it is guarded if one of them is. An `or` asks for all of its inputs.
+# Which inputs guard a block of a kind: it is guarded if one of them is. An `and` is by any of its inputs, an `or` by all
+# together, and a kind that isn't named here by none.
 GUARDING = {
     "latch": [1],
     "estop": [0],
     "twohand": [0, 1],
     "ondelay": [0],
     "feedback": [0],
-    "const1": [],
-    "offdelay": [],
 }
 
 
@@ -39,8 +38,10 @@ class Net:
         guarded = {bit}
         for number, block in enumerate(self.blocks, 1):
             kind, by = block["kind"], [name in guarded for name in block["ins"]]
-            if kind == "const0" or (
-                all(by) if kind == "or" else any(by[at] for at in GUARDING.get(kind, range(len(by))))
-            ):
+            if kind in ("and", "or"):
+                is_guarded = any(by) if kind == "and" else all(by)
+            else:
+                is_guarded = kind == "const0" or any(by[at] for at in GUARDING.get(kind, ()))
+            if is_guarded:
                 guarded.add(f"b{number}")
         return wire in guarded
