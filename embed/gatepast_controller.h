@@ -58,7 +58,7 @@
  *     with the next data frame of its connection: a delivery's cycle comes before the answer to this delivery. Inputs
  *     are zeros in each state but GP_DATA and after a FailSafeData frame, so a stop that is pressed and a connection
  *     that is lost look the same: let 0 mean stop, and let no 1 that comes back start anything. What a net owes is in
- *     docs/duties.md.
+ *     docs/application.md.
  *
  * Memory
  *     A controller lies in a gp_controller_memory, and what it has for its connections and blocks in a region that the
@@ -142,7 +142,7 @@ enum gp_kind {
     GP_LATCH = 4,     /* set, enable: 1 from a cycle with set on, while enable is 1 */
     GP_ESTOP = 5,     /* input, acknowledgement: 1 from a cycle on in which the acknowledgement rises and the input is 1,
                          while the input stays 1. An acknowledgement that is stuck at 1 rises anew after each loss of its
-                         connection: wire it by two bits and two latches, as in docs/duties.md, "An application" */
+                         connection: wire it by two bits and two latches, as docs/application.md shows */
     GP_TWO_HAND = 6,  /* two buttons: 1 while both are pressed, if neither was before, and then one alone for at most n
                          ticks */
     GP_ON_DELAY = 7,  /* one input: 1 if it has been 1 for n ticks */

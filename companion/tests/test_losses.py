@@ -1,4 +1,4 @@
-"""What losses cost where both ends send again: the formula of docs/duties.md, and a model of its own for all losses."""
+"""What losses cost where both ends send again: the formula of docs/dimensioning.md, and a model of its own for all losses."""
 from collections import deque
 from itertools import islice
 from typing import NamedTuple
