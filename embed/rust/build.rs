@@ -13,20 +13,21 @@ fn main() {
     }
 }
 
-/// Tells packages that depend on this one of which sources and by which compiler the archive is made: by `DEP_GATEPAST_BUILD`
-/// and `DEP_GATEPAST_COMPILER`.
+/// Tells packages that depend on this one version and sum of the sources of which the archive is made, and by which
+/// compiler: by `DEP_GATEPAST_BUILD` and `DEP_GATEPAST_COMPILER`.
 fn tell_build(archive: &Path) {
     let bytes = std::fs::read(archive).unwrap();
     let text = String::from_utf8_lossy(&bytes);
-    let line = text
+    let sources = text
         .match_indices("gatepast ")
-        .filter_map(|(at, _)| text[at..].lines().next())
-        .find(|line| line.contains(" sources "));
+        .map(|(at, _)| text[at..].splitn(5, ' ').take(4).collect::<Vec<_>>())
+        .find(|words| words.len() == 4 && words[2] == "sources")
+        .map(|words| words.join(" "));
     let compiler = match text.contains("built: backend=rattle ") {
         true => "rattle",
         false => "llvm",
     };
-    println!("cargo:build={}", line.unwrap_or("unknown"));
+    println!("cargo:build={}", sources.unwrap_or_default());
     println!("cargo:compiler={compiler}");
 }
 
