@@ -2,17 +2,18 @@
 ghost use Rattle.std.specs.Prelude.{◌≡◌, ◌≤◌, IsTrue, length, option_copied};
 ghost use Rattle.fsoe_base.specs.Lengths.{is_length};
 ghost use Rattle.param_load.specs.Profile.{allows_id};
+ghost use Rattle.param_load.specs.MoveRef.{owned_move};
 ghost use Rattle.param_load.specs.declared.entry.Move.TheVariants as event;
 ghost use Rattle.end_model.specs.Outputs as looking_back;
 ghost use Rattle.end_model.specs.Readiness as model;
 ghost use Rattle.end_model.specs.Setup.{OfMaster, OfSlave, lengths_of, receives, sends};
-ghost use Rattle.end_model.specs.Runs.{profile_of};
+ghost use Rattle.end_model.specs.Runs.{IsProper, profile_of};
 ghost use Rattle.end_core.specs.Core.{setup_of, IsAtRest};
 ghost use Rattle.end_core.specs.Standing.{IsNew, Follows, Answers, Shows};
 
 use fsoe_base::{Did, FrameBuf, Lengths, MOST_DATA, State};
 use master_core::Master;
-use param_load::{MasterSettings, Profile, SlaveSettings, Terms};
+use param_load::{Answer, MasterSettings, MoveRef, Profile, SlaveSettings, Terms};
 use slave_core::Slave;
 
 /// One end of a connection. A master that accepted a frame must have replied before; its `deliver` is one call here.
@@ -80,6 +81,36 @@ impl Core {
         match self {
             Core::Master(master) => master.settings().peer_len(),
             Core::Slave(slave) => slave.settings().peer_len(),
+        }
+    }
+
+    /// Lets this event happen. Writes what the end did, and the frame that it sent, over `answer`.
+    #[tactic(auto, using(crate::proofs::Either::set_answers))]
+    #[inline(always)]
+    pub fn act(&mut self, event: MoveRef<'_>, answer: &mut Answer)
+        requires proper { IsProper (setup_of self.old) (owned_move event) }
+        requires rest { IsAtRest self.old }
+        ensures follows { Follows self.old (owned_move event.entry) self.new }
+        ensures answers { Answers self.old (owned_move event.entry) answer.new.did answer.new.sent }
+        ensures setup { setup_of self.new ≡ setup_of self.old }
+        ensures rest { IsAtRest self.new }
+    {
+        match event {
+            MoveRef::Deliver(frame) => self.deliver_into(frame, &mut answer.did, &mut answer.sent),
+            MoveRef::Tick => self.tick_into(&mut answer.did, &mut answer.sent),
+            MoveRef::Local => answer.did = self.reset(&mut answer.sent),
+            MoveRef::Put(load) => {
+                self.put(load);
+                answer.clear();
+            }
+            MoveRef::Hold(failsafe) => {
+                self.hold(failsafe);
+                answer.clear();
+            }
+            MoveRef::Nonce(id) => {
+                self.nonce(id);
+                answer.clear();
+            }
         }
     }
 

@@ -49,7 +49,9 @@ by_judged : (s : Setup) (e : List Deed) (bytes : List ℕ) (c : Command) (w : Ve
 by_judged s e bytes c _ is (HasOtherLength other) = absurd (other is.is_read.has_length)
 by_judged s e bytes c _ is (IsKept len again) = absurd (is.is_read.is_new again)
 by_judged s e bytes c _ is (FailsTest found fails) = ap Refused (by_test s e bytes c false found is fails refl)
-by_judged s e bytes c _ is (FailsContents found (WrongContents c' _ n read may conn fit test)) = let both : true ≡ false = sym fit ∙ is.does_not_fit in absurd (cc both)
+by_judged s e bytes c _ is (FailsContents found (WrongContents c' _ n read may conn fit test)) =
+    let both : true ≡ false = sym fit ∙ is.does_not_fit in
+    absurd (cc both)
 by_judged s e bytes c _ is (ResetsFrame load frame) = absurd (not_reset s e bytes c is frame.is_read)
 by_judged s e bytes c _ is (IsNext c' load n valid) = let both : true ≡ false = sym valid.does_fit ∙ is.does_not_fit in absurd (cc both)
 

@@ -35,7 +35,9 @@ lone d n = grind arith
 front_by : (c l d b : ℕ) (rest : List ℕ) → 0 < c → first_number (padded (take c (d ∷ b ∷ rest)) l) ≡ if c == 1 then d else d + 256 * b
 front_by zero l d b rest some = absurd (omega arith)
 front_by (suc zero) l d b rest some = lone d (l - 1)
-front_by (suc (suc n)) l d b rest some = let more : (suc (suc n) == 1) ≡ false = grind (arith, nat_tests) in ap (λ one. if one then d else d + 256 * b) (sym more)
+front_by (suc (suc n)) l d b rest some =
+    let more : (suc (suc n) == 1) ≡ false = grind (arith, nat_tests) in
+    ap (λ one. if one then d else d + 256 * b) (sym more)
 
 pub positive : (l : ℕ) → IsTrue (is_length l) → 0 < l
 positive l h = grind arith

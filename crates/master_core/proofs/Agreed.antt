@@ -1,6 +1,7 @@
 -- What each event leaves at the machine is what looking back gives.
-use Rattle.master_core.proofs.Common.{Accepted, Command, Deed, IsProper, IsRun, MasterSettings, Move, OfMaster, State, after, answered_by, code, did_on, kit_of, length-replicate, next_phase, notes_of, on_verdict, phase_in, settles, state_of, view_in, view_of}
-use Rattle.std.proofs.Common.{◌≡◌, ℕ, ◌-◌, ◌<◌, List, [], ◌∷◌, false, refl, sym, subst, arith}
+use Rattle.master_core.proofs.Common.{Accepted, Command, Deed, IsProper, IsRun, MasterSettings, Move, OfMaster, State, after, answered_by, did_on, kit_of, length-replicate, next_phase, notes_of, on_verdict, phase_in, settles, state_of, view_in, view_of}
+use Rattle.std.proofs.Common.{◌≡◌, ℕ, ◌<◌, List, [], ◌∷◌, false, refl, sym, subst, arith}
+use Rattle.fsoe_base.specs.Bytes.{all_zero}
 use Rattle.fsoe_base.specs.declared.command.Command.TheVariants as command
 use Rattle.fsoe_base.specs.declared.command.State.TheVariants as state
 use Rattle.fsoe_base.specs.declared.did.Cause.TheVariants as cause
@@ -22,7 +23,7 @@ passed-agrees state.Session ms e bytes command.Session h k a s = session-passed 
 passed-agrees state.Connection ms e bytes command.Connection h k a s = connection-passed ms e bytes h a s
 passed-agrees state.Parameter ms e bytes command.Parameter h k a s = parameter-passed ms e bytes h a s
 passed-agrees state.Data ms e bytes command.ProcessData h k a s = process-passed ms e bytes a s
-passed-agrees state.Data ms e bytes command.FailSafeData h k a s = failsafe-passed ms e bytes a s
+passed-agrees state.Data ms e bytes command.FailSafeData h k a s = failsafe-passed ms e bytes (all_zero (came ms bytes).load) a s
 passed-agrees p ms e bytes command.Reset h k a s = absurd (k.is_session refl)
 passed-agrees _ ms e bytes _ h k a s = absurd (cc k.is_allowed)
 
@@ -38,7 +39,7 @@ pub agrees : (ms : MasterSettings) (e : List Deed) (m : Move) → Sound ms e →
 agrees ms e (move.Deliver bytes) s proper =
     judged-agrees (state_of (OfMaster ms) e) ms e bytes _ _ (same (state_of (OfMaster ms) e) ms e bytes refl s.in_state) refl s.in_state s
 agrees ms e move.Tick s proper = tick-agrees (state_of (OfMaster ms) e) ms e refl s
-agrees ms e move.Local s proper = resets-agree (state_of (OfMaster ms) e) ms e move.Local false cause.Local (code 0) refl refl s
+agrees ms e move.Local s proper = resets-agree (state_of (OfMaster ms) e) ms e move.Local false cause.Local refl s
 agrees ms e (move.Put load) s proper = record { view = λ r. refl; did = refl; sent = refl; sound = record { in_state = s.in_state; offer_len = proper; young = s.young } }
 agrees ms e (move.Hold failsafe) s proper = record { view = λ r. refl; did = refl; sent = refl; sound = record { in_state = s.in_state; offer_len = s.offer_len; young = s.young } }
 agrees ms e (move.Nonce id) s proper = record { view = λ r. refl; did = refl; sent = refl; sound = record { in_state = s.in_state; offer_len = s.offer_len; young = s.young } }

@@ -1,7 +1,6 @@
 -- What an event leaves at the machine is what looking back gives: where no frame of a session is taken.
-use Rattle.master_core.proofs.Common.{AreBytes, Cause, Code, Deed, Did, Dropped, KitView, MasterSettings, MasterView, Move, OfMaster, Outcome, Phase, State, answered_by, at_limit, at_rest, code_sent, deed_of, dropped, drops, ends, kit_of, later, meets, notes_of, nothing, on_expiry, on_fault, one_more, phase_in, refuses, resets, state_of, tick_of, ticks, view_in, view_of}
+use Rattle.master_core.proofs.Common.{AreBytes, Cause, Code, Deed, Did, Dropped, KitView, MasterSettings, MasterView, Move, OfMaster, Outcome, Phase, State, answered_by, at_limit, at_rest, deed_of, dropped, drops, ends, kit_of, later, meets, notes_of, nothing, on_expiry, on_fault, one_more, phase_in, refuses, resets, state_of, tick_of, ticks, view_in, view_of}
 use Rattle.std.proofs.Common.{◌≡◌, ℕ, suc, ◌+◌, nat_le, List, [], ◌∷◌, length, Bool, true, false, if◌then◌else◌, refl, ap, subst, ◌∙◌, arith}
-use Rattle.seq_chain.specs.Reset.{reset_frame}
 use Rattle.param_load.specs.declared.entry.Move.TheVariants as move
 use Rattle.master_core.proofs.Sound.{Sound}
 
@@ -35,13 +34,13 @@ drop-agrees p ms e bytes because now s = record {
 }
 
 -- the session ends
-pub resets-agree : (p : State) (ms : MasterSettings) (e : List Deed) (m : Move) (passed : Bool) (because : Cause) (x : Code)
-    → kit_of ms (deed_of (OfMaster ms) e m (resets passed because) ∷ e) ≡ kit_of ms e → code_sent because ≡ x.0 → Sound ms e
-    → Agrees ms e m (resets passed because) (answered_by (ends (view_in p ms e) passed because x))
-resets-agree p ms e m passed because x k c s = record {
+pub resets-agree : (p : State) (ms : MasterSettings) (e : List Deed) (m : Move) (passed : Bool) (because : Cause)
+    → kit_of ms (deed_of (OfMaster ms) e m (resets passed because) ∷ e) ≡ kit_of ms e → Sound ms e
+    → Agrees ms e m (resets passed because) (answered_by (ends (view_in p ms e) passed because))
+resets-agree p ms e m passed because k s = record {
   view = λ r. same_master _ _ _ _ _ _ _ k refl refl;
   did = refl;
-  sent = ap (λ (n : ℕ). reset_frame n ms.lengths.master) c;
+  sent = refl;
   sound = record { in_state = refl; offer_len = ap (λ (k : KitView). length k.offer.load) k ∙ s.offer_len; young = ms.some_watchdog };
 }
 

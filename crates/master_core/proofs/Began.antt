@@ -70,7 +70,7 @@ by-code ms e bytes false at h a s = drop-agrees state.Reset ms e bytes why.InRes
 of-code : (p : State) (ms : MasterSettings) (e : List Deed) (bytes : List ℕ) → state_of (OfMaster ms) e ≡ p → SoundAt p ms e → Arrived ms bytes → Sound ms e
     → Agrees ms e (move.Deliver bytes) (on_reset_frame p (OfMaster ms) (came ms bytes).load) (answered_by (machine.on_reset_view (view_in p ms e) (code (first_of (came ms bytes).load)) (came ms bytes)))
 of-code state.Reset ms e bytes at h a s = by-code ms e bytes (first_of (came ms bytes).load == 0) at h a s
-of-code p ms e bytes at h a s = resets-agree p ms e (move.Deliver bytes) false (cause.Peer (code (first_of (came ms bytes).load))) (code 0) refl refl s
+of-code p ms e bytes at h a s = resets-agree p ms e (move.Deliver bytes) false (cause.Peer (code (first_of (came ms bytes).load))) refl s
 
 pub reset_frame-agrees : (p : State) (ms : MasterSettings) (e : List Deed) (bytes : List ℕ) (x : Code) → x ≡ code (first_of (came ms bytes).load) → state_of (OfMaster ms) e ≡ p → SoundAt p ms e → Arrived ms bytes → Sound ms e
     → Agrees ms e (move.Deliver bytes) (on_reset_frame p (OfMaster ms) (came ms bytes).load) (answered_by (machine.on_reset_view (view_in p ms e) x (came ms bytes)))

@@ -7,7 +7,7 @@ pub use Rattle.end_model.proofs.Runs.{deed, run_of_events, same_deed, set_deed}
 pub use Rattle.end_model.specs.Outputs.{is_process}
 pub use Rattle.end_model.specs.Payloads.{pieces, terms}
 pub use Rattle.end_model.specs.Readiness.{told_in, told_terms}
-pub use Rattle.end_model.specs.Step.{code_sent, did_on}
+pub use Rattle.end_model.specs.Step.{did_on}
 pub use Rattle.end_model.specs.Verdict.{unless}
 pub use Rattle.failsafe_io.specs.Offer.{OfferView, data_command, data_load}
 pub use Rattle.fsoe_base.specs.Did.{takes as accepts, resets, takes}

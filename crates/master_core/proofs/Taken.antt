@@ -12,5 +12,5 @@ owing v p = record v { state = record { phase = p; due = Some (record { code = l
 pub taken : (v : MasterView) (f : SessionFrameView) (p : Phase) (r : Result Phase Code) → Ok p ≡ r → accepted_of (owing v p) (record (takes f.command f.frame.load true) { sent = false }) ≡ settles v f r
 taken v f p r h = ap (λ (r : Result Phase Code). settles v f r) h
 
-pub refused : (v w : MasterView) (f : SessionFrameView) (r : Result Phase Code) (x : Code) → Err x ≡ r → w.kit ≡ v.kit → ends w true (cause.Found x) x ≡ settles v f r
-refused v w f r x h k = ap (λ (kit : KitView). ends (record v { kit = kit }) true (cause.Found x) x) k ∙ ap (λ (r : Result Phase Code). settles v f r) h
+pub refused : (v w : MasterView) (f : SessionFrameView) (r : Result Phase Code) (x : Code) → Err x ≡ r → w.kit ≡ v.kit → ends w true (cause.Found x) ≡ settles v f r
+refused v w f r x h k = ap (λ (kit : KitView). ends (record v { kit = kit }) true (cause.Found x)) k ∙ ap (λ (r : Result Phase Code). settles v f r) h

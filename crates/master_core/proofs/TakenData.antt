@@ -4,7 +4,6 @@ use Rattle.std.proofs.Common.{◌≡◌, ℕ, Bool, true, false, List, ◌∷◌
 use Rattle.fsoe_base.specs.declared.command.Command.TheVariants as command
 use Rattle.fsoe_base.specs.declared.command.State.TheVariants as state
 use Rattle.fsoe_base.specs.declared.did.Cause.TheVariants as cause
-use Rattle.fsoe_base.specs.Bytes.{all_zero}
 use Rattle.param_load.specs.declared.entry.Move.TheVariants as move
 use Rattle.master_core.specs.declared.phase.Phase.TheVariants as phase
 use Rattle.master_core.specs.declared.states.InData.{InData}
@@ -68,13 +67,9 @@ process-passed ms e bytes a s =
     takes-agree ms e bytes command.ProcessData (data_outcome ms e bytes command.ProcessData true) (data_after ms e bytes command.ProcessData _ refl refl a s) refl (data_sent ms e bytes command.ProcessData refl s)
 
 -- a FailSafeData frame that passed the tests
-by-zeros : (ms : MasterSettings) (e : List Deed) (bytes : List ℕ) (b : Bool) → Arrived ms bytes → Sound ms e
+pub failsafe-passed : (ms : MasterSettings) (e : List Deed) (bytes : List ℕ) (b : Bool) → Arrived ms bytes → Sound ms e
     → Agrees ms e (move.Deliver bytes) (on_verdict state.Data (OfMaster ms) (judged_contents command.FailSafeData (came ms bytes).load (unless b 0x07))) (data_outcome ms e bytes command.FailSafeData b)
-by-zeros ms e bytes false a s = resets-agree state.Data ms e (move.Deliver bytes) true (cause.Found (code 0x07)) (code 0x07) refl refl s
-by-zeros ms e bytes true a s =
+failsafe-passed ms e bytes false a s = resets-agree state.Data ms e (move.Deliver bytes) true (cause.Found (code 0x07)) refl s
+failsafe-passed ms e bytes true a s =
     takes-agree ms e bytes command.FailSafeData (data_outcome ms e bytes command.FailSafeData true)
     (data_after ms e bytes command.FailSafeData _ refl (ap (λ (n : ℕ). replicate n 0) (sym a.load_len)) a s) refl (data_sent ms e bytes command.FailSafeData refl s)
-
-pub failsafe-passed : (ms : MasterSettings) (e : List Deed) (bytes : List ℕ) → Arrived ms bytes → Sound ms e
-    → Agrees ms e (move.Deliver bytes) (on_verdict state.Data (OfMaster ms) (judged_contents command.FailSafeData (came ms bytes).load (unless (all_zero (came ms bytes).load) 0x07))) (data_outcome ms e bytes command.FailSafeData (all_zero (came ms bytes).load))
-failsafe-passed ms e bytes a s = by-zeros ms e bytes (all_zero (came ms bytes).load) a s

@@ -1,6 +1,6 @@
 -- A frame of the slave's that comes and is taken, and the frame that follows it.
 use Rattle.master_core.proofs.Common.{AreBytes, Chain, Command, Deed, Exchange, MasterSettings, MasterView, OfMaster, Outcome, after_taken, bytes_of, chain_sent, deed_of, frame_len, frame_sent, notes_of, piece_len, takes_frame, taking, view_of}
-use Rattle.std.proofs.Common.{Bool, List, ap, arith, false, if◌then◌else◌, length, nat_le, nat_lt, not, refl, rules, subst, suc, suc-mul, sym, true, zero, ℕ, ◌*◌, ◌+◌, ◌-◌, ◌/◌, ◌<◌, ◌∙◌, ◌∷◌, ◌≡◌}
+use Rattle.std.proofs.Common.{Bool, List, ap, arith, if◌then◌else◌, length, nat_le, nat_lt, not, refl, rules, subst, suc, suc-mul, sym, zero, ℕ, ◌*◌, ◌+◌, ◌-◌, ◌/◌, ◌<◌, ◌∙◌, ◌∷◌, ◌≡◌}
 use Rattle.fsoe_frame.proofs.Places.{Whole, whole}
 use Rattle.param_load.specs.declared.entry.Move.TheVariants as move
 use Rattle.master_core.proofs.SameVerdict.{came}
@@ -63,12 +63,9 @@ exchange_at chain payload piece echo from last = record { session = record { cha
 pub same_exchange : (c c' : Chain) (u u' : List ℕ) (k : ℕ) (b : Bool) (f f' : ℕ) (l l' : List ℕ) → c ≡ c' → u ≡ u' → f ≡ f' → l ≡ l' → exchange_at c u k b f l ≡ exchange_at c' u' k b f' l'
 same_exchange c c' u u' k b f f' l l' h i j g = rw (h, i, j, g) refl
 
--- the first of two, or the second
-pub choose_first : (b : Bool) (x y : List ℕ) → b ≡ true → (if b then x else y) ≡ x
-choose_first b x y h = grind arith
-
-pub choose_second : (b : Bool) (x y : List ℕ) → b ≡ false → (if b then x else y) ≡ y
-choose_second b x y h = grind arith
+-- one of two
+pub chosen : (b c : Bool) (x y : List ℕ) → b ≡ c → (if b then x else y) ≡ (if c then x else y)
+chosen b c x y h = rw h refl
 
 -- how many pieces were sent
 pub positive : (k : ℕ) → 0 < suc k

@@ -10,6 +10,7 @@ use Rattle.fsoe_base.specs.declared.did.Dropped.TheVariants as dropped
 use Rattle.fsoe_base.specs.Did as did
 use Rattle.fsoe_base.specs.Did.{takes, resets}
 use Rattle.fsoe_base.specs.Codes.{local_reset, watchdog_expired}
+use Rattle.fsoe_base.specs.Command.{code}
 use Rattle.fsoe_frame.specs.Parts.{Frame, bytes_of}
 use Rattle.failsafe_io.specs.Timer.{started, expires, ticked}
 use Rattle.param_load.specs.declared.entry.Move.{Move}
@@ -21,6 +22,7 @@ use Rattle.seq_chain.specs.Opened.{opened}
 use Rattle.seq_chain.specs.Reset.{reset_frame}
 use Rattle.seq_chain.specs.SessionFrame.{SessionFrameView}
 use Rattle.end_model.specs.Setup.{OfMaster, sends, receives}
+use Rattle.end_model.specs.Step.{code_sent}
 use Rattle.end_model.specs.Verdict.{is_repeat}
 use Rattle.master_core.specs.declared.phase.Phase.{Phase}
 use Rattle.master_core.specs.declared.phase.Phase.TheVariants as phase
@@ -60,13 +62,13 @@ drops v why = accepted_of v (did.dropped why)
 abbrev pub makes_due : MasterView → Phase → Code → Did → Accepted
 makes_due v p x done = accepted_of (record v { state = record { phase = p; due = Some (record { code = x }) }; timer = started v.kit.settings.watchdog }) (record done { sent = false })
 
--- a session ends, and a Reset frame with the code is due
-abbrev pub ends : MasterView → Bool → Cause → Code → Accepted
-ends v passed why x = makes_due v (phase.Reset no_session) x (resets passed why)
+-- a session ends, and a Reset frame is due
+abbrev pub ends : MasterView → Bool → Cause → Accepted
+ends v passed why = makes_due v (phase.Reset no_session) (code (code_sent why)) (resets passed why)
 
 -- a test fails: in state Reset the frame is dropped, and else the session ends
 abbrev pub refuses : MasterView → Code → Accepted
-refuses v x = if is_reset v.state.phase then drops v dropped.InReset else ends v false (reset_cause.Found x) x
+refuses v x = if is_reset v.state.phase then drops v dropped.InReset else ends v false (reset_cause.Found x)
 
 -- in state Reset the Reset frame with code 0 begins a session, and one with another code is dropped
 abbrev pub begins : MasterView → Code → Frame → Accepted
@@ -74,12 +76,12 @@ begins v x f = if x.0 == 0 then makes_due v (phase.Begin (bytes_of f)) local_res
 
 -- a valid Reset frame: outside state Reset the session ends
 abbrev pub on_reset_view : MasterView → Code → Frame → Accepted
-on_reset_view v x f = if is_reset v.state.phase then begins v x f else ends v false (reset_cause.Peer x) local_reset
+on_reset_view v x f = if is_reset v.state.phase then begins v x f else ends v false (reset_cause.Peer x)
 
 -- a frame that passed the tests, by its contents
 abbrev pub settles : MasterView → SessionFrameView → Result Phase Code → Accepted
 settles v f (Ok p) = makes_due v p local_reset (takes f.command f.frame.load true)
-settles v f (Err x) = ends v true (reset_cause.Found x) x
+settles v f (Err x) = ends v true (reset_cause.Found x)
 
 -- a frame of a session
 abbrev pub on_session : MasterView → SessionFrameView → Option Code → Accepted
@@ -109,16 +111,16 @@ answered_by a = outcome_of (replies a.master) (record a.did { sent = is_due a.ma
 abbrev pub on_frame : MasterView → List ℕ → Outcome
 on_frame v bytes = answered_by (accepted v bytes)
 
--- a session ends, and a Reset frame with the code is sent at once
-abbrev pub falls : MasterView → Cause → Code → Outcome
-falls v why x = answered_by (ends v false why x)
+-- a session ends, and a Reset frame is sent at once
+abbrev pub falls : MasterView → Cause → Outcome
+falls v why = answered_by (ends v false why)
 
 -- the limit is reached: in state Reset the Reset frame with code 0 is sent again
 abbrev pub at_limit : MasterView → Outcome
 at_limit v =
     if is_reset v.state.phase
     then outcome_of (record v { timer = started v.kit.settings.watchdog }) (record did.nothing { sent = true }) (reset_frame 0 (sends (OfMaster v.kit.settings)))
-    else falls v (reset_cause.Found watchdog_expired) watchdog_expired
+    else falls v (reset_cause.Found watchdog_expired)
 
 -- a tick makes the age one more, and expires where that reaches the limit
 abbrev pub tick_of : MasterView → Outcome
@@ -132,7 +134,7 @@ with_kit v kit = outcome_of (record v { kit = kit }) did.nothing []
 abbrev pub after : MasterView → Move → Outcome
 after v (move.Deliver bytes) = on_frame v bytes
 after v move.Tick = tick_of v
-after v move.Local = falls v reset_cause.Local local_reset
+after v move.Local = falls v reset_cause.Local
 after v (move.Put load) = with_kit v (record v.kit { offer = record v.kit.offer { load = load } })
 after v (move.Hold failsafe) = with_kit v (record v.kit { offer = record v.kit.offer { held = failsafe } })
 after v (move.Nonce id) = with_kit v (record v.kit { nonce = id })

@@ -76,7 +76,7 @@ fault settings p f = session_fault (allows p f.command) (has_conn (OfMaster sett
 abbrev pub next_phase : KitView → Phase → SessionFrameView → Result Phase Code
 next_phase kit (phase.Session x) f = next_by (outcome x.download f.frame.load) (phase.Session (answered x f)) (phase.Connection (with_download (answered x f) (connection_download kit.settings)))
 next_phase kit (phase.Connection x) f = next_by (outcome x.download f.frame.load) (phase.Connection (answered x f)) (phase.Parameter (with_download (answered x f) (parameter_download kit.settings)))
-next_phase kit (phase.Parameter x) f = next_by (outcome x.download f.frame.load) (phase.Parameter (answered x f)) (phase.Data (first_data kit (answered x f)))
+next_phase kit (phase.Parameter x) f = next_by (outcome x.download f.frame.load) (phase.Parameter (answered x f)) (phase.Data (first_data kit (answered x f).session))
 next_phase kit (phase.Data s) f = data_next s f
 next_phase kit _ f = Err command_not_allowed
 

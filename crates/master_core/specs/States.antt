@@ -6,6 +6,7 @@ use Rattle.fsoe_base.specs.declared.command.Command.{Command}
 use Rattle.fsoe_base.specs.Codes.{wrong_data}
 use Rattle.seq_chain.specs.Session.{frame_sent, first_session, session_taken, session_sent}
 use Rattle.seq_chain.specs.SessionFrame.{SessionFrameView}
+use Rattle.seq_chain.specs.declared.session.Session.{Session}
 use Rattle.param_load.specs.declared.master_settings.MasterSettings.{MasterSettings}
 use Rattle.param_load.specs.declared.upload.Progress.{Progress}
 use Rattle.param_load.specs.declared.upload.Progress.TheVariants as progress
@@ -52,8 +53,8 @@ abbrev pub with_download : Exchange → DownloadView → Exchange
 with_download x d = record x { download = d }
 
 -- state Data as it is entered
-abbrev pub first_data : KitView → Exchange → InData
-first_data kit x = record { session = x.session; terms = terms_of kit.settings; outputs = replicate (receives (OfMaster kit.settings)) 0 }
+abbrev pub first_data : KitView → Session → InData
+first_data kit session = record { session = session; terms = terms_of kit.settings; outputs = replicate (receives (OfMaster kit.settings)) 0 }
 
 -- by what the download said of an answer, a phase goes on, or the next one begins where the payload is whole
 abbrev pub next_by : Result Progress Code → Phase → Phase → Result Phase Code

@@ -49,6 +49,7 @@
 //! ```
 #![tactic(auto)]
 
+mod acting;
 mod kit;
 pub mod laws;
 mod master;

@@ -1,7 +1,9 @@
 //! The master of a connection.
 ghost use Rattle.std.specs.Prelude.{◌≡◌, false};
 ghost use Rattle.fsoe_base.specs.declared.command.Command.TheVariants as command;
+ghost use Rattle.fsoe_base.specs.Command.{code};
 ghost use Rattle.fsoe_base.specs.Did.{nothing, takes};
+ghost use Rattle.end_model.specs.Step.{code_sent};
 
 use crate::kit::Kit;
 use crate::phase::Phase;
@@ -22,6 +24,16 @@ pub struct Master {
     /// The frame of the phase, while it is still to be sent.
     due: Option<Due>,
     watchdog: Watchdog,
+}
+
+/// The code of the Reset frame that is sent for this cause: that of the fault that was found, else 0.
+fn code_sent(why: Cause) -> Code
+    ensures { result ≡ code (code_sent why) }
+{
+    match why {
+        Cause::Found(code) => code,
+        Cause::Peer(_) | Cause::Local => Code::LOCAL_RESET,
+    }
 }
 
 /// Reports that a Reset frame was taken, and that nothing was sent yet.
@@ -91,18 +103,28 @@ impl Master {
         self.watchdog.restart(limit);
     }
 
-    /// Forgets the session; the Reset frame with this code is due.
+    /// Forgets the session; a Reset frame is due.
     #[cold]
     #[inline(never)]
-    fn end(&mut self, passed: bool, why: Cause, code: Code, did: &mut Did)
-        ensures { accepted_of self.new did.new ≡ ends self.old passed why code }
+    fn end(&mut self, why: Cause, did: &mut Did)
+        ensures { accepted_of self.new did.new ≡ ends self.old false why }
     {
         self.phase = Phase::Reset(InReset(()));
-        self.owe(code);
+        self.owe(code_sent(why));
         *did = Did {
             sent: false,
-            ..Did::reset(passed, why)
+            ..Did::reset(false, why)
         };
+    }
+
+    /// The contents of a frame that passed the tests are wrong.
+    #[cold]
+    #[inline(never)]
+    fn refuse_contents(&mut self, code: Code, did: &mut Did)
+        ensures { accepted_of self.new did.new ≡ ends self.old true (cause.Found code) }
+    {
+        self.end(Cause::Found(code), did);
+        did.passed = true;
     }
 
     /// A test of a frame failed with this code: in state Reset the frame is dropped.
@@ -118,7 +140,7 @@ impl Master {
             did.dropped = Some(Dropped::InReset);
             return;
         }
-        self.end(false, Cause::Found(code), code, did);
+        self.end(Cause::Found(code), did);
     }
 
     /// A valid Reset frame came: in state Reset the one with code 0 begins a session.
@@ -130,14 +152,16 @@ impl Master {
         ensures unsent { did.new.sent ≡ false }
     {
         if !self.phase.is_reset() {
-            return self.end(false, Cause::Peer(code), Code::LOCAL_RESET, did);
+            return self.end(Cause::Peer(code), did);
         }
         if code.0 != 0x00 {
             did.clear();
             did.dropped = Some(Dropped::InReset);
             return;
         }
-        self.phase.begin(view);
+        let mut last = FrameBuf::new();
+        last.set(view.bytes());
+        self.phase = Phase::Begin(last);
         self.owe(Code::LOCAL_RESET);
         tell_reset(view, did);
     }
@@ -148,7 +172,7 @@ impl Master {
     fn take(&mut self, seen: &SessionFrame<'_>, link: Link) -> Result<(), Code>
         requires passed { HasPassed (receives (OfMaster self.old.kit.settings)) (chain_of self.old.state.phase) seen.now link }
         ensures taken { OnOk result (accepted_of self.new (record (takes seen.now.command seen.now.frame.load true) { sent = false }) ≡ settles self.old seen.now (next_phase self.old.kit self.old.state.phase seen.now)) }
-        ensures refused { IfErr result (λ code. ends self.new true (cause.Found code) code ≡ settles self.old seen.now (next_phase self.old.kit self.old.state.phase seen.now)) }
+        ensures refused { IfErr result (λ code. ends self.new true (cause.Found code) ≡ settles self.old seen.now (next_phase self.old.kit self.old.state.phase seen.now)) }
         ensures kit { self.new.kit ≡ self.old.kit }
     {
         self.phase.take(seen, link, &self.kit)?;
@@ -195,7 +219,7 @@ impl Master {
             Ok(link) => link,
         };
         match self.take(&seen, link) {
-            Err(code) => self.end(true, Cause::Found(code), code, did),
+            Err(code) => self.refuse_contents(code, did),
             Ok(()) => {
                 did.tell_taken(true);
                 did.sent = false;
@@ -303,13 +327,13 @@ impl Master {
         self.exchange(frame, did, out);
     }
 
-    /// Forgets the session, and sends the Reset frame with this code at once.
+    /// Forgets the session, and sends a Reset frame at once.
     #[cold]
     #[inline(never)]
-    fn fall(&mut self, why: Cause, code: Code, did: &mut Did, out: &mut FrameBuf)
-        ensures { outcome_of self.new did.new out.new ≡ falls self.old why code }
+    fn fall(&mut self, why: Cause, did: &mut Did, out: &mut FrameBuf)
+        ensures { outcome_of self.new did.new out.new ≡ falls self.old why }
     {
-        self.end(false, why, code, did);
+        self.end(why, did);
         did.sent = true;
         self.send(out);
     }
@@ -332,8 +356,7 @@ impl Master {
             did.sent = true;
             return;
         }
-        let code = Code::WATCHDOG_EXPIRED;
-        self.fall(Cause::Found(code), code, did, out);
+        self.fall(Cause::Found(Code::WATCHDOG_EXPIRED), did, out);
     }
 
     /// Counts a tick; no frame may be due. If the age reaches the watchdog, the session ends with code 05h: the outputs
@@ -373,7 +396,7 @@ impl Master {
         ensures done { is_due self.new.state ≡ false }
     {
         let mut did = Did::nothing();
-        self.fall(Cause::Local, Code::LOCAL_RESET, &mut did, out);
+        self.fall(Cause::Local, &mut did, out);
         did
     }
 

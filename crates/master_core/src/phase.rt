@@ -7,7 +7,6 @@ use crate::kit::Kit;
 use crate::states::{Due, InConnection, InData, InParameter, InReset, InSession};
 use failsafe_io::zeros;
 use fsoe_base::{Code, Command, FrameBuf, MOST_DATA, State};
-use fsoe_frame::FrameView;
 use param_load::{MasterSettings, Progress, Terms};
 use seq_chain::{Link, Session, SessionFrame, reset_frame, test_session};
 use std::mem;
@@ -35,16 +34,14 @@ fn has_conn(settings: &MasterSettings, command: Command, field: u16) -> bool
 }
 
 impl Phase {
-    ghost use Rattle.std.specs.Prelude.{◌≡◌, ◌≢◌, ◌≤◌, length, IsTrue, None, Some, Ok, is_some, IfOk, option_copied};
+    ghost use Rattle.std.specs.Prelude.{◌≡◌, ◌≢◌, ◌≤◌, length, None, Some, Ok, IfOk, option_copied};
     ghost use Rattle.std.specs.Result.{result_and, result_err};
-    ghost use Rattle.fsoe_frame.specs.Parts.{bytes_of};
     ghost use Rattle.seq_chain.specs.Session.{tested, HasPassed};
     ghost use Rattle.fsoe_base.specs.declared.command.State.TheVariants as state;
     ghost use Rattle.master_core.specs.declared.states.Due.{Due};
-    ghost use Rattle.master_core.specs.declared.states.Exchange.{Exchange};
     ghost use Rattle.master_core.specs.declared.phase.Phase.TheVariants as phase;
     ghost use Rattle.master_core.specs.Kit.{connection_download, parameter_download};
-    ghost use Rattle.master_core.specs.States.{with_download, first_data};
+    ghost use Rattle.master_core.specs.States.{first_data};
     ghost use Rattle.seq_chain.specs.Opened.{is_repeat};
     ghost use Rattle.end_model.specs.Setup.{OfMaster, receives};
     ghost use Rattle.master_core.specs.Phase.{IsUnder, state_of, is_reset, session_of, chain_of, kept_in, allows, fault, next_phase, sent_phase, due_frame, outputs_in, terms_in};
@@ -138,56 +135,31 @@ impl Phase {
     // A function clears the room of all its locals, so that each change of phase, which makes a state, has one of its
     // own.
 
-    /// This Reset frame begins a session; it is kept as the last frame that was taken.
+    /// Goes on to state Connection with this session.
     #[inline(never)]
-    pub(crate) fn begin(&mut self, reset: &FrameView<'_>)
-        ensures { self.new ≡ phase.Begin (bytes_of reset.now) }
-    {
-        *self = Phase::Begin(FrameBuf::new());
-        let Phase::Begin(last) = self else {
-            unreachable!();
-        };
-        last.set(reset.bytes());
-    }
-
-    /// Goes on to state Connection after the last answer in state Session.
-    #[inline(never)]
-    fn begin_connection(&mut self, kit: &Kit)
-        requires name_is { state_of self.old ≡ state.Session }
-        requires begun { IsTrue (is_some (session_of self.old)) }
-        ensures next { (e : Exchange) → self.old ≡ phase.Session e → self.new ≡ phase.Connection (with_download e (connection_download kit.now.settings)) }
+    fn begin_connection(&mut self, session: Session, kit: &Kit)
+        ensures next { self.new ≡ phase.Connection (record { session = session; download = connection_download kit.now.settings }) }
         ensures under { IsUnder kit.now.settings self.new }
     {
-        let Phase::Session(state) = self else {
-            unreachable!();
-        };
-        *self = Phase::Connection(state.to_connection(kit));
+        *self = Phase::Connection(InConnection::begin(session, kit));
     }
 
-    /// Goes on to state Parameter after the last answer in state Connection.
+    /// Goes on to state Parameter with this session.
     #[inline(never)]
-    fn begin_parameter(&mut self, kit: &Kit)
-        requires { state_of self.old ≡ state.Connection }
-        ensures next { (e : Exchange) → self.old ≡ phase.Connection e → self.new ≡ phase.Parameter (with_download e (parameter_download kit.now.settings)) }
+    fn begin_parameter(&mut self, session: Session, kit: &Kit)
+        ensures next { self.new ≡ phase.Parameter (record { session = session; download = parameter_download kit.now.settings }) }
         ensures under { IsUnder kit.now.settings self.new }
     {
-        let Phase::Connection(state) = self else {
-            unreachable!();
-        };
-        *self = Phase::Parameter(state.to_parameter(kit));
+        *self = Phase::Parameter(InParameter::begin(session, kit));
     }
 
-    /// Goes on to state Data after the last answer in state Parameter.
+    /// Goes on to state Data with this session.
     #[inline(never)]
-    fn begin_data(&mut self, kit: &Kit)
-        requires { state_of self.old ≡ state.Parameter }
-        ensures next { (e : Exchange) → self.old ≡ phase.Parameter e → self.new ≡ phase.Data (first_data kit.now e) }
+    fn begin_data(&mut self, session: Session, kit: &Kit)
+        ensures next { self.new ≡ phase.Data (first_data kit.now session) }
         ensures under { IsUnder kit.now.settings self.new }
     {
-        let Phase::Parameter(state) = self else {
-            unreachable!();
-        };
-        *self = Phase::Data(state.to_data(kit));
+        *self = Phase::Data(InData::begin(session, kit));
     }
 
     /// Takes an answer outside state Data. It is a call of its own, so that a data frame doesn't bear the cost of a
@@ -201,20 +173,30 @@ impl Phase {
         ensures under { IsUnder kit.now.settings self.new }
     {
         match self {
-            Phase::Reset(_) | Phase::Begin(_) => return Err(Code::COMMAND_NOT_ALLOWED),
+            Phase::Reset(_) | Phase::Begin(_) | Phase::Data(_) => {
+                return Err(Code::COMMAND_NOT_ALLOWED);
+            }
             Phase::Session(state) => match state.exchange.take(seen, link, kit)? {
                 Progress::More => {}
-                Progress::Whole => self.begin_connection(kit),
+                Progress::Whole => {
+                    let session = state.exchange.leave();
+                    self.begin_connection(session, kit);
+                }
             },
             Phase::Connection(state) => match state.exchange.take(seen, link, kit)? {
                 Progress::More => {}
-                Progress::Whole => self.begin_parameter(kit),
+                Progress::Whole => {
+                    let session = state.exchange.leave();
+                    self.begin_parameter(session, kit);
+                }
             },
             Phase::Parameter(state) => match state.exchange.take(seen, link, kit)? {
                 Progress::More => {}
-                Progress::Whole => self.begin_data(kit),
+                Progress::Whole => {
+                    let session = state.exchange.leave();
+                    self.begin_data(session, kit);
+                }
             },
-            Phase::Data(_) => unreachable!(),
         }
         Ok(())
     }

@@ -8,7 +8,7 @@ ghost use Rattle.seq_chain.specs.Session.{HasPassed};
 ghost use Rattle.end_model.specs.Setup.{OfMaster, receives};
 ghost use Rattle.master_core.specs.declared.phase.Phase.TheVariants as phase;
 ghost use Rattle.master_core.specs.Kit.{connection_download, parameter_download};
-ghost use Rattle.master_core.specs.States.{piece_sent, piece_frame, first_exchange, answered, with_download, first_data, data_next, data_sent, data_frame, ExchangeUnder, DataUnder};
+ghost use Rattle.master_core.specs.States.{piece_sent, piece_frame, first_exchange, answered, first_data, data_next, data_sent, data_frame, ExchangeUnder, DataUnder};
 
 use crate::kit::Kit;
 use failsafe_io::{Outputs, data_holds};
@@ -105,6 +105,13 @@ impl Exchange {
         Ok(progress)
     }
 
+    /// The session, for the next state. This exchange must only be left.
+    pub(crate) fn leave(&mut self) -> Session
+        ensures { result ≡ self.old.session }
+    {
+        mem::replace(&mut self.session, Session::new())
+    }
+
     /// Sends the current piece. It isn't inlined, so that the sending of a data frame needs no room for it.
     #[inline(never)]
     pub(crate) fn send(&mut self, command: Command, conn: u16, kit: &Kit, out: &mut FrameBuf)
@@ -133,14 +140,15 @@ impl InSession {
             },
         }
     }
+}
 
-    /// State Connection of this session, before anything of its payload was sent. This state must only be left.
-    pub(crate) fn to_connection(&mut self, kit: &Kit) -> InConnection
-        ensures next { result ≡ with_download self.old (connection_download kit.now.settings) }
+impl InConnection {
+    /// State Connection of this session, before anything of its payload was sent.
+    pub(crate) fn begin(session: Session, kit: &Kit) -> InConnection
+        ensures next { result ≡ record { session = session; download = connection_download kit.now.settings } }
         ensures under { ExchangeUnder kit.now.settings result }
     {
         let settings = &kit.settings;
-        let session = mem::replace(&mut self.exchange.session, Session::new());
         let payload = Payload::connection(settings.conn(), settings.address());
         let download = Download::new(payload, settings.piece_len(), true);
         InConnection {
@@ -149,14 +157,13 @@ impl InSession {
     }
 }
 
-impl InConnection {
-    /// State Parameter of this session, before anything of its payload was sent. This state must only be left.
-    pub(crate) fn to_parameter(&mut self, kit: &Kit) -> InParameter
-        ensures next { result ≡ with_download self.old (parameter_download kit.now.settings) }
+impl InParameter {
+    /// State Parameter of this session, before anything of its payload was sent.
+    pub(crate) fn begin(session: Session, kit: &Kit) -> InParameter
+        ensures next { result ≡ record { session = session; download = parameter_download kit.now.settings } }
         ensures under { ExchangeUnder kit.now.settings result }
     {
         let settings = &kit.settings;
-        let session = mem::replace(&mut self.exchange.session, Session::new());
         let parameters = Payload::parameter(
             settings.watchdog(),
             settings.profile(),
@@ -169,21 +176,19 @@ impl InConnection {
     }
 }
 
-impl InParameter {
-    /// State Data of this session as it is entered, with zeros as outputs. This state must only be left.
-    pub(crate) fn to_data(&mut self, kit: &Kit) -> InData
-        ensures next { result ≡ first_data kit.now self.old }
+impl InData {
+    /// State Data of this session as it is entered, with zeros as outputs.
+    pub(crate) fn begin(session: Session, kit: &Kit) -> InData
+        ensures next { result ≡ first_data kit.now session }
         ensures under { DataUnder kit.now.settings result }
     {
         InData {
-            session: mem::replace(&mut self.exchange.session, Session::new()),
+            session,
             terms: kit.settings.terms(),
             outputs: Outputs::new(kit.settings.peer_len()),
         }
     }
-}
 
-impl InData {
     /// Accepts the next data frame, in place. Refused with 07h if a FailSafeData frame has a byte that isn't 0; then
     /// nothing is changed.
     #[inline(always)]

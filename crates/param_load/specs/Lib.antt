@@ -3,6 +3,7 @@ pub mod Contents
 pub mod Download
 pub mod DownloadView
 pub mod MasterSettings
+pub mod MoveRef
 pub mod Payload
 pub mod Profile
 pub mod SameConn

@@ -1,5 +1,5 @@
 -- What each event leaves at the machine is what looking back gives.
-use Rattle.slave_core.proofs.Common.{Command, Deed, Did, InData, IsProper, IsRun, Move, Notes, Now, OfSlave, Outcome, SlaveSettings, State, Terms, after, code, deed_of, did_on, entered, is_whole, keeps, kit_of, length-replicate, next_in, nonce, notes_of, now_in, on_verdict, parameters, reply_in, rule_len, running, session_of, settles, slave-run, slave_conn, state_of, terms, upload_fault, upload_of, view_in, view_of, whole, whole_parameters}
+use Rattle.slave_core.proofs.Common.{Command, Deed, Did, InData, IsProper, IsRun, Move, Notes, Phase, OfSlave, Outcome, SlaveSettings, State, Terms, after, deed_of, did_on, entered, is_whole, keeps, kit_of, length-replicate, next_in, nonce, notes_of, phase_in, on_verdict, parameters, reply_in, rule_len, running, session_of, settles, slave-run, slave_conn, state_of, terms, upload_fault, upload_of, view_in, view_of, whole, whole_parameters}
 use Rattle.std.proofs.Common.{◌≡◌, ℕ, ◌<◌, ◌≤◌, List, [], ◌∷◌, length, replicate, Bool, true, false, not, Option, Some, unwrap_or, if◌then◌else◌, refl, sym, ap, subst, ◌∙◌, arith, rules}
 use Rattle.std.proofs.lemmas.Bool.{leb-true, eqb-true}
 use Rattle.fsoe_base.specs.declared.command.Command.TheVariants as command
@@ -10,7 +10,7 @@ use Rattle.param_load.specs.declared.contents.Expected.TheVariants as expected
 use Rattle.param_load.specs.declared.entry.Move.TheVariants as move
 use Rattle.end_model.specs.Verdict as model
 use Rattle.end_model.proofs.SoundRuns.{loaded}
-use Rattle.slave_core.specs.declared.now.Now.TheVariants as now
+use Rattle.slave_core.specs.declared.phase.Phase.TheVariants as phase
 use Rattle.slave_core.proofs.Sound.{OfSession, OfConnection, OfParameters, count_of, Sound, SoundAt}
 use Rattle.slave_core.proofs.SameVerdict.{came, seen, Came, Same, Drops, Refuses, ByReset, Passes, same}
 use Rattle.slave_core.proofs.Agrees.{Agrees, drop-agrees, resets-agree, fault-agrees, reset_frame-agrees, tick-agrees}
@@ -19,15 +19,15 @@ use Rattle.slave_core.proofs.TakenHandshake.{connection-agrees, connection_settl
 use Rattle.slave_core.proofs.TakenData.{process-agrees, failsafe-agrees}
 
 -- a phase that is whole is left, and one that isn't goes on
-abbrev AgreesIn : State → SlaveSettings → List Deed → List ℕ → Command → Did → Now → Type 0
+abbrev AgreesIn : State → SlaveSettings → List Deed → List ℕ → Command → Did → Phase → Type 0
 AgreesIn p ss e bytes c d n =
     Agrees ss e (move.Deliver bytes) d
     (settles (view_in p ss e) (seen ss bytes c) (reply_in (kit_of ss e) n (seen ss bytes c)) (next_in (kit_of ss e) n (seen ss bytes c)))
 
-whole-branch : (p : State) (ss : SlaveSettings) (e : List Deed) (bytes : List ℕ) (c : Command) (d : Did) (n m : Now) (b : Bool) → b ≡ true → AgreesIn p ss e bytes c d n → AgreesIn p ss e bytes c d (if b then n else m)
+whole-branch : (p : State) (ss : SlaveSettings) (e : List Deed) (bytes : List ℕ) (c : Command) (d : Did) (n m : Phase) (b : Bool) → b ≡ true → AgreesIn p ss e bytes c d n → AgreesIn p ss e bytes c d (if b then n else m)
 whole-branch p ss e bytes c d n m b h k = rw h k
 
-more-branch : (p : State) (ss : SlaveSettings) (e : List Deed) (bytes : List ℕ) (c : Command) (d : Did) (n m : Now) (b : Bool) → not b ≡ true → AgreesIn p ss e bytes c d m → AgreesIn p ss e bytes c d (if b then n else m)
+more-branch : (p : State) (ss : SlaveSettings) (e : List Deed) (bytes : List ℕ) (c : Command) (d : Did) (n m : Phase) (b : Bool) → not b ≡ true → AgreesIn p ss e bytes c d m → AgreesIn p ss e bytes c d (if b then n else m)
 more-branch p ss e bytes c d n m true h k = absurd (cc h)
 more-branch p ss e bytes c d n m false h k = k
 
@@ -35,7 +35,7 @@ more-branch p ss e bytes c d n m false h k = k
 abbrev Passed : State → SlaveSettings → List Deed → List ℕ → Command → Type 0
 Passed p ss e bytes c =
     AgreesIn p ss e bytes c (on_verdict p (OfSlave ss) (model.judged_contents c (came ss bytes).load (model.contents (OfSlave ss) e c (came ss bytes))))
-    (entered (kit_of ss e) (now_in p ss (notes_of ss e)) (seen ss bytes c))
+    (entered (kit_of ss e) (phase_in p ss (notes_of ss e)) (seen ss bytes c))
 
 -- the deed of such a frame ends a run
 abbrev RunOn : State → SlaveSettings → List Deed → List ℕ → Command → Type 0
@@ -116,12 +116,12 @@ data_at ss e t = record { session = session_of (notes_of ss e); terms = t; outpu
 
 -- data begin once these are whole
 runs-passed : (ss : SlaveSettings) (e : List Deed) (bytes : List ℕ) (d : Did) (c : Command) → IsRun (OfSlave ss) e → OfParameters ss (notes_of ss e) → is_whole (upload_of ss (expected.Parameter ss.most (rule_len ss.rule) ss.profile) (notes_of ss e).parameter) ≡ true
-    → (whole ss.profile state.Parameter (parameters ss e) ≡ true → AgreesIn state.Parameter ss e bytes c d (now.Data (data_at ss e (terms (OfSlave ss) e))))
-    → AgreesIn state.Parameter ss e bytes c d (entered (kit_of ss e) (now_in state.Parameter ss (notes_of ss e)) (seen ss bytes c))
+    → (whole ss.profile state.Parameter (parameters ss e) ≡ true → AgreesIn state.Parameter ss e bytes c d (phase.Data (data_at ss e (terms (OfSlave ss) e))))
+    → AgreesIn state.Parameter ss e bytes c d (entered (kit_of ss e) (phase_in state.Parameter ss (notes_of ss e)) (seen ss bytes c))
 runs-passed ss e bytes d c run h k agrees =
     let w : whole ss.profile state.Parameter (parameters ss e) ≡ true = whole_parameters ss e run ∙ k in
     whole-branch state.Parameter ss e bytes c _ _ _ (is_whole (upload_of ss (expected.Parameter ss.most (rule_len ss.rule) ss.profile) (notes_of ss e).parameter)) k
-    (subst (λ (t : Terms). AgreesIn state.Parameter ss e bytes c d (now.Data (data_at ss e t))) (sym (terms-are ss e run h w)) (agrees w))
+    (subst (λ (t : Terms). AgreesIn state.Parameter ss e bytes c d (phase.Data (data_at ss e t))) (sym (terms-are ss e run h w)) (agrees w))
 
 -- a frame that passed its tests
 passed-agrees : (p : State) (ss : SlaveSettings) (e : List Deed) (bytes : List ℕ) (c : Command) → state_of (OfSlave ss) e ≡ p → Sound ss e → SoundAt p ss e → Came p ss e bytes c → Arrived ss bytes c → IsRun (OfSlave ss) e → RunOn p ss e bytes c
@@ -151,7 +151,7 @@ pub agrees : (ss : SlaveSettings) (e : List Deed) (m : Move) → Sound ss e → 
 agrees ss e (move.Deliver bytes) s run proper =
     judged-agrees (state_of (OfSlave ss) e) ss e bytes _ _ (same (state_of (OfSlave ss) e) ss e bytes refl s.in_state (whole_parameters ss e run)) refl s s.in_state run (record { proper = tt; stepped = refl }, run)
 agrees ss e move.Tick s run proper = tick-agrees (state_of (OfSlave ss) e) ss e refl s
-agrees ss e move.Local s run proper = resets-agree (state_of (OfSlave ss) e) ss e move.Local false cause.Local (code 0) refl refl s
+agrees ss e move.Local s run proper = resets-agree (state_of (OfSlave ss) e) ss e move.Local false cause.Local refl s
 agrees ss e (move.Put load) s run proper = record { view = λ r. refl; did = refl; sent = refl; sound = record { in_state = s.in_state; offer_len = proper; young = s.young } }
 agrees ss e (move.Hold failsafe) s run proper = record { view = λ r. refl; did = refl; sent = refl; sound = record { in_state = s.in_state; offer_len = s.offer_len; young = s.young } }
 agrees ss e (move.Nonce id) s run proper = record { view = λ r. refl; did = refl; sent = refl; sound = record { in_state = s.in_state; offer_len = s.offer_len; young = s.young } }

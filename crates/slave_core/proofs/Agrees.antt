@@ -1,11 +1,10 @@
 -- What an event leaves at the machine is what looking back gives: where nothing is taken.
-use Rattle.slave_core.proofs.Common.{AreBytes, Code, Deed, Did, Dropped, KitView, Move, Now, OfSlave, Outcome, SlaveSettings, SlaveView, State, code, code_sent, deed_of, dropped, drops, falls, first_of, kit_of, later, limit, meets, notes_of, nothing, now_in, on_expiry, on_fault, on_reset_frame, one_more, quiet, refuses, reset_by_peer, resets, slave_age, slave_limit, state_of, tick_in_session, tick_of, ticks, view_in, view_of}
+use Rattle.slave_core.proofs.Common.{AreBytes, Code, Deed, Did, Dropped, KitView, Move, Phase, OfSlave, Outcome, SlaveSettings, SlaveView, State, code, deed_of, dropped, drops, falls, first_of, kit_of, later, limit, meets, notes_of, nothing, phase_in, on_expiry, on_fault, on_reset_frame, one_more, quiet, refuses, reset_by_peer, resets, slave_age, slave_limit, state_of, tick_in_session, tick_of, ticks, view_in, view_of}
 use Rattle.std.proofs.Common.{◌≡◌, ◌≢◌, ℕ, suc, ◌+◌, ◌<◌, nat_le, List, [], ◌∷◌, length, Bool, true, false, if◌then◌else◌, refl, sym, ap, subst, ◌∙◌, arith, rules}
 use Rattle.fsoe_base.specs.declared.command.State.TheVariants as state
 use Rattle.fsoe_base.specs.declared.did.Cause.{Cause}
 use Rattle.fsoe_base.specs.declared.did.Cause.TheVariants as cause
 use Rattle.fsoe_base.specs.declared.did.Dropped.TheVariants as why
-use Rattle.seq_chain.specs.Reset.{reset_frame}
 use Rattle.param_load.specs.declared.entry.Move.TheVariants as move
 use Rattle.slave_core.proofs.Sound.{Sound}
 
@@ -22,10 +21,10 @@ pub record Agrees (ss : SlaveSettings) (e : List Deed) (m : Move) (d : Did) (o :
   pub sound : Sound ss (deed_of (OfSlave ss) e m d ∷ e)
 
 -- a slave by its parts
-abbrev pub slave_at : KitView → Now → ℕ → ℕ → SlaveView
+abbrev pub slave_at : KitView → Phase → ℕ → ℕ → SlaveView
 slave_at kit now limit age = record { kit = kit; state = now; timer = record { limit = limit; age = age } }
 
-pub same_slave : (k k' : KitView) (n n' : Now) (l l' a a' : ℕ) → k ≡ k' → n ≡ n' → l ≡ l' → a ≡ a' → slave_at k n l a ≡ slave_at k' n' l' a'
+pub same_slave : (k k' : KitView) (n n' : Phase) (l l' a a' : ℕ) → k ≡ k' → n ≡ n' → l ≡ l' → a ≡ a' → slave_at k n l a ≡ slave_at k' n' l' a'
 same_slave k k' n n' l l' a a' h i j g = rw (h, i, j, g) refl
 
 pub fresh_limit : (ss : SlaveSettings) → slave_limit ss [] ≡ ss.hand
@@ -42,13 +41,13 @@ drop-agrees p ss e bytes passed because now s = record {
 }
 
 -- the session ends
-pub resets-agree : (p : State) (ss : SlaveSettings) (e : List Deed) (m : Move) (passed : Bool) (because : Cause) (x : Code)
-    → kit_of ss (deed_of (OfSlave ss) e m (resets passed because) ∷ e) ≡ kit_of ss e → code_sent because ≡ x.0 → Sound ss e
-    → Agrees ss e m (resets passed because) (falls (view_in p ss e) passed because x)
-resets-agree p ss e m passed because x k c s = record {
+pub resets-agree : (p : State) (ss : SlaveSettings) (e : List Deed) (m : Move) (passed : Bool) (because : Cause)
+    → kit_of ss (deed_of (OfSlave ss) e m (resets passed because) ∷ e) ≡ kit_of ss e → Sound ss e
+    → Agrees ss e m (resets passed because) (falls (view_in p ss e) passed because)
+resets-agree p ss e m passed because k s = record {
   view = λ r. same_slave _ _ _ _ _ _ _ _ k refl (fresh_limit ss) refl;
   did = refl;
-  sent = ap (λ (n : ℕ). reset_frame n ss.lengths.slave) c;
+  sent = refl;
   sound = record { in_state = (refl, refl); offer_len = ap (λ (k : KitView). length k.offer.load) k ∙ s.offer_len; young = λ h. absurd (h refl) };
 }
 
@@ -56,7 +55,7 @@ resets-agree p ss e m passed because x k c s = record {
 pub fault-agrees : (p : State) (ss : SlaveSettings) (e : List Deed) (bytes : List ℕ) (passed : Bool) (x : Code) → state_of (OfSlave ss) e ≡ p → Sound ss e
     → Agrees ss e (move.Deliver bytes) (on_fault p passed x) (refuses (view_in p ss e) passed x)
 fault-agrees state.Reset ss e bytes passed x now s = drop-agrees state.Reset ss e bytes passed why.InReset now s
-fault-agrees p ss e bytes passed x now s = resets-agree p ss e (move.Deliver bytes) passed (cause.Found x) x refl refl s
+fault-agrees p ss e bytes passed x now s = resets-agree p ss e (move.Deliver bytes) passed (cause.Found x) refl s
 
 -- a valid Reset frame
 pub reset_frame-agrees : (p : State) (ss : SlaveSettings) (e : List Deed) (bytes load : List ℕ) → Sound ss e
@@ -67,21 +66,21 @@ reset_frame-agrees state.Reset ss e bytes load s = record {
   sent = refl;
   sound = record { in_state = (refl, refl); offer_len = s.offer_len; young = λ h. absurd (h refl) };
 }
-reset_frame-agrees p ss e bytes load s = resets-agree p ss e (move.Deliver bytes) false (cause.Peer (code (first_of load))) (code 0) refl refl s
+reset_frame-agrees p ss e bytes load s = resets-agree p ss e (move.Deliver bytes) false (cause.Peer (code (first_of load))) refl s
 
 -- a tick
 abbrev tick_by : Bool → SlaveView → Outcome
 tick_by b v =
     if b
-    then falls v false (cause.Found (code 0x05)) (code 0x05)
+    then falls v false (cause.Found (code 0x05))
     else quiet (record v { timer = record { limit = v.timer.limit; age = if b then 0 else v.timer.age + 1 } })
 
 counts : (p : State) (ss : SlaveSettings) (e : List Deed) (b : Bool) → state_of (OfSlave ss) e ≡ p → slave_age p (ticks (OfSlave ss) e) ≡ ticks (OfSlave ss) e → slave_age p (suc (ticks (OfSlave ss) e)) ≡ suc (ticks (OfSlave ss) e)
     → nat_le (limit (OfSlave ss) e) (suc (ticks (OfSlave ss) e)) ≡ b → Sound ss e
     → Agrees ss e move.Tick (if b then resets false (cause.Found (code 0x05)) else nothing) (tick_by b (view_in p ss e))
-counts p ss e true now a n h s = resets-agree p ss e move.Tick false (cause.Found (code 0x05)) (code 0x05) refl refl s
+counts p ss e true now a n h s = resets-agree p ss e move.Tick false (cause.Found (code 0x05)) refl s
 counts p ss e false now a n h s = record {
-  view = λ r. same_slave _ _ _ _ _ _ _ _ refl (ap (λ (p : State). now_in p ss (notes_of ss e)) now) refl (ap (λ (p : State). slave_age p (suc (ticks (OfSlave ss) e))) now ∙ n ∙ one_more _ _ a);
+  view = λ r. same_slave _ _ _ _ _ _ _ _ refl (ap (λ (p : State). phase_in p ss (notes_of ss e)) now) refl (ap (λ (p : State). slave_age p (suc (ticks (OfSlave ss) e))) now ∙ n ∙ one_more _ _ a);
   did = refl;
   sent = refl;
   sound = record { in_state = s.in_state; offer_len = s.offer_len; young = λ k. later (ticks (OfSlave ss) e) (limit (OfSlave ss) e) h };
@@ -104,7 +103,7 @@ rests : (ss : SlaveSettings) (e : List Deed) (b : Bool) → state_of (OfSlave ss
     → Agrees ss e move.Tick (if b then nothing else nothing) (quiet (view_in state.Reset ss e))
 rests ss e b now s =
     subst (λ (d : Did). Agrees ss e move.Tick d (quiet (view_in state.Reset ss e))) (both b) (record {
-      view = λ r. ap (λ (p : State). slave_at (kit_of ss e) (now_in p ss (notes_of ss e)) (limit (OfSlave ss) e) (slave_age p (suc (ticks (OfSlave ss) e)))) now;
+      view = λ r. ap (λ (p : State). slave_at (kit_of ss e) (phase_in p ss (notes_of ss e)) (limit (OfSlave ss) e) (slave_age p (suc (ticks (OfSlave ss) e)))) now;
       did = refl;
       sent = refl;
       sound = record { in_state = s.in_state; offer_len = s.offer_len; young = λ k. absurd (k now) };

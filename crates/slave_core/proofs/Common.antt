@@ -19,13 +19,13 @@ pub use Rattle.seq_chain.specs.Session.{chain_sent, fits_next, frame_sent}
 pub use Rattle.seq_chain.specs.SessionFrame.{SessionFrameView}
 pub use Rattle.seq_chain.specs.declared.chain.Chain.{Chain}
 pub use Rattle.slave_core.specs.Kit.{KitView}
-pub use Rattle.slave_core.specs.Now.{limit_of}
-pub use Rattle.slave_core.specs.Slave.{Outcome, after, drops, fallen, falls, first_slave, on_frame, on_opened, on_session, quiet, refuses, refuses_contents, reset_by_peer, settles, taken, tick_in_session, tick_of}
+pub use Rattle.slave_core.specs.Phase.{limit_of}
+pub use Rattle.slave_core.specs.Slave.{Outcome, after, drops, fallen, falls, first_slave, on_frame, on_opened, on_session, quiet, refuses, reset_by_peer, settles, taken, tick_in_session, tick_of}
 pub use Rattle.slave_core.specs.SlaveView.{IsSoundSlave, SlaveView}
 pub use Rattle.slave_core.specs.States.{answered, connection_taking, no_session, or_reset, parameter_taking, running, session_taking}
 pub use Rattle.slave_core.specs.Taken.{entered, next_in, next_state, reply, reply_in}
-pub use Rattle.slave_core.specs.ViewOf.{Notes, kit_of, notes_of, now_in, session_of, upload_of, view_in, view_of}
-pub use Rattle.slave_core.specs.declared.now.Now.{Now}
+pub use Rattle.slave_core.specs.ViewOf.{Notes, kit_of, notes_of, phase_in, session_of, upload_of, view_in, view_of}
+pub use Rattle.slave_core.specs.declared.phase.Phase.{Phase}
 pub use Rattle.slave_core.specs.declared.states.InConnection.{InConnection}
 pub use Rattle.slave_core.specs.declared.states.InData.{InData}
 pub use Rattle.slave_core.specs.declared.states.InParameter.{InParameter}

@@ -1,9 +1,9 @@
 -- The law: a slave that is after some deeds is, after an event, after these and the next one, and answers as that one
 -- does.
-use Rattle.slave_core.proofs.Common.{Deed, Did, IsProper, IsRun, IsSetting, Move, Now, OfSlave, SlaveSettings, SlaveView, State, Terms, after, age, did_on, events_of, fail_safe, first_slave, held, looking_back, nothing, offer, out, outputs, run, state_of, terms, told_in, told_terms, view_of}
+use Rattle.slave_core.proofs.Common.{Deed, Did, IsProper, IsRun, IsSetting, Move, Phase, OfSlave, SlaveSettings, SlaveView, State, Terms, after, age, did_on, events_of, fail_safe, first_slave, held, looking_back, nothing, offer, out, outputs, run, state_of, terms, told_in, told_terms, view_of}
 use Rattle.std.proofs.Common.{◌≡◌, ℕ, List, [], ◌∷◌, Bool, Option, refl, sym, ap, subst, ◌∙◌, rules}
 use Rattle.end_model.proofs.Runs.{same_deed, set_deed, run_of_events}
-use Rattle.slave_core.specs.Now as machine
+use Rattle.slave_core.specs.Phase as machine
 use Rattle.slave_core.specs.Standing.{SlaveIsAfter, Follows, Answers, Shows, Called}
 use Rattle.slave_core.proofs.Agrees.{Agrees, AreRead, same_slave, fresh_limit}
 use Rattle.slave_core.proofs.Agreed.{agrees, run-sound}
@@ -32,7 +32,7 @@ pub new_is_after : (ss : SlaveSettings) (v : SlaveView) → v ≡ first_slave ss
 new_is_after ss v h = record { is = h ∙ same_slave _ _ _ _ _ _ _ _ refl refl (sym (fresh_limit ss)) refl; reached = tt }
 
 -- what the readers show
-abbrev ShownIn : State → SlaveSettings → List Deed → Now → Type 0
+abbrev ShownIn : State → SlaveSettings → List Deed → Phase → Type 0
 ShownIn p ss e x = (machine.state_of x ≡ p) × (machine.terms_shown_in x ≡ told_in p (terms (OfSlave ss) e)) × (machine.outputs_in ss x ≡ outputs (OfSlave ss) e)
 
 shown-after : (ss : SlaveSettings) (e : List Deed) → IsRun (OfSlave ss) e → ShownIn (state_of (OfSlave ss) e) ss e (view_of ss e).state

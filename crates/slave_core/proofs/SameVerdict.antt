@@ -1,5 +1,5 @@
 -- The tests of the machine end as those of looking back.
-use Rattle.slave_core.proofs.Common.{Code, Command, Deed, Dropped, Frame, OfSlave, Outcome, SessionFrameView, SlaveSettings, State, allowed, code, command_of, drops, first_of, fits_session, fits_next, frame_len, frame_of, id_len, kept, kit_of, next_state, notes_of, now_in, on_frame, on_opened, on_session, own_crc, parameters, refuses, reply, reset_by_peer, rule_len, settles, since, slave_allows, state_of, uploaded, view_in, whole}
+use Rattle.slave_core.proofs.Common.{Code, Command, Deed, Dropped, Frame, OfSlave, Outcome, SessionFrameView, SlaveSettings, State, allowed, code, command_of, drops, first_of, fits_session, fits_next, frame_len, frame_of, id_len, kept, kit_of, next_state, notes_of, phase_in, on_frame, on_opened, on_session, own_crc, parameters, refuses, reply, reset_by_peer, rule_len, settles, since, slave_allows, state_of, uploaded, view_in, whole}
 use Rattle.seq_chain.specs.Opened.{opened}
 use Rattle.std.proofs.Common.{◌≡◌, ◌≢◌, ℕ, ◌+◌, nat_le, Bool, true, false, List, length, Option, Some, refl, sym, ap, subst, ◌∙◌, arith, rules}
 use Rattle.fsoe_base.specs.declared.command.Command.TheVariants as command
@@ -10,7 +10,7 @@ use Rattle.seq_chain.specs.declared.opened.Opened.TheVariants as opened_as
 use Rattle.end_model.specs.Verdict as model
 use Rattle.seq_chain.proofs.OpenedFrame as opens
 use Rattle.seq_chain.proofs.OpenedFrame.{Tested, tested}
-use Rattle.slave_core.specs.Now as machine
+use Rattle.slave_core.specs.Phase as machine
 use Rattle.slave_core.proofs.Sound.{SoundAt}
 
 -- the frame that came
@@ -24,7 +24,7 @@ seen ss bytes c = record { command = c; frame = came ss bytes }
 pub record Came (p : State) (ss : SlaveSettings) (e : List Deed) (bytes : List ℕ) (c : Command) : Type 0 where
   pub len : length bytes ≡ frame_len ss.lengths.master
   pub named : command_of (came ss bytes).cmd ≡ Some c
-  pub is_allowed : machine.allows (now_in p ss (notes_of ss e)) c ≡ true
+  pub is_allowed : machine.allows (phase_in p ss (notes_of ss e)) c ≡ true
   pub has_conn : model.has_conn (OfSlave ss) e c (came ss bytes).conn ≡ true
 
 -- how the tests of looking back end, and what the machine then does
@@ -35,25 +35,25 @@ pub data Same (p : State) (ss : SlaveSettings) (e : List Deed) (bytes : List ℕ
   Passes : (c : Command) → Came p ss e bytes c
       → Same p ss e bytes (model.judged_contents c (came ss bytes).load (model.contents (OfSlave ss) e c (came ss bytes)))
       (settles (view_in p ss e) (seen ss bytes c)
-      (reply (kit_of ss e) (now_in p ss (notes_of ss e)) (seen ss bytes c))
-      (next_state (kit_of ss e) (now_in p ss (notes_of ss e)) (seen ss bytes c)))
+      (reply (kit_of ss e) (phase_in p ss (notes_of ss e)) (seen ss bytes c))
+      (next_state (kit_of ss e) (phase_in p ss (notes_of ss e)) (seen ss bytes c)))
 
 -- the frame that is kept, and the chain
-kept-same : (p : State) (ss : SlaveSettings) (e : List Deed) → SoundAt p ss e → machine.kept_in (now_in p ss (notes_of ss e)) ≡ kept (since e)
+kept-same : (p : State) (ss : SlaveSettings) (e : List Deed) → SoundAt p ss e → machine.kept_in (phase_in p ss (notes_of ss e)) ≡ kept (since e)
 kept-same p ss e h = grind arith
 
-fits-same : (p : State) (ss : SlaveSettings) (e : List Deed) (f : Frame) → SoundAt p ss e → fits_next (machine.chain_of (now_in p ss (notes_of ss e))) f ≡ fits_session (OfSlave ss) (since e) f
+fits-same : (p : State) (ss : SlaveSettings) (e : List Deed) (f : Frame) → SoundAt p ss e → fits_next (machine.chain_of (phase_in p ss (notes_of ss e))) f ≡ fits_session (OfSlave ss) (since e) f
 fits-same p ss e f h = search (rules, own_crc)
 
 -- the test of the command
 allows-same : (p : State) (ss : SlaveSettings) (e : List Deed) (c : Command)
     → whole ss.profile state.Parameter (parameters ss e) ≡ nat_le (id_len ss.profile + 4 + rule_len ss.rule) (length (parameters ss e))
-    → machine.allows (now_in p ss (notes_of ss e)) c ≡ slave_allows p (whole ss.profile p (uploaded ss p e)) c
+    → machine.allows (phase_in p ss (notes_of ss e)) c ≡ slave_allows p (whole ss.profile p (uploaded ss p e)) c
 allows-same p ss e c h = grind arith
 
 -- the test of the connection id, where the command is allowed
 conn-same : (p : State) (ss : SlaveSettings) (e : List Deed) (c : Command) (field : ℕ) → c ≢ command.Reset → SoundAt p ss e
-    → machine.allows (now_in p ss (notes_of ss e)) c ≡ true → machine.has_conn (now_in p ss (notes_of ss e)) c field ≡ model.has_conn (OfSlave ss) e c field
+    → machine.allows (phase_in p ss (notes_of ss e)) c ≡ true → machine.has_conn (phase_in p ss (notes_of ss e)) c field ≡ model.has_conn (OfSlave ss) e c field
 conn-same p ss e c field h k l = grind arith
 
 -- a frame of a session, by its three tests
@@ -71,7 +71,7 @@ session-same : (p : State) (ss : SlaveSettings) (e : List Deed) (bytes : List �
     → whole ss.profile state.Parameter (parameters ss e) ≡ nat_le (id_len ss.profile + 4 + rule_len ss.rule) (length (parameters ss e))
     → Same p ss e bytes (model.judged (OfSlave ss) e (opened_as.OfSession (seen ss bytes c))) (on_opened (view_in p ss e) (opened_as.OfSession (seen ss bytes c)))
 session-same p ss e bytes c now n len named h w =
-    let a : machine.allows (now_in p ss (notes_of ss e)) c ≡ allowed (OfSlave ss) e c = allows-same p ss e c w ∙ sym (ap (λ (p : State). slave_allows p (whole ss.profile p (uploaded ss p e)) c) now) in
+    let a : machine.allows (phase_in p ss (notes_of ss e)) c ≡ allowed (OfSlave ss) e c = allows-same p ss e c w ∙ sym (ap (λ (p : State). slave_allows p (whole ss.profile p (uploaded ss p e)) c) now) in
     by-tests p ss e bytes c _ _ _ _ _ _ a (conn-same p ss e c (came ss bytes).conn n h) (fits-same p ss e (came ss bytes) h) (λ a k. record { len = len; named = named; is_allowed = a; has_conn = k })
 
 by-opened : (p : State) (ss : SlaveSettings) (e : List Deed) (bytes : List ℕ) (again : Bool) (w : Opened) → state_of (OfSlave ss) e ≡ p → SoundAt p ss e

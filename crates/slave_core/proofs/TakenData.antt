@@ -6,7 +6,7 @@ use Rattle.fsoe_base.specs.declared.command.State.TheVariants as state
 use Rattle.failsafe_io.specs.Offer.{data_command, data_load}
 use Rattle.failsafe_io.specs.Outputs.{outputs_of}
 use Rattle.param_load.specs.declared.entry.Move.TheVariants as move
-use Rattle.slave_core.specs.declared.now.Now.TheVariants as now
+use Rattle.slave_core.specs.declared.phase.Phase.TheVariants as phase
 use Rattle.slave_core.proofs.Sound.{OfParameters, Sound}
 use Rattle.slave_core.proofs.SameVerdict.{came, seen}
 use Rattle.slave_core.proofs.Agrees.{Agrees, slave_at, same_slave, fault-agrees}
@@ -25,7 +25,7 @@ data_answer ss e bytes c c2 load = frame_answered (notes_of ss e).chain (seen ss
 abbrev gone_on : SlaveSettings → List Deed → List ℕ → Command → Command → List ℕ → SlaveView
 gone_on ss e bytes c c2 load =
     slave_at (kit_of ss e)
-    (now.Data (record {
+    (phase.Data (record {
       session = answered (session_of (notes_of ss e)) (seen ss bytes c) (conn_of ss e) c2 load;
       terms = (notes_of ss e).terms;
       outputs = outputs_of c (came ss bytes).load;
@@ -56,7 +56,7 @@ after : (ss : SlaveSettings) (e : List Deed) (bytes : List ℕ) (c c2 : Command)
 after ss e bytes c c2 load n h d y =
     let j : OfParameters ss (notes_of ss e) = y.connected in
     record {
-      view = λ r. rw (n, d.of_session, d.phase_is) (same_slave _ _ _ _ _ _ _ _ refl (ap₃ (λ (k : Chain) (o l : List ℕ). now.Data (record { session = record { chain = k; last = l }; terms = (notes_of ss e).terms; outputs = o })) (rw d.of_session at (chain_after (OfSlave ss) (since e) bytes c (conn_of ss e) c2 load d.of_session h)) d.brings (sym (y.back r))) y.limit_is refl);
+      view = λ r. rw (n, d.of_session, d.phase_is) (same_slave _ _ _ _ _ _ _ _ refl (ap₃ (λ (k : Chain) (o l : List ℕ). phase.Data (record { session = record { chain = k; last = l }; terms = (notes_of ss e).terms; outputs = o })) (rw d.of_session at (chain_after (OfSlave ss) (since e) bytes c (conn_of ss e) c2 load d.of_session h)) d.brings (sym (y.back r))) y.limit_is refl);
       sound = search (rules, is_there, keeps, there);
     }
 
@@ -83,7 +83,7 @@ abbrev pub data_settles : Bool → State → SlaveSettings → List Deed → Lis
 data_settles b p ss e bytes c =
     settles (view_in p ss e) (seen ss bytes c)
     (data_answer ss e bytes c (data_command (kit_of ss e).offer) (data_load (kit_of ss e).offer))
-    (if b then Ok (now.Data (record {
+    (if b then Ok (phase.Data (record {
       session = answered (session_of (notes_of ss e)) (seen ss bytes c) (conn_of ss e) (data_command (kit_of ss e).offer) (data_load (kit_of ss e).offer);
       terms = (notes_of ss e).terms;
       outputs = outputs_of c (came ss bytes).load;

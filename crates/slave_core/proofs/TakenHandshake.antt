@@ -5,7 +5,7 @@ use Rattle.fsoe_base.specs.declared.command.Command.TheVariants as command
 use Rattle.fsoe_base.specs.declared.command.State.TheVariants as state
 use Rattle.param_load.specs.declared.contents.Expected.TheVariants as expected
 use Rattle.param_load.specs.declared.entry.Move.TheVariants as move
-use Rattle.slave_core.specs.declared.now.Now.TheVariants as now
+use Rattle.slave_core.specs.declared.phase.Phase.TheVariants as phase
 use Rattle.slave_core.proofs.Sound.{OfParameters, OfSession, Sound, SoundIn, count_of}
 use Rattle.slave_core.proofs.SameVerdict.{came, seen}
 use Rattle.slave_core.proofs.Agrees.{Agrees, fault-agrees, fresh_limit, same_slave}
@@ -47,8 +47,8 @@ session_at ss n i = record { session = session_of n; id = i; upload = session_up
 abbrev pub session_settles : Option Code → State → SlaveSettings → List Deed → List ℕ → Notes → ℕ → Outcome
 session_settles w p ss e bytes n i =
     settles (view_in p ss e) (seen ss bytes command.Session)
-    (reply_in (kit_of ss e) (now.Session (session_at ss n i)) (seen ss bytes command.Session))
-    (or_reset (outcome_by w (advanced (session_upload_at ss n.session) (came ss bytes).load)) (now.Session (session_taking (kit_of ss e) (session_at ss n i) (seen ss bytes command.Session))))
+    (reply_in (kit_of ss e) (phase.Session (session_at ss n i)) (seen ss bytes command.Session))
+    (or_reset (outcome_by w (advanced (session_upload_at ss n.session) (came ss bytes).load)) (phase.Session (session_taking (kit_of ss e) (session_at ss n i) (seen ss bytes command.Session))))
 
 pub session-agrees : (w : Option Code) (p : State) (ss : SlaveSettings) (e : List Deed) (bytes : List ℕ) (i : ℕ) → state_of (OfSlave ss) e ≡ p → Sound ss e
     → Opening ss (count_of e) (notes_of ss e) (nonce (OfSlave ss) e) i → Arrived ss bytes command.Session
@@ -64,7 +64,7 @@ session-agrees None p ss e bytes i at s o a =
     let limit_is : slave_limit ss (notes_of ss e).parameter ≡ ss.hand = ap (slave_limit ss) o.no_parameter ∙ fresh_limit ss in
     record {
       view = λ r. same_slave _ _ _ _ _ _ _ _ refl
-          (ap₃ (λ (c : Chain) (i : ℕ) (l : List ℕ). now.Session (record { session = record { chain = c; last = l }; id = i; upload = session_upload_at ss ((notes_of ss e).session ++ take (piece_len (OfSlave ss)) load) }))
+          (ap₃ (λ (c : Chain) (i : ℕ) (l : List ℕ). phase.Session (record { session = record { chain = c; last = l }; id = i; upload = session_upload_at ss ((notes_of ss e).session ++ take (piece_len (OfSlave ss)) load) }))
           (chain_after (OfSlave ss) (since e) bytes command.Session 0 command.Session (padded piece ss.lengths.slave) refl full ∙ ap (λ (piece : List ℕ). chain_answered (notes_of ss e).chain (seen ss bytes command.Session) 0 command.Session (padded piece ss.lengths.slave)) piece_is)
           (ap (λ (o : Option ℕ). unwrap_or o 0) o.id_next)
           (sym (a.back r)))
@@ -91,8 +91,8 @@ connection_at ss e conn joined = record { session = session_of (notes_of ss e); 
 abbrev pub connection_settles : Option Code → State → SlaveSettings → List Deed → List ℕ → ℕ → List ℕ → Outcome
 connection_settles w p ss e bytes conn joined =
     settles (view_in p ss e) (seen ss bytes command.Connection)
-    (reply_in (kit_of ss e) (now.Connection (connection_at ss e conn joined)) (seen ss bytes command.Connection))
-    (or_reset (outcome_by w (advanced (connection_upload_at ss conn joined) (came ss bytes).load)) (now.Connection (connection_taking (kit_of ss e) (connection_at ss e conn joined) (seen ss bytes command.Connection))))
+    (reply_in (kit_of ss e) (phase.Connection (connection_at ss e conn joined)) (seen ss bytes command.Connection))
+    (or_reset (outcome_by w (advanced (connection_upload_at ss conn joined) (came ss bytes).load)) (phase.Connection (connection_taking (kit_of ss e) (connection_at ss e conn joined) (seen ss bytes command.Connection))))
 
 -- what is noted before a Connection frame with this connection id
 pub record Joining (ss : SlaveSettings) (e : List Deed) (conn : ℕ) : Type 0 where
@@ -120,7 +120,7 @@ connection-agrees None p ss e bytes tested at s j a =
     let fields = said-both conn ss.address ss.rule (notes_of ss e).connection (take c load) (drop c load) j.conn_said j.address_said tested in
     record {
       view = λ r. same_slave _ _ _ _ _ _ _ _ refl
-          (ap₃ (λ (k : Chain) (i : ℕ) (l : List ℕ). now.Connection (record { session = record { chain = k; last = l }; conn = i; upload = connection_upload_at ss i ((notes_of ss e).connection ++ take c load) }))
+          (ap₃ (λ (k : Chain) (i : ℕ) (l : List ℕ). phase.Connection (record { session = record { chain = k; last = l }; conn = i; upload = connection_upload_at ss i ((notes_of ss e).connection ++ take c load) }))
           (chain_after (OfSlave ss) (since e) bytes command.Connection (conn_id (OfSlave ss) before) command.Connection (padded (take c load) ss.lengths.slave) refl full
           ∙ ap₂ (λ (k : ℕ) (piece : List ℕ). chain_answered (notes_of ss e).chain (seen ss bytes command.Connection) k command.Connection (padded piece ss.lengths.slave)) conn_is (sym echo_is))
           conn_is
@@ -145,8 +145,8 @@ parameter_at ss e joined = record { session = session_of (notes_of ss e); conn =
 abbrev pub parameter_settles : Option Code → State → SlaveSettings → List Deed → List ℕ → List ℕ → Outcome
 parameter_settles w p ss e bytes joined =
     settles (view_in p ss e) (seen ss bytes command.Parameter)
-    (reply_in (kit_of ss e) (now.Parameter (parameter_at ss e joined)) (seen ss bytes command.Parameter))
-    (or_reset (outcome_by w (advanced (parameter_upload_at ss joined) (came ss bytes).load)) (now.Parameter (parameter_taking (kit_of ss e) (parameter_at ss e joined) (seen ss bytes command.Parameter))))
+    (reply_in (kit_of ss e) (phase.Parameter (parameter_at ss e joined)) (seen ss bytes command.Parameter))
+    (or_reset (outcome_by w (advanced (parameter_upload_at ss joined) (came ss bytes).load)) (phase.Parameter (parameter_taking (kit_of ss e) (parameter_at ss e joined) (seen ss bytes command.Parameter))))
 
 pub parameter-agrees : (w : Option Code) (p : State) (ss : SlaveSettings) (e : List Deed) (bytes : List ℕ) → state_of (OfSlave ss) e ≡ p → Sound ss e → OfParameters ss (notes_of ss e) → Arrived ss bytes command.Parameter
     → IsRun (OfSlave ss) (deed_of (OfSlave ss) e (move.Deliver bytes) (on_verdict p (OfSlave ss) (judged_contents command.Parameter (came ss bytes).load w)) ∷ e)
@@ -167,7 +167,7 @@ parameter-agrees None p ss e bytes at s j a run =
     let young : 0 < slave_limit ss u = some-limit ss after run in
     record {
       view = λ r. same_slave _ _ _ _ _ _ _ _ refl
-          (ap₃ (λ (k : Chain) (i : ℕ) (l : List ℕ). now.Parameter (record { session = record { chain = k; last = l }; conn = i; upload = parameter_upload_at ss u }))
+          (ap₃ (λ (k : Chain) (i : ℕ) (l : List ℕ). phase.Parameter (record { session = record { chain = k; last = l }; conn = i; upload = parameter_upload_at ss u }))
           (chain_after (OfSlave ss) (since e) bytes command.Parameter (conn_id (OfSlave ss) before) command.Parameter (padded (take c load) ss.lengths.slave) refl full
           ∙ ap₂ (λ (k : ℕ) (piece : List ℕ). chain_answered (notes_of ss e).chain (seen ss bytes command.Parameter) k command.Parameter (padded piece ss.lengths.slave)) conn_is (sym echo_is))
           conn_is

@@ -1,5 +1,5 @@
 pub mod Kit
-pub mod Now
+pub mod Phase
 pub mod Slave
 pub mod SlaveView
 pub mod Standing

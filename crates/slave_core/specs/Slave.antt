@@ -10,7 +10,7 @@ use Rattle.fsoe_base.specs.declared.did.Dropped.TheVariants as dropped
 use Rattle.fsoe_base.specs.Did as did
 use Rattle.fsoe_base.specs.Did.{takes, resets}
 use Rattle.failsafe_io.specs.Timer.{started, expires, ticked}
-use Rattle.fsoe_base.specs.Codes.{local_reset, watchdog_expired}
+use Rattle.fsoe_base.specs.Codes.{watchdog_expired}
 use Rattle.param_load.specs.declared.entry.Move.{Move}
 use Rattle.param_load.specs.declared.entry.Move.TheVariants as move
 use Rattle.param_load.specs.declared.slave_settings.SlaveSettings.{SlaveSettings}
@@ -21,11 +21,12 @@ use Rattle.seq_chain.specs.Reset.{reset_frame}
 use Rattle.seq_chain.specs.SessionFrame.{SessionFrameView}
 use Rattle.end_model.specs.Setup.{OfSlave, sends, receives}
 use Rattle.end_model.specs.Verdict.{is_repeat}
-use Rattle.slave_core.specs.declared.now.Now.{Now}
-use Rattle.slave_core.specs.declared.now.Now.TheVariants as now
+use Rattle.end_model.specs.Step.{code_sent}
+use Rattle.slave_core.specs.declared.phase.Phase.{Phase}
+use Rattle.slave_core.specs.declared.phase.Phase.TheVariants as phase
 use Rattle.slave_core.specs.declared.states.InReset.{InReset}
 use Rattle.slave_core.specs.Kit.{KitView, first_kit}
-use Rattle.slave_core.specs.Now.{is_reset, kept_in, limit_of, fault}
+use Rattle.slave_core.specs.Phase.{is_reset, kept_in, limit_of, fault}
 use Rattle.slave_core.specs.SlaveView.{SlaveView}
 use Rattle.slave_core.specs.States.{no_session}
 use Rattle.slave_core.specs.Taken.{next_state, reply}
@@ -42,7 +43,7 @@ outcome_of v done sent = record { slave = v; did = done; sent = sent }
 
 -- a new slave is in state Reset and counts no tick
 abbrev pub first_slave : SlaveSettings → SlaveView
-first_slave settings = record { kit = first_kit settings; state = now.Reset no_session; timer = started settings.hand }
+first_slave settings = record { kit = first_kit settings; state = phase.Reset no_session; timer = started settings.hand }
 
 -- nothing is done, and nothing is sent
 abbrev pub quiet : SlaveView → Outcome
@@ -54,19 +55,15 @@ drops v passed why = outcome_of v (record (did.dropped why) { passed = passed })
 
 -- a slave without its session: in state Reset, with age 0
 abbrev pub fallen : SlaveView → SlaveView
-fallen v = record v { state = now.Reset no_session; timer = started v.kit.settings.hand }
+fallen v = record v { state = phase.Reset no_session; timer = started v.kit.settings.hand }
 
--- the session ends, and a Reset frame with the code is sent
-abbrev pub falls : SlaveView → Bool → Cause → Code → Outcome
-falls v passed why x = outcome_of (fallen v) (resets passed why) (reset_frame x.0 (sends (OfSlave v.kit.settings)))
+-- the session ends for this cause, and a Reset frame with its code is sent
+abbrev pub falls : SlaveView → Bool → Cause → Outcome
+falls v passed why = outcome_of (fallen v) (resets passed why) (reset_frame (code_sent why) (sends (OfSlave v.kit.settings)))
 
 -- a test fails: in state Reset the frame is dropped, and else the session ends
 abbrev pub refuses : SlaveView → Bool → Code → Outcome
-refuses v passed x = if is_reset v.state then drops v passed dropped.InReset else falls v passed (reset_cause.Found x) x
-
--- the contents of a frame are wrong: the session that it was for ends, also one that is forgotten already
-abbrev pub refuses_contents : SlaveView → Bool → Code → Outcome
-refuses_contents v was_reset x = if was_reset then refuses v true x else falls v true (reset_cause.Found x) x
+refuses v passed x = if is_reset v.state then drops v passed dropped.InReset else falls v passed (reset_cause.Found x)
 
 -- a valid Reset frame is taken in state Reset, and a Reset frame with code 0 is sent
 abbrev pub acknowledges : SlaveView → List ℕ → Outcome
@@ -74,14 +71,14 @@ acknowledges v load = outcome_of (fallen v) (takes command.Reset load false) (re
 
 -- a valid Reset frame: in state Reset it is taken, and else the session ends with the peer's code, and code 0 is sent
 abbrev pub reset_by_peer : SlaveView → Code → List ℕ → Outcome
-reset_by_peer v x load = if is_reset v.state then acknowledges v load else falls v false (reset_cause.Peer x) local_reset
+reset_by_peer v x load = if is_reset v.state then acknowledges v load else falls v false (reset_cause.Peer x)
 
 -- a slave took a frame of a session, and sent this answer
 abbrev pub taken : SlaveView → SessionFrameView → List ℕ → Outcome
 taken v f answer = outcome_of v (takes f.command f.frame.load true) answer
 
 -- a frame whose contents were tested is taken and answered, or refused with their code
-abbrev pub settles : SlaveView → SessionFrameView → List ℕ → Result Now (InReset × Code) → Outcome
+abbrev pub settles : SlaveView → SessionFrameView → List ℕ → Result Phase (InReset × Code) → Outcome
 settles v f answer (Ok next) = taken (record v { state = next; timer = started (limit_of v.kit.settings next) }) f answer
 settles v f answer (Err e) = refuses v true e.1
 
@@ -105,7 +102,7 @@ on_frame v bytes = on_opened v (opened (receives (OfSlave v.kit.settings)) (is_r
 abbrev pub tick_in_session : SlaveView → Outcome
 tick_in_session v =
     if expires v.timer
-    then falls v false (reset_cause.Found watchdog_expired) watchdog_expired
+    then falls v false (reset_cause.Found watchdog_expired)
     else quiet (record v { timer = ticked v.timer })
 
 -- a tick: in state Reset none is counted
@@ -120,7 +117,7 @@ with_kit v kit = quiet (record v { kit = kit })
 abbrev pub after : SlaveView → Move → Outcome
 after v (move.Deliver bytes) = on_frame v bytes
 after v move.Tick = tick_of v
-after v move.Local = falls v false reset_cause.Local local_reset
+after v move.Local = falls v false reset_cause.Local
 after v (move.Put load) = with_kit v (record v.kit { offer = record v.kit.offer { load = load } })
 after v (move.Hold failsafe) = with_kit v (record v.kit { offer = record v.kit.offer { held = failsafe } })
 after v (move.Nonce id) = with_kit v (record v.kit { nonce = id })

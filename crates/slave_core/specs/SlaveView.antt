@@ -1,14 +1,14 @@
 -- What contracts see of a slave.
 use Rattle.std.specs.Prelude.{◌≡◌, IsTrue}
 use Rattle.failsafe_io.specs.Timer.{Timer, started}
-use Rattle.slave_core.specs.declared.now.Now.{Now}
+use Rattle.slave_core.specs.declared.phase.Phase.{Phase}
 use Rattle.slave_core.specs.Kit.{KitView}
-use Rattle.slave_core.specs.Now.{IsUnder, is_reset}
+use Rattle.slave_core.specs.Phase.{IsUnder, is_reset}
 
 -- what it has in every state, the state that it is in, and its watchdog
 pub record SlaveView : Type 0 where
   pub kit : KitView
-  pub state : Now
+  pub state : Phase
   pub timer : Timer
 
 -- the state was made under the settings, and in state Reset no tick is counted

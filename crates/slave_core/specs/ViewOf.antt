@@ -16,8 +16,8 @@ use Rattle.end_model.specs.Chain.{since, kept, own_link, taken_link}
 use Rattle.end_model.specs.Payloads.{nonce, id_sent, slave_conn, uploaded, terms}
 use Rattle.end_model.specs.Readiness.{state_of, offer, held, ticks, slave_age, limit}
 use Rattle.end_model.specs.Outputs.{outputs}
-use Rattle.slave_core.specs.declared.now.Now.{Now}
-use Rattle.slave_core.specs.declared.now.Now.TheVariants as now
+use Rattle.slave_core.specs.declared.phase.Phase.{Phase}
+use Rattle.slave_core.specs.declared.phase.Phase.TheVariants as phase
 use Rattle.slave_core.specs.Kit.{KitView}
 use Rattle.slave_core.specs.SlaveView.{SlaveView}
 use Rattle.slave_core.specs.States.{no_session}
@@ -62,26 +62,26 @@ abbrev pub session_of : Notes → Session
 session_of n = record { chain = n.chain; last = unwrap_or n.kept [] }
 
 -- the machine's state in each state, by what is noted
-abbrev pub now_in : State → SlaveSettings → Notes → Now
-now_in state.Reset ss n = now.Reset no_session
-now_in state.Session ss n = now.Session (record { session = session_of n; id = unwrap_or n.id 0; upload = upload_of ss (expected.Session ss.profile) n.session })
-now_in state.Connection ss n = now.Connection (record {
+abbrev pub phase_in : State → SlaveSettings → Notes → Phase
+phase_in state.Reset ss n = phase.Reset no_session
+phase_in state.Session ss n = phase.Session (record { session = session_of n; id = unwrap_or n.id 0; upload = upload_of ss (expected.Session ss.profile) n.session })
+phase_in state.Connection ss n = phase.Connection (record {
   session = session_of n;
   conn = unwrap_or n.conn 0;
   upload = upload_of ss (expected.Connection (unwrap_or n.conn 0) ss.address) n.connection;
 })
-now_in state.Parameter ss n = now.Parameter (record {
+phase_in state.Parameter ss n = phase.Parameter (record {
   session = session_of n;
   conn = unwrap_or n.conn 0;
   upload = upload_of ss (expected.Parameter ss.most (rule_len ss.rule) ss.profile) n.parameter;
 })
-now_in state.Data ss n = now.Data (record { session = session_of n; terms = n.terms; outputs = n.outputs })
+phase_in state.Data ss n = phase.Data (record { session = session_of n; terms = n.terms; outputs = n.outputs })
 
 -- a slave in this state after these deeds
 abbrev pub view_in : State → SlaveSettings → List Deed → SlaveView
 view_in p ss e = record {
   kit = kit_of ss e;
-  state = now_in p ss (notes_of ss e);
+  state = phase_in p ss (notes_of ss e);
   timer = record { limit = limit (OfSlave ss) e; age = slave_age p (ticks (OfSlave ss) e) };
 }
 

@@ -44,9 +44,10 @@
 //! ```
 #![tactic(auto)]
 
+mod acting;
 mod kit;
 pub mod laws;
-mod now;
+mod phase;
 mod seen;
 mod slave;
 pub mod states;

@@ -1,8 +1,9 @@
 //! The slave of a connection.
 ghost use Rattle.std.specs.Prelude.{◌≡◌, ◌≤◌, length};
+ghost use Rattle.end_model.specs.Step.{code_sent};
 
 use crate::kit::Kit;
-use crate::now::Now;
+use crate::phase::Phase;
 use crate::seen::Seen;
 use crate::states::InReset;
 use failsafe_io::{Watchdog, zeros};
@@ -17,8 +18,18 @@ use std::marker::Model;
 #[derive(Drop)]
 pub struct Slave {
     kit: Kit,
-    state: Now,
+    phase: Phase,
     watchdog: Watchdog,
+}
+
+/// The code of the Reset frame that is sent for this cause.
+fn code_sent(why: Cause) -> Code
+    ensures { result.0 ≡ code_sent why }
+{
+    match why {
+        Cause::Found(code) => code,
+        Cause::Local | Cause::Peer(_) => Code::LOCAL_RESET,
+    }
 }
 
 impl Model for Slave {
@@ -26,20 +37,17 @@ impl Model for Slave {
 
     ghost Value = { SlaveView };
 
-    ghost view = { λ s. record { kit = s.kit; state = s.state; timer = s.watchdog } };
+    ghost view = { λ s. record { kit = s.kit; state = s.phase; timer = s.watchdog } };
 
-    ghost invariant = { λ s. IsSoundSlave (record { kit = s.kit; state = s.state; timer = s.watchdog }) };
+    ghost invariant = { λ s. IsSoundSlave (record { kit = s.kit; state = s.phase; timer = s.watchdog }) };
 }
 
 impl Slave {
-    ghost use Rattle.std.specs.Prelude.{IsTrue, [], length, None, OnOk, IfErr, option_copied};
+    ghost use Rattle.std.specs.Prelude.{IsTrue, [], true, false, length, None, OnOk, IfErr, option_copied};
     ghost use Rattle.seq_chain.specs.Session.{HasPassed};
     ghost use Rattle.param_load.specs.Profile.{allows_id};
-    ghost use Rattle.slave_core.specs.Now.{allows, chain_of, fault};
-    ghost use Rattle.failsafe_io.specs.Timer.{started};
-    ghost use Rattle.slave_core.specs.declared.now.Now.TheVariants as now;
-    ghost use Rattle.slave_core.specs.States.{no_session};
-    ghost use Rattle.slave_core.specs.Slave.{outcome_of, falls, refuses, refuses_contents, reset_by_peer, taken, on_session, on_frame, tick_of};
+    ghost use Rattle.slave_core.specs.Phase.{allows, chain_of, fault};
+    ghost use Rattle.slave_core.specs.Slave.{outcome_of, fallen, falls, refuses, reset_by_peer, taken, on_session, on_frame, tick_of};
     ghost use Rattle.param_load.specs.declared.entry.Move.TheVariants as event;
     ghost use Rattle.end_model.specs.Setup.{OfSlave, sends, receives};
     ghost use Rattle.end_model.specs.Readiness as model;
@@ -54,51 +62,48 @@ impl Slave {
         let hand = settings.hand();
         Slave {
             kit: Kit::new(settings),
-            state: Now::Reset(InReset::new()),
+            phase: Phase::Reset(InReset::new()),
             watchdog: Watchdog::new(hand, 0),
         }
-    }
-
-    /// Forgets the session, and sends the Reset frame with this code.
-    #[cold]
-    #[inline(never)]
-    fn fall(&mut self, passed: bool, why: Cause, code: Code, did: &mut Did, out: &mut FrameBuf)
-        ensures { outcome_of self.new did.new out.new ≡ falls self.old passed why code }
-    {
-        Slave::forget(&mut self.state, &mut self.watchdog, &self.kit);
-        reset_frame(code, self.kit.settings().own_len(), out);
-        *did = Did::reset(passed, why);
     }
 
     /// Leaves the session, if there is one.
     #[cold]
     #[inline(never)]
-    fn forget(state: &mut Now, watchdog: &mut Watchdog, kit: &Kit)
-        ensures state { state.new ≡ now.Reset no_session }
-        ensures timer { watchdog.new ≡ started kit.now.settings.hand }
+    fn forget(&mut self)
+        ensures { self.new ≡ fallen self.old }
     {
-        if !state.is_reset() {
-            *state = Now::Reset(InReset::new());
+        if !self.phase.is_reset() {
+            self.phase = Phase::Reset(InReset::new());
         }
-        let hand = kit.settings().hand();
-        watchdog.restart(hand);
+        let hand = self.kit.settings().hand();
+        self.watchdog.restart(hand);
     }
 
-    /// A test of a frame failed with this code: in state Reset the frame is dropped. `passed` says whether it was a
-    /// test of the contents.
+    /// Leaves the session for this cause, and sends the Reset frame with its code.
     #[cold]
     #[inline(never)]
-    fn refuse(&mut self, passed: bool, code: Code, did: &mut Did, out: &mut FrameBuf)
-        ensures { outcome_of self.new did.new out.new ≡ refuses self.old passed code }
+    fn fall(&mut self, why: Cause, did: &mut Did, out: &mut FrameBuf)
+        ensures { outcome_of self.new did.new out.new ≡ falls self.old false why }
     {
-        if self.state.is_reset() {
+        self.forget();
+        reset_frame(code_sent(why), self.kit.settings().own_len(), out);
+        *did = Did::reset(false, why);
+    }
+
+    /// A test of a frame failed with this code: in state Reset the frame is dropped.
+    #[cold]
+    #[inline(never)]
+    fn refuse(&mut self, code: Code, did: &mut Did, out: &mut FrameBuf)
+        ensures { outcome_of self.new did.new out.new ≡ refuses self.old false code }
+    {
+        if self.phase.is_reset() {
             out.clear();
             did.clear();
-            did.passed = passed;
             did.dropped = Some(Dropped::InReset);
             return;
         }
-        self.fall(passed, Cause::Found(code), code, did, out);
+        self.fall(Cause::Found(code), did, out);
     }
 
     /// A valid Reset frame came: in state Reset it is taken.
@@ -107,44 +112,54 @@ impl Slave {
     fn acknowledge(&mut self, code: Code, view: &FrameView<'_>, did: &mut Did, out: &mut FrameBuf)
         ensures { outcome_of self.new did.new out.new ≡ reset_by_peer self.old code view.now.load }
     {
-        if self.state.is_reset() {
-            let mut took = Took {
-                command: Command::Reset,
-                load: Image::new(),
-            };
-            view.load_into(&mut took.load);
-            Slave::forget(&mut self.state, &mut self.watchdog, &self.kit);
-            reset_frame(Code::LOCAL_RESET, self.kit.settings().own_len(), out);
-            *did = Did::taken(took, false);
-            return;
+        if !self.phase.is_reset() {
+            return self.fall(Cause::Peer(code), did, out);
         }
-        self.fall(false, Cause::Peer(code), Code::LOCAL_RESET, did, out);
+        let mut took = Took {
+            command: Command::Reset,
+            load: Image::new(),
+        };
+        view.load_into(&mut took.load);
+        self.forget();
+        reset_frame(Code::LOCAL_RESET, self.kit.settings().own_len(), out);
+        *did = Did::taken(took, false);
     }
 
-    /// Takes a frame that passed the tests. After a refusal the session is forgotten; `true` says that there was none.
+    /// Takes a frame that passed the tests. Without a session, a refusal begins none; else the session is to be left.
     #[tactic(auto, using(crate::proofs::Transitions::taken_by, crate::proofs::Transitions::refused_by))]
-    fn advance(&mut self, seen: &Seen<'_>, out: &mut FrameBuf) -> Result<(), (bool, Code)>
+    fn take(&mut self, seen: &Seen<'_>, out: &mut FrameBuf) -> Result<(), Code>
         requires allowed { IsTrue (allows self.old.state seen.now.frame.command) }
         requires passed { HasPassed (receives (OfSlave self.old.kit.settings)) (chain_of self.old.state) seen.now.frame seen.now.link }
         ensures taken { OnOk result (taken self.new seen.now.frame out.new ≡ on_session self.old seen.now.frame None) }
-        ensures refused { IfErr result (λ e. refuses_contents self.new e.0 e.1 ≡ on_session self.old seen.now.frame None) }
+        ensures refused { IfErr result (λ code. refuses self.new true code ≡ on_session self.old seen.now.frame None) }
         ensures kit { self.new.kit ≡ self.old.kit }
     {
-        let Now::Data(state) = &mut self.state else {
-            let was_reset = self.state.is_reset();
-            if let Err(code) = self.state.advance(seen, &self.kit, out) {
-                Slave::forget(&mut self.state, &mut self.watchdog, &self.kit);
-                return Err((was_reset, code));
-            }
-            let limit = self.state.limit(&self.kit);
-            self.watchdog.restart(limit);
-            return Ok(());
+        let Phase::Data(state) = &mut self.phase else {
+            return self.shake_hands(seen, out);
         };
-        if let Err(code) = state.answer(seen, &self.kit, out) {
-            Slave::forget(&mut self.state, &mut self.watchdog, &self.kit);
-            return Err((false, code));
-        }
+        state.answer(seen, &self.kit, out)?;
         let limit = state.terms.watchdog;
+        self.watchdog.restart(limit);
+        Ok(())
+    }
+
+    /// Does so in every state but Data.
+    #[tactic(auto, using(crate::proofs::Transitions::taken_by, crate::proofs::Transitions::refused_by))]
+    fn shake_hands(&mut self, seen: &Seen<'_>, out: &mut FrameBuf) -> Result<(), Code>
+        requires allowed { IsTrue (allows self.old.state seen.now.frame.command) }
+        requires passed { HasPassed (receives (OfSlave self.old.kit.settings)) (chain_of self.old.state) seen.now.frame seen.now.link }
+        ensures taken { OnOk result (taken self.new seen.now.frame out.new ≡ on_session self.old seen.now.frame None) }
+        ensures refused { IfErr result (λ code. refuses self.new true code ≡ on_session self.old seen.now.frame None) }
+        ensures kit { self.new.kit ≡ self.old.kit }
+    {
+        let was_reset = self.phase.is_reset();
+        if let Err(code) = self.phase.take(seen, &self.kit, out) {
+            if was_reset {
+                self.forget();
+            }
+            return Err(code);
+        }
+        let limit = self.phase.limit(&self.kit);
         self.watchdog.restart(limit);
         Ok(())
     }
@@ -155,7 +170,7 @@ impl Slave {
         ensures outcome { outcome_of self.new did.new out.new ≡ on_frame self.old frame.now }
         ensures kit { self.new.kit ≡ self.old.kit }
     {
-        let repeats = self.state.is_repeat(frame);
+        let repeats = self.phase.is_repeat(frame);
         // The frame is read where it was opened, and its data where they are told, so that neither is moved.
         let opened = open(frame, self.kit.settings().peer_len(), repeats);
         match &opened {
@@ -164,7 +179,7 @@ impl Slave {
                 did.clear();
                 did.dropped = Some(*why);
             }
-            Opened::Refuse(code) => self.refuse(false, *code, did, out),
+            Opened::Refuse(code) => self.refuse(*code, did, out),
             Opened::ResetFrame(code, view) => self.acknowledge(*code, view, did, out),
             Opened::OfSession(unread) => self.receive_session(unread, did, out),
         }
@@ -182,15 +197,17 @@ impl Slave {
             unreachable!();
         };
         let frame = SessionFrame::new(unread, &took.load);
-        let link = match self.state.test(&frame) {
-            Err(code) => return self.refuse(false, code, did, out),
+        let link = match self.phase.test(&frame) {
+            Err(code) => return self.refuse(code, did, out),
             Ok(link) => link,
         };
         let seen = Seen { frame, link };
-        match self.advance(&seen, out) {
+        match self.take(&seen, out) {
             Ok(()) => did.tell_taken(true),
-            Err((true, code)) => self.refuse(true, code, did, out),
-            Err((false, code)) => self.fall(true, Cause::Found(code), code, did, out),
+            Err(code) => {
+                self.refuse(code, did, out);
+                did.passed = true;
+            }
         }
     }
 
@@ -225,17 +242,11 @@ impl Slave {
         ensures kit { self.new.kit ≡ self.old.kit }
     {
         out.clear();
-        if self.state.is_reset() || !self.watchdog.tick() {
+        if self.phase.is_reset() || !self.watchdog.tick() {
             did.clear();
             return;
         }
-        self.fall(
-            false,
-            Cause::Found(Code::WATCHDOG_EXPIRED),
-            Code::WATCHDOG_EXPIRED,
-            did,
-            out,
-        );
+        self.fall(Cause::Found(Code::WATCHDOG_EXPIRED), did, out);
     }
 
     /// Counts a tick; in state Reset nothing is counted. If the age reaches the limit, the session ends with code 05h:
@@ -268,7 +279,7 @@ impl Slave {
         ensures kit { self.new.kit ≡ self.old.kit }
     {
         let mut did = Did::nothing();
-        self.fall(false, Cause::Local, Code::LOCAL_RESET, &mut did, out);
+        self.fall(Cause::Local, &mut did, out);
         did
     }
 
@@ -314,7 +325,7 @@ impl Slave {
     pub fn state(&self) -> State
         ensures { Shows self.now result model.state_of }
     {
-        self.state.state()
+        self.phase.state()
     }
 
     /// Returns the outputs, `settings().peer_len()` bytes. In state Data they are the data of the last frame taken,
@@ -326,9 +337,10 @@ impl Slave {
         ensures most { length result.now ≤ MOST_DATA }
     {
         let len = self.kit.settings().peer_len();
-        match &self.state {
-            Now::Data(state) => state.outputs.bytes(),
-            Now::Reset(_) | Now::Session(_) | Now::Connection(_) | Now::Parameter(_) => zeros(len),
+        match &self.phase {
+            Phase::Data(state) => state.outputs.bytes(),
+            Phase::Reset(_) | Phase::Session(_) | Phase::Connection(_) | Phase::Parameter(_) =>
+                zeros(len),
         }
     }
 
@@ -337,7 +349,7 @@ impl Slave {
     pub fn terms(&self) -> Option<&Terms>
         ensures { Shows self.now (option_copied result) model.told_terms }
     {
-        self.state.terms()
+        self.phase.terms()
     }
 
     /// Returns the ticks since the last frame was sent, 0 in state Reset.

@@ -4,8 +4,8 @@
 ghost use Rattle.std.specs.Prelude.{◌≡◌, IsTrue, false};
 ghost use Rattle.param_load.specs.Upload.{is_whole};
 ghost use Rattle.fsoe_base.specs.Data.{is_data};
-ghost use Rattle.slave_core.specs.declared.now.Now.TheVariants as now;
-ghost use Rattle.slave_core.specs.Now.{PassedIn};
+ghost use Rattle.slave_core.specs.declared.phase.Phase.TheVariants as phase;
+ghost use Rattle.slave_core.specs.Phase.{PassedIn};
 ghost use Rattle.slave_core.specs.States.{no_session, starting, connecting, loading, running, SessionUnder, ParameterUnder, DataUnder};
 ghost use Rattle.slave_core.specs.Taken.{Advances, Transits};
 
@@ -72,8 +72,8 @@ impl InReset {
         out: &mut FrameBuf,
     ) -> Result<InSession, (InReset, Code)>
         requires command { seen.now.frame.command ≡ Command.Session }
-        requires passed { PassedIn kit.now.settings (now.Reset self) seen.now.frame seen.now.link }
-        ensures { Transits now.Session (now.Reset self) (now.Session (starting kit.now)) kit.now seen.now.frame result out.old out.new }
+        requires passed { PassedIn kit.now.settings (phase.Reset self) seen.now.frame seen.now.link }
+        ensures { Transits phase.Session (phase.Reset self) (phase.Session (starting kit.now)) kit.now seen.now.frame result out.old out.new }
     {
         InReset::to_session(kit).more(seen, kit, out)
     }
@@ -110,8 +110,8 @@ impl InSession {
     ) -> Result<InSession, (InReset, Code)>
         requires command { seen.now.frame.command ≡ Command.Session }
         requires more { is_whole self.upload ≡ false }
-        requires passed { PassedIn kit.now.settings (now.Session self) seen.now.frame seen.now.link }
-        ensures { Transits now.Session (now.Session self) (now.Session self) kit.now seen.now.frame result out.old out.new }
+        requires passed { PassedIn kit.now.settings (phase.Session self) seen.now.frame seen.now.link }
+        ensures { Transits phase.Session (phase.Session self) (phase.Session self) kit.now seen.now.frame result out.old out.new }
     {
         match self.answer(seen, kit, out) {
             Ok(()) => Ok(self),
@@ -130,8 +130,8 @@ impl InSession {
     ) -> Result<InConnection, (InReset, Code)>
         requires command { seen.now.frame.command ≡ Command.Connection }
         requires whole { IsTrue (is_whole self.upload) }
-        requires passed { PassedIn kit.now.settings (now.Session self) seen.now.frame seen.now.link }
-        ensures { Transits now.Connection (now.Session self) (now.Connection (connecting kit.now self seen.now.frame.frame.conn)) kit.now seen.now.frame result out.old out.new }
+        requires passed { PassedIn kit.now.settings (phase.Session self) seen.now.frame seen.now.link }
+        ensures { Transits phase.Connection (phase.Session self) (phase.Connection (connecting kit.now self seen.now.frame.frame.conn)) kit.now seen.now.frame result out.old out.new }
     {
         let begun = self.to_connection(seen.frame.conn(), kit);
         begun.more(seen, kit, out)
@@ -150,6 +150,7 @@ impl InSession {
     }
 
     /// Does the same as `more`, in place. After a refusal the state must only be left.
+    #[inline(never)]
     pub(crate) fn answer(
         &mut self,
         seen: &Seen<'_>,
@@ -157,8 +158,8 @@ impl InSession {
         out: &mut FrameBuf,
     ) -> Result<(), Code>
         requires more { is_whole self.old.upload ≡ false }
-        requires passed { PassedIn kit.now.settings (now.Session self.old) seen.now.frame seen.now.link }
-        ensures { Advances kit.now (now.Session self.old) seen.now.frame result (now.Session self.new) out.old out.new }
+        requires passed { PassedIn kit.now.settings (phase.Session self.old) seen.now.frame seen.now.link }
+        ensures { Advances kit.now (phase.Session self.old) seen.now.frame result (phase.Session self.new) out.old out.new }
     {
         let from = self.upload.len();
         self.upload.take(seen.frame.load(), kit.settings().rule())?;
@@ -190,8 +191,8 @@ impl InConnection {
     ) -> Result<InConnection, (InReset, Code)>
         requires command { seen.now.frame.command ≡ Command.Connection }
         requires more { is_whole self.upload ≡ false }
-        requires passed { PassedIn kit.now.settings (now.Connection self) seen.now.frame seen.now.link }
-        ensures { Transits now.Connection (now.Connection self) (now.Connection self) kit.now seen.now.frame result out.old out.new }
+        requires passed { PassedIn kit.now.settings (phase.Connection self) seen.now.frame seen.now.link }
+        ensures { Transits phase.Connection (phase.Connection self) (phase.Connection self) kit.now seen.now.frame result out.old out.new }
     {
         match self.answer(seen, kit, out) {
             Ok(()) => Ok(self),
@@ -211,8 +212,8 @@ impl InConnection {
     ) -> Result<InParameter, (InReset, Code)>
         requires command { seen.now.frame.command ≡ Command.Parameter }
         requires whole { IsTrue (is_whole self.upload) }
-        requires passed { PassedIn kit.now.settings (now.Connection self) seen.now.frame seen.now.link }
-        ensures { Transits now.Parameter (now.Connection self) (now.Parameter (loading kit.now self)) kit.now seen.now.frame result out.old out.new }
+        requires passed { PassedIn kit.now.settings (phase.Connection self) seen.now.frame seen.now.link }
+        ensures { Transits phase.Parameter (phase.Connection self) (phase.Parameter (loading kit.now self)) kit.now seen.now.frame result out.old out.new }
     {
         self.to_parameter(kit).more(seen, kit, out)
     }
@@ -235,6 +236,7 @@ impl InConnection {
     }
 
     /// Does the same as `more`, in place. After a refusal the state must only be left.
+    #[inline(never)]
     pub(crate) fn answer(
         &mut self,
         seen: &Seen<'_>,
@@ -242,8 +244,8 @@ impl InConnection {
         out: &mut FrameBuf,
     ) -> Result<(), Code>
         requires more { is_whole self.old.upload ≡ false }
-        requires passed { PassedIn kit.now.settings (now.Connection self.old) seen.now.frame seen.now.link }
-        ensures { Advances kit.now (now.Connection self.old) seen.now.frame result (now.Connection self.new) out.old out.new }
+        requires passed { PassedIn kit.now.settings (phase.Connection self.old) seen.now.frame seen.now.link }
+        ensures { Advances kit.now (phase.Connection self.old) seen.now.frame result (phase.Connection self.new) out.old out.new }
     {
         self.upload.take(seen.frame.load(), kit.settings().rule())?;
         let load = self.upload.echo(kit.settings().own_len());
@@ -272,8 +274,8 @@ impl InParameter {
     ) -> Result<InParameter, (InReset, Code)>
         requires command { seen.now.frame.command ≡ Command.Parameter }
         requires more { is_whole self.upload ≡ false }
-        requires passed { PassedIn kit.now.settings (now.Parameter self) seen.now.frame seen.now.link }
-        ensures { Transits now.Parameter (now.Parameter self) (now.Parameter self) kit.now seen.now.frame result out.old out.new }
+        requires passed { PassedIn kit.now.settings (phase.Parameter self) seen.now.frame seen.now.link }
+        ensures { Transits phase.Parameter (phase.Parameter self) (phase.Parameter self) kit.now seen.now.frame result out.old out.new }
     {
         match self.answer(seen, kit, out) {
             Ok(()) => Ok(self),
@@ -291,8 +293,8 @@ impl InParameter {
     ) -> Result<InData, (InReset, Code)>
         requires command { IsTrue (is_data seen.now.frame.command) }
         requires whole { IsTrue (is_whole self.upload) }
-        requires passed { PassedIn kit.now.settings (now.Parameter self) seen.now.frame seen.now.link }
-        ensures { Transits now.Data (now.Parameter self) (now.Data (running kit.now self)) kit.now seen.now.frame result out.old out.new }
+        requires passed { PassedIn kit.now.settings (phase.Parameter self) seen.now.frame seen.now.link }
+        ensures { Transits phase.Data (phase.Parameter self) (phase.Data (running kit.now self)) kit.now seen.now.frame result out.old out.new }
     {
         self.to_data(kit).more(seen, kit, out)
     }
@@ -320,6 +322,7 @@ impl InParameter {
     }
 
     /// Does the same as `more`, in place. After a refusal the state must only be left.
+    #[inline(never)]
     pub(crate) fn answer(
         &mut self,
         seen: &Seen<'_>,
@@ -327,8 +330,8 @@ impl InParameter {
         out: &mut FrameBuf,
     ) -> Result<(), Code>
         requires more { is_whole self.old.upload ≡ false }
-        requires passed { PassedIn kit.now.settings (now.Parameter self.old) seen.now.frame seen.now.link }
-        ensures { Advances kit.now (now.Parameter self.old) seen.now.frame result (now.Parameter self.new) out.old out.new }
+        requires passed { PassedIn kit.now.settings (phase.Parameter self.old) seen.now.frame seen.now.link }
+        ensures { Advances kit.now (phase.Parameter self.old) seen.now.frame result (phase.Parameter self.new) out.old out.new }
     {
         self.upload.take(seen.frame.load(), kit.settings().rule())?;
         let load = self.upload.echo(kit.settings().own_len());
@@ -355,8 +358,8 @@ impl InData {
         out: &mut FrameBuf,
     ) -> Result<InData, (InReset, Code)>
         requires command { IsTrue (is_data seen.now.frame.command) }
-        requires passed { PassedIn kit.now.settings (now.Data self) seen.now.frame seen.now.link }
-        ensures { Transits now.Data (now.Data self) (now.Data self) kit.now seen.now.frame result out.old out.new }
+        requires passed { PassedIn kit.now.settings (phase.Data self) seen.now.frame seen.now.link }
+        ensures { Transits phase.Data (phase.Data self) (phase.Data self) kit.now seen.now.frame result out.old out.new }
     {
         match self.answer(seen, kit, out) {
             Ok(()) => Ok(self),
@@ -373,8 +376,8 @@ impl InData {
         out: &mut FrameBuf,
     ) -> Result<(), Code>
         requires command { IsTrue (is_data seen.now.frame.command) }
-        requires passed { PassedIn kit.now.settings (now.Data self.old) seen.now.frame seen.now.link }
-        ensures { Advances kit.now (now.Data self.old) seen.now.frame result (now.Data self.new) out.old out.new }
+        requires passed { PassedIn kit.now.settings (phase.Data self.old) seen.now.frame seen.now.link }
+        ensures { Advances kit.now (phase.Data self.old) seen.now.frame result (phase.Data self.new) out.old out.new }
     {
         let frame = &seen.frame;
         if !data_holds(frame.command(), frame.load()) {

@@ -1,9 +1,9 @@
-use Rattle.slave_core.specs.declared.now.Now.TheVariants as now
+use Rattle.slave_core.specs.declared.phase.Phase.TheVariants as phase
 use Rattle.slave_core.proofs.Transits.{stays, taken_in_place, refused_in_place}
 use Rattle.slave_core.proofs.states.InSession.more.Goals as goal
 
 pub returns-in-Ok : goal.returns-in-Ok
-returns-in-Ok c = taken_in_place now.Session _ _ _ _ _ _ _ _ c.answer.ensures c.in-Ok.is (stays _ _ _ c.requires.more)
+returns-in-Ok c = taken_in_place phase.Session _ _ _ _ _ _ _ _ c.answer.ensures c.in-Ok.is (stays _ _ _ c.requires.more)
 
 pub returns-in-Err : goal.returns-in-Err
-returns-in-Err c = refused_in_place now.Session _ _ _ _ _ _ _ _ _ c.answer.ensures c.in-Err.is (stays _ _ _ c.requires.more)
+returns-in-Err c = refused_in_place phase.Session _ _ _ _ _ _ _ _ _ c.answer.ensures c.in-Err.is (stays _ _ _ c.requires.more)
