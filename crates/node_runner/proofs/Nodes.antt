@@ -13,8 +13,8 @@ use Rattle.schedule_file.specs.declared.header_kind.HeaderKind.TheVariants as ki
 use Rattle.file_run.specs.Machine.{TakesEvent, MayCome, EndsReport}
 use Rattle.file_run.specs.Report.{events_line, last_line}
 use Rattle.file_run.specs.Reporting.{ReportsSoFar, ended_at}
-use Rattle.end_model.specs.Setup.{Setup, end_of, sends}
-use Rattle.end_model.specs.Runs.{profile_of}
+use Rattle.end_model.specs.Setup.{Setup}
+use Rattle.end_model.specs.Runs.{IsProper}
 use Rattle.end_model.specs.Deed.{Deed}
 use Rattle.end_model.specs.Outputs.{out}
 use Rattle.end_model.specs.Readiness.{state_of}
@@ -24,7 +24,7 @@ use Rattle.end_core.specs.Core.{setup_of, IsAtRest}
 use Rattle.end_core.specs.Standing.{IsAfter, IsNew, Follows, Answers, Shows}
 use Rattle.end_core.specs.declared.one_end.Core.{Core}
 use Rattle.node_runner.specs.Move.{move_of}
-use Rattle.node_runner.specs.Node.{FitsCore, NodeStands}
+use Rattle.node_runner.specs.Node.{NodeStands}
 use Rattle.node_runner.specs.Ran.{node_reporting}
 use Rattle.node_runner.specs.Report.{IsSetTo, step_line, deed_line, deed_lines, node_deeds}
 use Rattle.node_runner.proofs.DeedLines.{count_deeds, deeds_more, lines_begin}
@@ -39,17 +39,16 @@ begins end core h s new is set = record {
   lines = refl;
 }
 
--- what fits a header fits the end that is set to it
-fits_set : (end : End) (h : Heading) (s : Setup) (event : Event) → IsSetTo end h s → FitsEnd end (own_length h end) (heading_profile h end) event
-    → FitsEnd (end_of s) (sends s) (profile_of s) event
-fits_set end h s event k l = grind arith
+-- what fits a header may happen to the end that is set to it
+proper_set : (end : End) (h : Heading) (s : Setup) (event : Event) → IsSetTo end h s → FitsEnd end (own_length h end) (heading_profile h end) event → IsProper s (move_of event)
+proper_set end h s event k l = grind arith
 
-pub node_fits : (end : End) (core : Core) (event : Event) (number : ℕ) → MayCome (NodeStands end core) (schedule_format (kind.Node end)) event number → FitsCore core event
+pub node_fits : (end : End) (core : Core) (event : Event) (number : ℕ) → MayCome (NodeStands end core) (schedule_format (kind.Node end)) event number → IsProper (setup_of core) (move_of event)
 node_fits end core event number may =
     let k = may.stands in
     let said = may.said in
-    subst (λ (s : Setup). FitsEnd (end_of s) (sends s) (profile_of s) event) (sym (setup_is k.setup core (node_deeds k.setup may.log) k.is_after))
-    (fits_set end may.heading k.setup event k.set (node_event_fits end may.heading said.0 said.1 event said.2 said.3))
+    subst (λ (s : Setup). IsProper s (move_of event)) (sym (setup_is k.setup core (node_deeds k.setup may.log) k.is_after))
+    (proper_set end may.heading k.setup event k.set (node_event_fits end may.heading said.0 said.1 event said.2 said.3))
 
 -- an event at an end, which did this and sent this frame, and what is shown after it, as a line
 pub record Reports (old new : Core) (event : Event) (number : ℕ) (did : Did) (sent : List ℕ) (state : State) (outputs piece : List ℕ) : Type 0 where

@@ -1,25 +1,23 @@
-//! The end that a node runs: one event at it, and its line of the report.
+//! The end that a node runs: what an event is to it, and the line of its answer.
 ghost use Rattle.std.specs.Prelude.{◌≡◌, []};
 ghost use Rattle.schedule_file.specs.declared.header_kind.HeaderKind.TheVariants as kind;
-ghost use Rattle.end_core.specs.Core.{IsAtRest};
-ghost use Rattle.end_core.specs.Standing.{Follows, Answers};
+ghost use Rattle.param_load.specs.MoveRef.{owned_move};
 ghost use Rattle.node_runner.specs.Move.{move_of};
-ghost use Rattle.node_runner.specs.Node.{FitsCore, NodeStands};
+ghost use Rattle.node_runner.specs.Node.{NodeStands};
 
 use end_core::Core;
 use entry_text::push_entry;
 use file_run::{Machine, Schedule, Stopped, ended_with, write_events};
-use fsoe_base::{Did, End, FrameBuf, Memory};
+use fsoe_base::{End, Memory};
 use fsoe_io::{Ended, LineText};
+use param_load::{Answer, MoveRef};
 use schedule_file::{Event, Header, HeaderKind, MAX_EVENTS};
 
-/// The node at one end, with what it did last and the frame that it sent. Both are kept from one event to the next, so
-/// that neither is made anew.
+/// The node at one end, with what it did last.
 #[derive(Drop)]
 pub(crate) struct Node {
     core: Core,
-    did: Did,
-    sent: FrameBuf,
+    answer: Answer,
 }
 
 /// This end, with the settings of a header that describes it.
@@ -33,35 +31,19 @@ fn new_core(end: End, header: &Header) -> Core
     }
 }
 
-/// Does one event at an end. Writes the result to `did`, and the frame to send to `sent`, empty if none is sent.
-#[tactic(auto, using(end_core::proofs::Either::set_answers))]
-fn step(core: &mut Core, event: &Event, did: &mut Did, sent: &mut FrameBuf)
-    requires fits { FitsCore core.old event.now }
-    requires rest { IsAtRest core.old }
-    ensures follows { Follows core.old (move_of event.now) core.new }
-    ensures answers { Answers core.old (move_of event.now) did.new sent.new }
-    ensures rest { IsAtRest core.new }
+/// What an event is to the end of a node.
+#[inline(always)]
+fn move_of(event: &Event) -> MoveRef<'_>
+    ensures { owned_move result ≡ move_of event.now }
 {
     match event {
-        Event::Raw { frame, .. } => core.deliver_into(frame.bytes(), did, sent),
-        Event::Tick { .. } => core.tick_into(did, sent),
-        Event::Local { .. } => *did = core.reset(sent),
-        Event::Put { load, .. } => {
-            core.put(load.bytes());
-            sent.clear();
-            did.clear();
-        }
-        Event::Hold { failsafe, .. } => {
-            core.hold(*failsafe);
-            sent.clear();
-            did.clear();
-        }
-        Event::Nonce { id, .. } => {
-            core.nonce(*id);
-            sent.clear();
-            did.clear();
-        }
-        Event::Deliver { .. } | Event::Altered { .. } => unreachable!(),
+        Event::Raw { frame, .. } => MoveRef::Deliver(frame.bytes()),
+        Event::Deliver { .. } | Event::Altered { .. } => MoveRef::Deliver(&[]),
+        Event::Tick { .. } => MoveRef::Tick,
+        Event::Put { load, .. } => MoveRef::Put(load.bytes()),
+        Event::Hold { failsafe, .. } => MoveRef::Hold(*failsafe),
+        Event::Nonce { id, .. } => MoveRef::Nonce(*id),
+        Event::Local { .. } => MoveRef::Local,
     }
 }
 
@@ -94,8 +76,7 @@ impl Machine for Node {
     fn begin(header: &Header, end: &mut End) -> Result<Node, Memory> {
         Ok(Node {
             core: new_core(*end, header),
-            did: Did::nothing(),
-            sent: FrameBuf::new(),
+            answer: Answer::new(),
         })
     }
 
@@ -110,15 +91,15 @@ impl Machine for Node {
         number: u64,
         text: &mut LineText,
     ) -> Result<(), Stopped> {
-        step(&mut self.core, event, &mut self.did, &mut self.sent);
+        self.core.act(move_of(event), &mut self.answer);
         text.clear();
         text.push_decimal(number);
         text.push(b" ");
         push_entry(
-            &self.did,
+            &self.answer.did,
             self.core.state(),
             self.core.outputs(),
-            self.sent.bytes(),
+            self.answer.sent.bytes(),
             text,
         );
         text.push(b"\n");
