@@ -3,8 +3,6 @@ pub use Rattle.black_channel.specs.Altered.{altered, back_th}
 pub use Rattle.black_channel.specs.Window.{Pushes, WindowView, window_of}
 pub use Rattle.duo_run.specs.Acts.{Comes, Hears, move_at}
 pub use Rattle.duo_run.specs.Bulk.{bulk_entries, number_line, report_of, summary_lines}
-pub use Rattle.duo_run.specs.Convert.{ConvertWrite, ConvertedAs, ConvertsReadLines, IsOnePair, RanConvert, SaysTheSame, WroteAll, converted, converted_by, ended_at_stop, event_text, header_text, last_text, line_text, lines_before, only_pair, title_text}
-pub use Rattle.duo_run.specs.Converting.{FindsTaken, LineTaken, PairRead, end_taken, event_taken, full_taken, header_piece, header_taken, later_taken, left_to_take, line_taken, read_none, taken_by}
 pub use Rattle.duo_run.specs.Duo.{Advances, CountsEntry, DuoStands, DuoView, IsDuo, Misses, NextEntry, ReplayStands, ShowsLast, Steps, lengths_of, profiles_of, sent_by, steps_done}
 pub use Rattle.duo_run.specs.Pairs.{Pair, done_after, entries_over, entry_after, events_by, events_done, events_to, is_met, is_met_by, least, less_of, other_event, other_events, world_of}
 pub use Rattle.duo_run.specs.PairsReport.{ArePairs, IsPairOf, PairsInput, PairsReports, PairsRunFairly, RanPairs, closing_line, closing_lines, each_line, event_lines, line_if, lines_of_events, one_line, pairs_ended, pairs_last_lines, pairs_reporting, pairs_stop, tick_lines, with_tick}
@@ -28,23 +26,18 @@ pub use Rattle.exchange_model.specs.Other.{before_other, first_of_both, first_ot
 pub use Rattle.exchange_model.specs.Worlds.{IsNextEntry, IsProperEvent, IsWorld}
 pub use Rattle.exchange_model.specs.Serving.{HasNoReset, Serves, ServesSteadily, TakesDelivery}
 pub use Rattle.exchange_model.specs.World.{SameLengths, altered_delivery, deed_in, deeds, delivery, end_of_event, entry_at, entry_on, frames_of, going_on, move_from, next_entry, setup_of, world, world_after}
-pub use Rattle.file_run.proofs.Lines.{by_line, lines_whole}
-pub use Rattle.file_run.proofs.Sending.{Sent, cut_part, grew_written, piece_part, rose_since, sent_flushed, sent_none, sent_piece, text_part}
-pub use Rattle.file_run.proofs.Taken.{halts_after, took_line, took_none, took_one}
-pub use Rattle.file_run.specs.ByTitle.{ByTitle, IsTitled, first_line}
-pub use Rattle.file_run.specs.Ending.{AppendedPart, Writes}
+pub use Rattle.file_run.specs.ByTitle.{ByTitle, IsTitled}
+pub use Rattle.file_run.specs.Ending.{Writes}
 pub use Rattle.file_run.specs.Machine.{EndsReport, EndsUnmet, MayCome, TakesEvent}
-pub use Rattle.file_run.specs.Outside.{CountsFaults, Outside, Told, Wrote}
-pub use Rattle.file_run.specs.Ran.{EndsWhole, RanOver, line_of_end}
-pub use Rattle.file_run.specs.Refusal.{input_cause}
+pub use Rattle.file_run.specs.Outside.{Outside, Told}
+pub use Rattle.file_run.specs.Ran.{EndsWhole, RanOver}
 pub use Rattle.file_run.specs.Report.{ended_with, events_line, other_line, refused_line}
-pub use Rattle.file_run.specs.Reporting.{IsPrefix, ReportsSoFar, input_stopped, refused_at}
+pub use Rattle.file_run.specs.Reporting.{IsPrefix, ReportsSoFar, input_stopped}
 pub use Rattle.file_run.specs.Waiting.{WaitingText}
 pub use Rattle.fsoe_base.specs.LengthsOf.{length_of}
 pub use Rattle.fsoe_base.specs.declared.command.End.{End}
 pub use Rattle.fsoe_base.specs.declared.command.State.{State}
 pub use Rattle.fsoe_base.specs.declared.did.Did.{Did}
-pub use Rattle.fsoe_io.specs.Line.{HasNoNewline, IsLine, is_newline, most_held}
 pub use Rattle.fsoe_io.specs.declared.status.Ended.{Ended}
 pub use Rattle.master_core.specs.Standing.{MasterIsAfter}
 pub use Rattle.param_load.specs.declared.entry.Entry.{Entry}
@@ -56,35 +49,29 @@ pub use Rattle.param_load.specs.declared.terms.Terms.{Terms}
 pub use Rattle.schedule_file.proofs.Fitting.{events_fit, pair_event_fits}
 pub use Rattle.schedule_file.proofs.OneSetting.{one_master, one_slave}
 pub use Rattle.schedule_file.proofs.PairsFitting.{pairs_event_fits, pairs_events_fit}
-pub use Rattle.schedule_file.proofs.Sound.{IfOk-every, IfOk-map, Sound, after_sound, each, gives_master, gives_slave, known, master_settings, new_sound, slave_settings}
+pub use Rattle.schedule_file.proofs.Sound.{Sound, after_sound, each, gives_master, gives_slave, known, master_settings, new_sound, slave_settings}
 pub use Rattle.schedule_file.specs.Event.{Fits, IsWritable, made_profiles, profile_of}
-pub use Rattle.schedule_file.specs.Field.{bytes_said, fields_of, is_number, number_said}
-pub use Rattle.schedule_file.specs.Fields.{by_word, one_field, value_or}
-pub use Rattle.schedule_file.specs.Header.{Heading, IsMasterOf, IsSlaveOf, fields_taken, heading_after, heading_is_whole, heading_new, heading_with, profile_given, profile_taken, rule_place, title_taken}
-pub use Rattle.schedule_file.specs.Input.{AtEnd, Input, InputCause, InputOf, Line, Long, NoFrame, NoLine, Refused, Stop, TooMany, WholeHeader, WholeHeaderOf, event_of, header_in, header_of, header_step, heading_profile, input_after, input_by, input_of, is_full, lines_in, lines_of, open_line, own_length, said_after, schedule_format, steps, stop_at, stop_by, stop_full, texts, with_room}
+pub use Rattle.schedule_file.specs.Field.{fields_of}
+pub use Rattle.schedule_file.specs.Header.{Heading, IsMasterOf, IsSlaveOf, heading_after}
+pub use Rattle.schedule_file.specs.Input.{AtEnd, Input, NoFrame, Refused, Stop, heading_profile, input_of, own_length, schedule_format}
 pub use Rattle.schedule_file.specs.Made.{event_at, event_by, event_in_turn, is_switch_on, load_of, made, made_lengths, made_master, made_slave, mask_of, altered_place, word_after}
 pub use Rattle.schedule_file.specs.NodeHeader.{may_end}
-pub use Rattle.schedule_file.specs.PairEvent.{pair_event, pair_line, pair_said, pair_word_of}
-pub use Rattle.schedule_file.specs.PairsEvent.{numbered, pairs_line}
+pub use Rattle.schedule_file.specs.PairsEvent.{numbered}
 pub use Rattle.schedule_file.specs.PairsFit.{FitsPair, PairsLineFits, line_of_event}
-pub use Rattle.schedule_file.specs.PairsHeader.{PairsHeading, is_done, last_taken, next_pair, pair_begun, pair_taken, pairs_begun, pairs_heading_after, pairs_heading_is_whole, pairs_line_taken, pairs_of, stage_after}
-pub use Rattle.schedule_file.specs.PairsInput.{entries_by, pairs_are_full, pairs_format, pairs_input, pairs_said_after}
-pub use Rattle.schedule_file.specs.Place.{admitted, header_word_of, is_start}
+pub use Rattle.schedule_file.specs.PairsHeader.{PairsHeading, is_done, last_taken, next_pair, pair_begun, pair_taken, pairs_begun, pairs_heading_is_whole, pairs_line_taken, pairs_of}
+pub use Rattle.schedule_file.specs.PairsInput.{entries_by, pairs_format, pairs_input}
 pub use Rattle.schedule_file.specs.declared.event.Event.{Event}
-pub use Rattle.schedule_file.specs.declared.event.ScheduleLine.{ScheduleLine}
 pub use Rattle.schedule_file.specs.declared.line_cause.LineCause.{LineCause}
 pub use Rattle.schedule_file.specs.declared.pairs_header.PairsStage.{PairsStage}
 pub use Rattle.schedule_file.specs.declared.pairs_line.PairsEvent.{PairsEvent}
 pub use Rattle.slave_core.specs.Standing.{SlaveIsAfter}
-pub use Rattle.std.proofs.lemmas.Bool.{and_parts, eqb-false, eqb-true, leb-true, ltb-true}
+pub use Rattle.std.proofs.lemmas.Bool.{eqb-false, eqb-true}
 pub use Rattle.std.proofs.lemmas.Grind.{common_steps}
-pub use Rattle.std.proofs.lemmas.List.{append-nil, length-append, length-map, length-set, length-take-le, length_push, map-append, take_all, take_at}
+pub use Rattle.std.proofs.lemmas.List.{append-nil, length-append, length-map, length-set, length-take-le, length_push, take_all, take_at}
 pub use Rattle.std.proofs.lemmas.List.Elements.{All-append, All-cons, All-head, All-nil, All-push, All-tail}
 pub use Rattle.std.proofs.lemmas.Option.{IfSome_then, MatchOption-at_some, same_Some, slice_get-get_or, slice_get_read, slice_get_within}
-pub use Rattle.std.proofs.lemmas.Result.{IfOk-at_ok}
 pub use Rattle.std.proofs.lemmas.Slice.Zip.{AllZip-left, AllZip-long, AllZip-right, all_zipped_more}
-pub use Rattle.std.specs.Io.KnownBytes.{Consumes, prepend_known}
-pub use Rattle.std.specs.List.{AllZip, flat_map, join_with_byte, list_all, slice_split}
-pub use Rattle.std.specs.Prelude.{Err, IfOk, IfSome, IsOk, IsSomeAnd, None, Ok, OnErr, OnOk, Result, Some, codes, decimal, is_some, nat_le, nat_lt, slice_get, slice_index}
-pub use Rattle.std.specs.Str.{all_ascii_digits, bytes_eq}
+pub use Rattle.std.specs.List.{AllZip, list_all}
+pub use Rattle.std.specs.Prelude.{Err, IfOk, IfSome, IsOk, IsSomeAnd, None, Ok, OnErr, OnOk, Result, Some, codes, decimal, is_some, nat_le, slice_get}
+pub use Rattle.std.specs.Str.{bytes_eq}
 pub use Rattle.std.specs.declared.option.Option.{Option}

@@ -1,5 +1,4 @@
 pub mod Pair
 pub mod Pairs
 pub mod Numbers
-pub mod Conversion
 pub mod Common

@@ -7,6 +7,4 @@ pub mod PairsStanding
 pub mod Ran
 pub mod Replay
 pub mod Summary
-pub mod Convert
-pub mod Converting
 pub mod Version

@@ -8,13 +8,13 @@ ghost use Rattle.duo_run.specs.Summary.{summary_of};
 ghost use Rattle.duo_run.specs.Bulk.{bulk_entries, ends_line, state_line, number_line, summary_lines, RanBulk};
 ghost use Rattle.file_run.specs.Outside.{told};
 
-use crate::acting::Answer;
 use crate::coming::end_of;
 use crate::duo::Duo;
 use crate::summary::Summary;
 use file_run::{ended_with, push_other, write_report};
 use fsoe_base::{End, State};
 use fsoe_io::{Ended, LineText, Sink};
+use param_load::Answer;
 use schedule_file::{Event, Maker};
 
 /// Runs a new pair on the first `events` events of a number: the summary, and the number of the first `other` entry.

@@ -1,5 +1,6 @@
 //! What comes at an event: which end it happens at, and the bytes that are delivered.
 ghost use Rattle.std.specs.Prelude.{◌≡◌, ◌≤◌, Some, None, length, IfOk, OnErr};
+ghost use Rattle.param_load.specs.MoveRef.{owned_move};
 ghost use Rattle.schedule_file.specs.Event.{IsWritable};
 ghost use Rattle.exchange_model.specs.World.{end_of_event, move_from};
 ghost use Rattle.duo_run.specs.Acts.{move_at, Comes, IsAltered};
@@ -7,7 +8,7 @@ ghost use Rattle.duo_run.specs.Acts.{move_at, Comes, IsAltered};
 use crate::fault::StepFault;
 use black_channel::{Window, altered};
 use fsoe_base::{End, FrameBuf, MOST_FRAME};
-use param_load::Move;
+use param_load::{Move, MoveRef};
 use schedule_file::Event;
 
 /// The end at which an event happens.
@@ -72,21 +73,16 @@ pub(crate) fn came<'a>(
 }
 
 /// What an event is to its end, at which these bytes come.
-fn move_at(event: &Event, came: &[u8]) -> Move
-    requires { length came.now ≤ MOST_FRAME }
-    ensures { result ≡ move_at event.now came.now }
+pub(crate) fn move_at<'a>(event: &'a Event, came: &'a [u8]) -> MoveRef<'a>
+    ensures { owned_move result ≡ move_at event.now came.now }
 {
     match event {
-        Event::Deliver { .. } | Event::Altered { .. } | Event::Raw { .. } => {
-            let mut frame = FrameBuf::new();
-            frame.set(came);
-            Move::Deliver(frame)
-        }
-        Event::Tick { .. } => Move::Tick,
-        Event::Put { load, .. } => Move::Put(load.copy()),
-        Event::Hold { failsafe, .. } => Move::Hold(*failsafe),
-        Event::Nonce { id, .. } => Move::Nonce(*id),
-        Event::Local { .. } => Move::Local,
+        Event::Deliver { .. } | Event::Altered { .. } | Event::Raw { .. } => MoveRef::Deliver(came),
+        Event::Tick { .. } => MoveRef::Tick,
+        Event::Put { load, .. } => MoveRef::Put(load.bytes()),
+        Event::Hold { failsafe, .. } => MoveRef::Hold(*failsafe),
+        Event::Nonce { id, .. } => MoveRef::Nonce(*id),
+        Event::Local { .. } => MoveRef::Local,
     }
 }
 
@@ -99,5 +95,5 @@ pub(crate) fn moved(event: &Event, heard: &Window) -> Result<Move, StepFault>
     let mut copy = FrameBuf::new();
     alter(event, heard, &mut copy);
     let came = came(event, heard, &copy)?;
-    Ok(move_at(event, came))
+    Ok(move_at(event, came).to_move())
 }

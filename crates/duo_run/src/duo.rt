@@ -1,17 +1,37 @@
 //! Both ends of a connection over a schedule.
 ghost use Rattle.std.specs.Prelude.{◌≡◌, ◌≤◌, ◌<◌, ◌+◌, ◌^◌, List, [], length, option_copied, IfOk, OnErr, OnOk};
+ghost use Rattle.duo_run.specs.Acts.{Hears};
 
-use crate::acting::{Answer, act_master, act_slave, copied, hear};
-use crate::coming::{alter, came, end_of, moved};
+use crate::coming::{alter, came, end_of, move_at, moved};
 use crate::fault::StepFault;
 use black_channel::Window;
 use exchange_model::Monitor;
 use fsoe_base::{End, FrameBuf, Image, MOST_DATA, State};
 use master_core::Master;
-use param_load::{Entry, MasterSettings, SlaveSettings, Terms};
+use param_load::{Answer, Entry, MasterSettings, SlaveSettings, Terms};
 use schedule_file::Event;
 use slave_core::Slave;
 use std::marker::Model;
+
+/// A copy of these terms, if there are some.
+fn copied(terms: Option<&Terms>) -> Option<Terms>
+    ensures { result ≡ option_copied terms.entry }
+{
+    match terms {
+        Some(terms) => Some(terms.copy()),
+        None => None,
+    }
+}
+
+/// Stores the frame of a step in the window of its end, if one was sent.
+#[tactic(auto, using(crate::proofs::Pair::Heard::hears_frame, crate::proofs::Pair::Heard::hears_none))]
+fn hear(window: &mut Window, sent: &FrameBuf)
+    ensures { Hears window.old sent.now window.new }
+{
+    if !sent.is_empty() {
+        window.push(sent.bytes());
+    }
+}
 
 /// Both ends of a connection, with a channel that stores the last frames of each end: any of these can be delivered to
 /// the other end, also repeatedly. A monitor judges the run. No call allocates.
@@ -111,7 +131,7 @@ impl Duo {
             End::Master => {
                 alter(event, &self.slave_sent, &mut self.altered);
                 let came = came(event, &self.slave_sent, &self.altered)?;
-                act_master(&mut self.master, event, came, answer);
+                self.master.act(move_at(event, came), answer);
                 self.monitor
                     .note_parts(End::Master, came, &answer.did, &answer.sent);
                 hear(&mut self.master_sent, &answer.sent);
@@ -120,7 +140,7 @@ impl Duo {
             End::Slave => {
                 alter(event, &self.master_sent, &mut self.altered);
                 let came = came(event, &self.master_sent, &self.altered)?;
-                act_slave(&mut self.slave, event, came, answer);
+                self.slave.act(move_at(event, came), answer);
                 self.monitor
                     .note_parts(End::Slave, came, &answer.did, &answer.sent);
                 hear(&mut self.slave_sent, &answer.sent);

@@ -1,6 +1,8 @@
 //! Several pairs, each with its own channel.
-ghost use Rattle.std.specs.Prelude.{◌≡◌, ◌≢◌, ◌≤◌, ◌<◌, ◌+◌, ◌^◌, ℕ, List, [], IfOk, IfSome, OnErr, OnOk, length};
+ghost use Rattle.std.specs.Prelude.{◌≡◌, ◌≢◌, ◌≤◌, ◌<◌, ◌+◌, ◌^◌, ℕ, List, [], All, IfOk, IfSome, OnErr, OnOk, length};
 ghost use Rattle.std.specs.List.{AllZip};
+ghost use Rattle.exchange_model.specs.World.{SameLengths};
+ghost use Rattle.duo_run.specs.Duo.{DuoStands};
 
 use crate::duo::Duo;
 use crate::fault::StepFault;
@@ -24,8 +26,24 @@ impl Model for Duos {
     ghost view = { λ d. d.pairs.items };
 }
 
+/// New ends with each of these settings, in this order: the ends of each pair have the same lengths.
+pub(crate) fn new_pairs(pairs: Vec<(MasterSettings, SlaveSettings)>) -> Result<Vec<Duo>, Memory>
+    requires { All (λ pair. SameLengths pair.0 pair.1) pairs.items }
+    ensures { IfOk result (λ duos. AllZip (λ pair v. DuoStands pair.0 pair.1 v []) pairs.items duos.items) }
+{
+    let Ok(mut duos) = Vec::with_capacity(*pairs.allocator(), pairs.len()) else {
+        return Err(Memory);
+    };
+    for (master, slave) in pairs {
+        if duos.push(Duo::new(master, slave)).is_err() {
+            return Err(Memory);
+        }
+    }
+    Ok(duos)
+}
+
 impl Duos {
-    ghost use Rattle.std.specs.Prelude.{All, vec_len};
+    ghost use Rattle.std.specs.Prelude.{vec_len};
     ghost use Rattle.fsoe_base.specs.LengthsOf.{length_of};
     ghost use Rattle.param_load.specs.declared.entry.Entry.{Entry};
     ghost use Rattle.param_load.specs.declared.master_settings.MasterSettings.{MasterSettings};
@@ -33,8 +51,7 @@ impl Duos {
     ghost use Rattle.schedule_file.specs.Event.{Fits, profile_of};
     ghost use Rattle.schedule_file.specs.PairsEvent.{numbered};
     ghost use Rattle.exchange_model.specs.Other.{first_other};
-    ghost use Rattle.exchange_model.specs.World.{SameLengths};
-    ghost use Rattle.duo_run.specs.Duo.{DuoStands, Misses, lengths_of, profiles_of, steps_done};
+    ghost use Rattle.duo_run.specs.Duo.{Misses, lengths_of, profiles_of, steps_done};
     ghost use Rattle.duo_run.specs.PairsStanding.{StepsAt};
 
     /// Creates pairs of new ends with these settings, in this order: the ends of each have the same lengths.
@@ -44,15 +61,9 @@ impl Duos {
         requires lengths { All (λ pair. SameLengths pair.0 pair.1) pairs.items }
         ensures { IfOk result (λ duos. AllZip (λ pair v. DuoStands pair.0 pair.1 v []) pairs.items duos) }
     {
-        let Ok(mut duos) = Vec::with_capacity(*pairs.allocator(), pairs.len()) else {
-            return Err(Memory);
-        };
-        for (master, slave) in pairs {
-            if duos.push(Duo::new(master, slave)).is_err() {
-                return Err(Memory);
-            }
-        }
-        Ok(Duos { pairs: duos })
+        Ok(Duos {
+            pairs: new_pairs(pairs)?,
+        })
     }
 
     /// Does one event of the pair of this number, as `Duo::step` does, and returns the entry. `NoSuchFrame` if and only

@@ -1,7 +1,7 @@
 //! Runs both ends of a connection over a schedule. Each event is at one end. The frame that is delivered may be any
 //! bytes, or a frame that the peer sent, unaltered or with one byte altered. The command `replay` runs a pair file or a
-//! file of several pairs, `bulk` runs a schedule made from a number, and `convert` rewrites a pair file. A run is
-//! proved to be the world that `exchange_model` defines.
+//! file of several pairs, and `bulk` runs a schedule made from a number. A run is proved to be the world that
+//! `exchange_model` defines.
 //!
 //! ```rust
 //! use duo_run::Duo;
@@ -15,10 +15,8 @@
 //! ```
 #![tactic(auto)]
 
-mod acting;
 mod bulk;
 mod coming;
-mod convert;
 mod duo;
 mod duos;
 mod fault;
@@ -30,7 +28,6 @@ mod summary;
 mod telling;
 
 pub use bulk::run_bulk;
-pub use convert::run_convert;
 pub use duo::Duo;
 pub use duos::Duos;
 pub use fault::StepFault;

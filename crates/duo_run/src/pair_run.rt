@@ -3,7 +3,6 @@ ghost use Rattle.std.specs.Prelude.{◌≡◌, ◌≤◌, ◌+◌, ◌++◌, len
 ghost use Rattle.duo_run.specs.Replay.{told_line, RanPair};
 ghost use Rattle.file_run.specs.Outside.{told};
 
-use crate::acting::Answer;
 use crate::coming::end_of;
 use crate::duo::Duo;
 use crate::fault::StepFault;
@@ -11,6 +10,7 @@ use entry_text::push_entry;
 use file_run::{Machine, Schedule, Stopped, ended_with, push_other, run_over, write_events};
 use fsoe_base::{End, MOST_DATA, Memory, State};
 use fsoe_io::{Ended, LineText, Sink, Source};
+use param_load::Answer;
 use schedule_file::{Event, Header, HeaderKind, MAX_EVENTS, end_letter};
 
 /// Appends what the line of an entry has after its numbers, of an end with this state and these outputs.

@@ -8,8 +8,8 @@ ghost use Rattle.duo_run.specs.PairsReport.{closing_lines};
 ghost use Rattle.duo_run.specs.Replay.{AreSetTo};
 
 use crate::duo::Duo;
-use crate::duos::Duos;
-use crate::telling::{Telling, step_pair, tick_pairs};
+use crate::duos::new_pairs;
+use crate::telling::{PairsTelling, step_pair, tick_pairs};
 use file_run::{Format, Machine, Stopped, ended_with, push_other, write_events};
 use fsoe_base::Memory;
 use fsoe_io::{Ended, LineText};
@@ -113,12 +113,12 @@ fn least(numbers: &[Option<u64>]) -> Option<u64>
 }
 
 /// Appends the closing line of each pair to the pending text.
-fn push_closing(others: &[Option<u64>], telling: &mut Telling)
+fn push_closing(others: &[Option<u64>], telling: &mut PairsTelling)
     requires few { length others.now ≤ 16 }
     requires empty { telling.old.waiting.text ≡ [] }
     ensures { telling.new.waiting.text ≡ closing_lines 1 others.now }
 {
-    let Telling { line, waiting, .. } = telling;
+    let PairsTelling { line, waiting, .. } = telling;
     for i in 0..others.len() {
         line.clear();
         line.push(b"pair ");
@@ -137,7 +137,7 @@ pub(crate) struct PairsRun {
     others: Vec<Option<u64>>,
     /// How many entries were made.
     entries: u64,
-    telling: Telling,
+    telling: PairsTelling,
     ghost few: { vec_len others ≤ MOST_PAIRS },
 }
 
@@ -173,12 +173,11 @@ impl Machine for PairsRun {
         let Ok(others) = vec![in *alloc; None; settings.len()] else {
             return Err(Memory);
         };
-        let made = Duos::new(settings)?;
         Ok(PairsRun {
-            duos: made.pairs,
+            duos: new_pairs(settings)?,
             others,
             entries: 0,
-            telling: Telling::new(*alloc)?,
+            telling: PairsTelling::new(*alloc)?,
         })
     }
 

@@ -13,7 +13,6 @@ ghost use Rattle.duo_run.specs.Duo.{Misses, lengths_of, profiles_of, steps_done}
 ghost use Rattle.duo_run.specs.PairsReport.{pairs_reporting};
 ghost use Rattle.duo_run.specs.PairsStanding.{CanStep, NotesOthers, PairsStand, TellsNext, Ticks};
 
-use crate::acting::Answer;
 use crate::coming::end_of;
 use crate::duo::Duo;
 use crate::fault::StepFault;
@@ -21,12 +20,13 @@ use crate::pair_run::push_told;
 use file_run::{MOST_TEXT, Stopped, Waiting};
 use fsoe_base::{End, Memory};
 use fsoe_io::LineText;
+use param_load::Answer;
 use schedule_file::Event;
 use std::alloc::Global;
 
 /// What a run keeps to tell of its pairs, so that nothing of it is made anew.
 #[derive(Drop)]
-pub(crate) struct Telling {
+pub(crate) struct PairsTelling {
     /// What an end did last.
     pub(crate) answer: Answer,
     /// A line on its way to the buffered ones.
@@ -35,14 +35,14 @@ pub(crate) struct Telling {
     pub(crate) waiting: Waiting,
 }
 
-impl Telling {
+impl PairsTelling {
     ghost use Rattle.std.specs.Prelude.{◌≡◌, [], IfOk};
 
     /// Nothing is told yet.
-    pub(crate) fn new(alloc: Global) -> Result<Telling, Memory>
+    pub(crate) fn new(alloc: Global) -> Result<PairsTelling, Memory>
         ensures { IfOk result (λ t. t.waiting.text ≡ []) }
     {
-        Ok(Telling {
+        Ok(PairsTelling {
             answer: Answer::new(),
             line: LineText::new(),
             waiting: Waiting::new(alloc)?,
@@ -81,7 +81,7 @@ fn tell(
 }
 
 /// Ticks this end of each pair, in their order, and appends the lines to the pending text.
-fn tick_all(duos: &mut [Duo], at: End, number: u64, telling: &mut Telling)
+fn tick_all(duos: &mut [Duo], at: End, number: u64, telling: &mut PairsTelling)
     requires stand { CanStep duos.old }
     requires few { length duos.old ≤ 16 }
     requires room { length telling.old.waiting.text + 1024 * length duos.old ≤ MOST_TEXT }
@@ -89,7 +89,7 @@ fn tick_all(duos: &mut [Duo], at: End, number: u64, telling: &mut Telling)
     ensures room { length telling.new.waiting.text ≤ length telling.old.waiting.text + 1024 * length duos.old }
 {
     let event = Event::Tick { at };
-    let Telling {
+    let PairsTelling {
         answer,
         line,
         waiting,
@@ -128,7 +128,7 @@ pub(crate) fn tick_pairs(
     others: &mut [Option<u64>],
     entries: &mut u64,
     number: u64,
-    telling: &mut Telling,
+    telling: &mut PairsTelling,
 )
     requires come { MayCome (PairsStand duos.old others.old entries.old) pairs_format common.Tick number }
     requires empty { telling.old.waiting.text ≡ [] }

@@ -34,7 +34,9 @@ deliver_goes : (w : List Entry) (to : End) → SentTwo w → Goes w (event.Deliv
 deliver_goes w to two = last_goes w to (omega (arith, sent_to w to two))
 
 older_goes : (w : List Entry) (to : End) → SentTwo w → Goes w (event.Deliver to 2)
-older_goes w to two = let f = found_at (frames_of (peer to) w) 1 (omega (arith, sent_to w to two)) in goes_by w (event.Deliver to 2) (move.Deliver f.0) (ap delivery f.1)
+older_goes w to two =
+    let f = found_at (frames_of (peer to) w) 1 (omega (arith, sent_to w to two)) in
+    goes_by w (event.Deliver to 2) (move.Deliver f.0) (ap delivery f.1)
 
 altered_goes : (w : List Entry) (to : End) (pos mask : ℕ) → SentTwo w → Goes w (event.Altered to 1 pos mask)
 altered_goes w to pos mask two =
@@ -72,15 +74,21 @@ later_goes number place w two =
 -- the first four events, after which both ends sent two frames
 second_goes : (number : ℕ) → Goes (bulk_entries number 1) (event_at number 2)
 unfolding computing
-second_goes number = let one : length (frames_of end_name.Master (bulk_entries number 1)) ≡ 1 = refl in last_goes (bulk_entries number 1) end_name.Slave (omega (arith, one))
+second_goes number =
+    let one : length (frames_of end_name.Master (bulk_entries number 1)) ≡ 1 = refl in
+    last_goes (bulk_entries number 1) end_name.Slave (omega (arith, one))
 
 third_goes : (number : ℕ) → Goes (bulk_entries number 2) (event_at number 3)
 unfolding computing
-third_goes number = let one : length (frames_of end_name.Slave (bulk_entries number 2)) ≡ 1 = refl in last_goes (bulk_entries number 2) end_name.Master (omega (arith, one))
+third_goes number =
+    let one : length (frames_of end_name.Slave (bulk_entries number 2)) ≡ 1 = refl in
+    last_goes (bulk_entries number 2) end_name.Master (omega (arith, one))
 
 fourth_goes : (number : ℕ) → Goes (bulk_entries number 3) (event_at number 4)
 unfolding computing
-fourth_goes number = let two : length (frames_of end_name.Master (bulk_entries number 3)) ≡ 2 = refl in last_goes (bulk_entries number 3) end_name.Slave (omega (arith, two))
+fourth_goes number =
+    let two : length (frames_of end_name.Master (bulk_entries number 3)) ≡ 2 = refl in
+    last_goes (bulk_entries number 3) end_name.Slave (omega (arith, two))
 
 next_goes : (number count : ℕ) → (4 ≤ count → SentTwo (bulk_entries number count)) → Goes (bulk_entries number count) (event_at number (suc count))
 next_goes number zero two = goes_by [] (event.Tick end_name.Master) move.Tick refl

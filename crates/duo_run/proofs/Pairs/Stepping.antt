@@ -146,10 +146,15 @@ entries_most n [] few = omega arith
 entries_most n (event ∷ log) few = let a = entries_most n log few in let b = by_most n event few in omega (arith, a, b)
 
 pub few_duos : (duos : List DuoView) (others : List (Option ℕ)) (made : ℕ) (event : PairsEvent) (number : ℕ) → MayCome (PairsStand duos others made) pairs_format event number → length duos ≤ 16
-few_duos duos others made event number may = let k = may.stands in let q = AllZip-long IsPairOf (pairs_of may.heading) k.pairs k.set in omega (arith, q, k.stand.many, k.few)
+few_duos duos others made event number may =
+    let k = may.stands in
+    let q = AllZip-long IsPairOf (pairs_of may.heading) k.pairs k.set in
+    omega (arith, q, k.stand.many, k.few)
 
 pub few_entries : (duos : List DuoView) (others : List (Option ℕ)) (made : ℕ) (event : PairsEvent) (number : ℕ) → MayCome (PairsStand duos others made) pairs_format event number → made ≤ 6600000
-few_entries duos others made event number may = let m = entries_most (length (pairs_of may.heading)) may.log may.stands.few in omega (arith, m, may.number_is, may.few, may.stands.made_is)
+few_entries duos others made event number may =
+    let m = entries_most (length (pairs_of may.heading)) may.log may.stands.few in
+    omega (arith, m, may.number_is, may.few, may.stands.made_is)
 
 pub noted_each : (duos : List DuoView) (others : List (Option ℕ)) (made : ℕ) (event : PairsEvent) (number : ℕ) → MayCome (PairsStand duos others made) pairs_format event number → length others ≡ length duos
 noted_each duos others made event number may = let k = may.stands in ap (length {A = Option ℕ}) k.others_are ∙ others-length 1 k.pairs k.past ∙ sym k.stand.many

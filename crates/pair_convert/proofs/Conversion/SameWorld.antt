@@ -1,9 +1,9 @@
 -- The only pair of a converted file does what the pair of that file did, and so the file says the same.
-use Rattle.duo_run.proofs.Common.{AtEnd, Entry, Event, Heading, InputOf, IsOnePair, IsSomeAnd, None, Option, Pair, PairsEvent, PairsHeading, SaysTheSame, Some, append-nil, converted, done_after, entries_over, entry_after, events_done, events_to, input_of, is_some, length_push, pairs_input, world_missed, world_next, world_of}
+use Rattle.pair_convert.proofs.Common.{AtEnd, Entry, Event, Heading, InputOf, IsOnePair, IsSomeAnd, None, Option, Pair, PairsEvent, PairsHeading, SaysTheSame, Some, append-nil, converted, done_after, entries_over, entry_after, events_done, events_to, input_of, is_some, length_push, pairs_input, world_missed, world_next, world_of}
 use Rattle.std.proofs.Common.{◌≡◌, ℕ, List, [], ◌∷◌, ◌++◌, length, map, refl, arith, ap, sym, ◌∙◌, append_assoc}
 use Rattle.std.specs.Prelude.{if◌then◌else◌}
 use Rattle.schedule_file.specs.declared.header_kind.HeaderKind.TheVariants as kind
-use Rattle.duo_run.proofs.Conversion.OnePair.{converts, of_one}
+use Rattle.pair_convert.proofs.Conversion.OnePair.{converts, of_one}
 
 -- these events of the only pair are done, each of which has its entry; then those that come are done up to the first
 -- without one

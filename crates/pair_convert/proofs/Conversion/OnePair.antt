@@ -1,5 +1,5 @@
 -- What a pair file is converted to is read as a file of one pair, with the same header and the same events.
-use Rattle.duo_run.proofs.Common.{All-nil, AtEnd, Ended, Err, Event, HasNoNewline, Heading, IfOk, IfOk-at_ok, IfOk-every, IfOk-map, Input, InputCause, InputOf, IsLine, IsOnePair, IsSomeAnd, LineCause, Long, Ok, PairsEvent, PairsHeading, Refused, Result, ScheduleLine, Some, Stop, WholeHeader, WholeHeaderOf, admitted, bytes_eq, codes, common_steps, converted, each, ended_at_stop, event_text, fields_of, fields_taken, flat_map, header_in, header_piece, header_step, header_word_of, heading_after, heading_is_whole, heading_new, heading_with, input_after, input_by, input_of, is_full, is_newline, is_start, last_text, length_push, line_text, lines_in, lines_of, lines_whole, map-append, nat_le, only_pair, open_line, pair_begun, pairs_are_full, pairs_format, pairs_input, pairs_said_after, profile_given, profile_taken, read_none, refused_at, rule_place, said_after, schedule_format, slice_get, slice_split, steps, stop_at, texts, title_taken, title_text, with_room}
+use Rattle.pair_convert.proofs.Common.{All-nil, AtEnd, Ended, Err, Event, HasNoNewline, Heading, IfOk, IfOk-at_ok, IfOk-every, IfOk-map, Input, InputCause, InputOf, IsLine, IsOnePair, IsSomeAnd, LineCause, Long, Ok, PairsEvent, PairsHeading, Refused, Result, ScheduleLine, Some, Stop, WholeHeader, WholeHeaderOf, admitted, bytes_eq, codes, common_steps, converted, each, ended_at_stop, event_text, fields_of, fields_taken, flat_map, header_in, header_piece, header_step, header_word_of, heading_after, heading_is_whole, heading_new, heading_with, input_after, input_by, input_of, is_full, is_newline, is_start, last_text, length_push, line_text, lines_in, lines_of, lines_whole, map-append, nat_le, only_pair, open_line, pair_begun, pairs_are_full, pairs_format, pairs_input, pairs_said_after, profile_given, profile_taken, read_none, refused_at, rule_place, said_after, schedule_format, slice_get, slice_split, steps, stop_at, texts, title_taken, title_text, with_room}
 use Rattle.schedule_file.specs.PairsInput.{entries_of}
 use Rattle.std.proofs.Common.{◌≡◌, ℕ, ◌+◌, ◌<◌, ◌≤◌, Bool, true, false, List, [], ◌∷◌, ◌++◌, length, take, map, refl, ap, ◌∙◌, sym, subst, append_assoc, arith, rules}
 use Rattle.std.specs.Prelude.{if◌then◌else◌}
@@ -18,9 +18,9 @@ use Rattle.schedule_file.specs.declared.line_cause.LineCause.TheVariants as caus
 use Rattle.schedule_file.specs.declared.pairs_line.PairsEvent.TheVariants as pairs_event
 use Rattle.schedule_file.specs.declared.pairs_line.PairsLine.{PairsLine}
 use Rattle.schedule_file.specs.declared.place.Place.{Place}
-use Rattle.duo_run.proofs.Conversion.SameLines.{event_line_same, header_line_same, last_line_same}
-use Rattle.duo_run.proofs.Conversion.Short.{line_short}
-use Rattle.duo_run.proofs.Conversion.Converted.{Lines, Whole, events_by, events_in, heading_line, of_heading, reading, told, told_events, told_whole}
+use Rattle.pair_convert.proofs.Conversion.SameLines.{event_line_same, header_line_same, last_line_same}
+use Rattle.pair_convert.proofs.Conversion.Short.{line_short}
+use Rattle.pair_convert.proofs.Conversion.Converted.{Lines, Whole, events_by, events_in, heading_line, of_heading, reading, told, told_events, told_whole}
 
 -- the lines of an input are lines
 abbrev HaveNoNewlines : List (List ℕ) → Type 0

@@ -1,5 +1,5 @@
-use Rattle.duo_run.proofs.Conversion.SameWorld.{same_world, says_the_same}
-use Rattle.duo_run.proofs.laws.conversions_say_the_same.Goals as goal
+use Rattle.pair_convert.proofs.Conversion.SameWorld.{same_world, says_the_same}
+use Rattle.pair_convert.proofs.laws.conversions_say_the_same.Goals as goal
 
 pub returns-clause-world : goal.returns-clause-world
 returns-clause-world c = same_world

@@ -1,5 +1,5 @@
 -- The line of an event is short, so that with the number of a pair before it is a line still.
-use Rattle.duo_run.proofs.Common.{End, Event, IfOk, LineCause, None, Ok, Profile, Result, ScheduleLine, Some, all_ascii_digits, and_parts, by_word, bytes_said, codes, decimal, fields_of, is_number, join_with_byte, leb-true, length-append, ltb-true, nat_lt, number_said, one_field, pair_event, pair_line, pair_said, pair_word_of, slice_index, value_or}
+use Rattle.pair_convert.proofs.Common.{End, Event, IfOk, LineCause, None, Ok, Profile, Result, ScheduleLine, Some, all_ascii_digits, and_parts, by_word, bytes_said, codes, decimal, fields_of, is_number, join_with_byte, leb-true, length-append, ltb-true, nat_lt, number_said, one_field, pair_event, pair_line, pair_said, pair_word_of, slice_index, value_or}
 use Rattle.schedule_file.specs.Fields.{◌>>=◌}
 use Rattle.std.proofs.Common.{◌≡◌, ℕ, ◌+◌, ◌/◌, ◌≤◌, Bool, true, List, [], ◌∷◌, length, get_or, refl, subst, arith, rules}
 use Rattle.std.specs.Prelude.{◌&&◌, ◌||◌, ◌==◌, Option}

@@ -1,5 +1,5 @@
 -- Line by line, what a pair file is converted to says the same of the only pair.
-use Rattle.duo_run.proofs.Common.{Event, Heading, LineCause, Ok, PairsHeading, PairsStage, Result, by_word, bytes_eq, codes, fields_of, fields_taken, heading_after, heading_is_whole, heading_profile, is_start, last_taken, may_end, only_pair, own_length, pair_taken, pairs_heading_after, pairs_line, pairs_line_taken, pairs_of, pairs_said_after, said_after, stage_after, title_taken}
+use Rattle.pair_convert.proofs.Common.{Event, Heading, LineCause, Ok, PairsHeading, PairsStage, Result, by_word, bytes_eq, codes, fields_of, fields_taken, heading_after, heading_is_whole, heading_profile, is_start, last_taken, may_end, only_pair, own_length, pair_taken, pairs_heading_after, pairs_line, pairs_line_taken, pairs_of, pairs_said_after, said_after, stage_after, title_taken}
 use Rattle.schedule_file.specs.Fields.{◌>>=◌}
 use Rattle.std.proofs.Common.{◌≡◌, ℕ, Bool, false, List, [], ◌∷◌, ◌++◌, map, refl, ap, ◌∙◌, sym, subst, arith, rules}
 use Rattle.std.proofs.lemmas.Fmt.{decimal_digit}

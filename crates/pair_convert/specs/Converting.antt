@@ -17,7 +17,7 @@ use Rattle.file_run.specs.Refusal.{input_cause}
 use Rattle.file_run.specs.declared.halt.Halt.{Halt}
 use Rattle.file_run.specs.declared.halt.Halt.TheVariants as halt
 use Rattle.file_run.specs.declared.refusal.Refusal.{Refusal}
-use Rattle.duo_run.specs.Convert.{event_text, last_text, line_text, title_text}
+use Rattle.pair_convert.specs.Convert.{event_text, last_text, line_text, title_text}
 
 -- what was read of a pair file: its header, as far as it was read, and the number of its events
 pub record PairRead : Type 0 where

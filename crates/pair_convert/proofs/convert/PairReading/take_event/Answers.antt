@@ -1,7 +1,7 @@
-use Rattle.duo_run.proofs.Common.{Ok}
+use Rattle.pair_convert.proofs.Common.{Ok}
 use Rattle.std.proofs.Common.{ap, refl, ◌∙◌}
-use Rattle.duo_run.proofs.Conversion.Converting.{taken_as}
-use Rattle.duo_run.proofs.convert.PairReading.take_event.Goals as goal
+use Rattle.pair_convert.proofs.Conversion.Converting.{taken_as}
+use Rattle.pair_convert.proofs.convert.PairReading.take_event.Goals as goal
 
 pub returns-in-Err-clause-takes : goal.returns-in-Err-clause-takes
 returns-in-Err-clause-takes c =

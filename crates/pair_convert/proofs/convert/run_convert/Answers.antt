@@ -1,8 +1,8 @@
-use Rattle.duo_run.proofs.Common.{rose_since}
+use Rattle.pair_convert.proofs.Common.{rose_since}
 use Rattle.std.proofs.Common.{Bool, ℕ, length, ap, refl, arith, ◌∙◌}
 use Rattle.file_run.proofs.Counted.{counted_halted, counted_last, counted_write}
-use Rattle.duo_run.proofs.Conversion.Converting.{converting_line, converting_sent, converting_start, ends_at_end, ends_halted, ends_lost, ends_unsent, ran_by}
-use Rattle.duo_run.proofs.convert.run_convert.Goals as goal
+use Rattle.pair_convert.proofs.Conversion.Converting.{converting_line, converting_sent, converting_start, ends_at_end, ends_halted, ends_lost, ends_unsent, ran_by}
+use Rattle.pair_convert.proofs.convert.run_convert.Goals as goal
 
 pub loop-output-init : goal.loop-output-init
 loop-output-init g c = record {

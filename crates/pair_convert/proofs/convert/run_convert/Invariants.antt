@@ -1,7 +1,7 @@
-use Rattle.duo_run.proofs.Common.{left_to_take, prepend_known}
+use Rattle.pair_convert.proofs.Common.{left_to_take, prepend_known}
 use Rattle.std.proofs.Common.{◌≡◌}
-use Rattle.duo_run.proofs.Conversion.Converting.{Converting}
-use Rattle.duo_run.proofs.convert.run_convert.Given as goal
+use Rattle.pair_convert.proofs.Conversion.Converting.{Converting}
+use Rattle.pair_convert.proofs.convert.run_convert.Given as goal
 
 abbrev pub invariant-loop-output : goal.invariant-loop-output
 invariant-loop-output g l = record {

@@ -1,6 +1,6 @@
 use Rattle.duo_run.proofs.Common.{AllZip, DuoStands, DuoView, MasterSettings, SlaveSettings, all_zipped_more, common_steps}
 use Rattle.std.proofs.Common.{◌≡◌, List, [], ◌∷◌, ◌++◌, sym, subst, arith}
-use Rattle.duo_run.proofs.duos.Duos.new.Goals as goal
+use Rattle.duo_run.proofs.duos.new_pairs.Goals as goal
 
 pub loop-master-preserved : goal.loop-master-preserved
 loop-master-preserved c =

@@ -6,8 +6,8 @@ ghost use Rattle.schedule_file.specs.declared.header_kind.HeaderKind.TheVariants
 ghost use Rattle.schedule_file.specs.declared.line_buf.TheConstants.{MAX_LINE};
 ghost use Rattle.schedule_file.specs.Input.{AtEnd, said_after};
 ghost use Rattle.file_run.specs.Halt.{Blames, Goes, Stalls};
-ghost use Rattle.duo_run.specs.Convert.{RanConvert, event_text, last_text};
-ghost use Rattle.duo_run.specs.Converting.{FindsTaken, Takes, event_taken, header_piece, later_taken, left_to_take, line_taken, read_none};
+ghost use Rattle.pair_convert.specs.Convert.{RanConvert, event_text, last_text};
+ghost use Rattle.pair_convert.specs.Converting.{FindsTaken, Takes, event_taken, header_piece, later_taken, left_to_take, line_taken, read_none};
 ghost use Rattle.file_run.specs.Outside.{told};
 
 use file_run::{Halt, Refusal, close, halt_run, next_line, send_before_read, write_failed};
@@ -28,7 +28,7 @@ impl Model for PairReading {
     ghost use Rattle.std.specs.Prelude.{◌≡◌, ◌≤◌};
     ghost use Rattle.schedule_file.specs.declared.event.TheConstants.{MAX_EVENTS};
     ghost use Rattle.schedule_file.specs.declared.header_kind.HeaderKind.TheVariants as kind;
-    ghost use Rattle.duo_run.specs.Converting.{PairRead};
+    ghost use Rattle.pair_convert.specs.Converting.{PairRead};
 
     ghost Value = { PairRead };
 
@@ -91,9 +91,7 @@ impl PairReading {
         if self.header.is_done() {
             self.take_later(line, text)
         } else {
-            if let Err(cause) = self.header.line(line) {
-                return Err(Refusal::Line(cause));
-            }
+            self.header.line(line).map_err(Refusal::Line)?;
             write_header_line(number, line, text);
             Ok(false)
         }
@@ -162,12 +160,10 @@ fn next_taken<S: Source>(
     ensures later { S.faults source.old ≤ S.faults source.new }
     ensures cause { Blames result (S.faults source.old) (S.faults source.new) }
 {
-    match next_line(reader, source) {
-        Ok(()) => match reading.take(reader.lines(), reader.line(), text) {
-            Ok(ends) => Ok(ends),
-            Err(cause) => Err(Halt::Refused(reader.lines(), cause)),
-        },
-        Err(why) => Err(why),
+    next_line(reader, source)?;
+    match reading.take(reader.lines(), reader.line(), text) {
+        Ok(ends) => Ok(ends),
+        Err(cause) => Err(Halt::Refused(reader.lines(), cause)),
     }
 }
 

@@ -1,5 +1,5 @@
 -- A run that converts a pair file: what was read of it and what was written.
-use Rattle.duo_run.proofs.Common.{AppendedPart, AtEnd, Consumes, ConvertWrite, ConvertedAs, ConvertsReadLines, CountsFaults, Ended, Err, FindsTaken, HasNoNewline, Heading, IfSome, IfSome_then, InputCause, IsLine, IsPrefix, LineCause, LineTaken, NoLine, None, Ok, Option, Outside, PairRead, RanConvert, Result, SaysTheSame, ScheduleLine, Sent, Some, Writes, Wrote, WroteAll, append-nil, by_line, common_steps, converted, cut_part, ended_at_stop, event_taken, first_line, grew_written, halts_after, input_cause, input_of, left_to_take, length-append, length_of, line_of_end, line_taken, lines_of, lines_whole, most_held, pair_line, piece_part, prepend_known, profile_of, read_none, refused_at, refused_line, rose_since, said_after, sent_flushed, sent_none, sent_piece, taken_by, text_part, took_line, took_none}
+use Rattle.pair_convert.proofs.Common.{AppendedPart, AtEnd, Consumes, ConvertWrite, ConvertedAs, ConvertsReadLines, CountsFaults, Ended, Err, FindsTaken, HasNoNewline, Heading, IfSome, IfSome_then, InputCause, IsLine, IsPrefix, LineCause, LineTaken, NoLine, None, Ok, Option, Outside, PairRead, RanConvert, Result, SaysTheSame, ScheduleLine, Sent, Some, Writes, Wrote, WroteAll, append-nil, by_line, common_steps, converted, cut_part, ended_at_stop, event_taken, first_line, grew_written, halts_after, input_cause, input_of, left_to_take, length-append, length_of, line_of_end, line_taken, lines_of, lines_whole, most_held, pair_line, piece_part, prepend_known, profile_of, read_none, refused_at, refused_line, rose_since, said_after, sent_flushed, sent_none, sent_piece, taken_by, text_part, took_line, took_none}
 use Rattle.fsoe_base.specs.declared.lengths.Lengths.{Lengths}
 use Rattle.param_load.specs.declared.profile.Profiles.{Profiles}
 use Rattle.std.proofs.Common.{◌≡◌, ℕ, ◌+◌, ◌*◌, ◌≤◌, ◌<◌, Bool, true, false, List, [], ◌∷◌, ◌++◌, length, refl, ap, ◌∙◌, sym, subst, append_assoc, inl, inr, arith, rules}
@@ -15,8 +15,8 @@ use Rattle.file_run.specs.WholeLines.{TookLines}
 use Rattle.file_run.specs.declared.halt.Halt.{Halt}
 use Rattle.file_run.specs.declared.halt.Halt.TheVariants as halt
 use Rattle.file_run.proofs.Unread.{nothing_held}
-use Rattle.duo_run.proofs.Conversion.Converted.{Whole, after_part, converted_whole, end_whole, refused_whole, told, told_by, told_whole, two_parts}
-use Rattle.duo_run.proofs.Conversion.SameWorld.{says_the_same}
+use Rattle.pair_convert.proofs.Conversion.Converted.{Whole, after_part, converted_whole, end_whole, refused_whole, told, told_by, told_whole, two_parts}
+use Rattle.pair_convert.proofs.Conversion.SameWorld.{says_the_same}
 
 -- of these bytes, which were taken of the input, this was written so far, and whatever comes after them gives the rest
 pub record Tells (left0 left : Option (List ℕ)) (text : List ℕ) (r : PairRead) (number : ℕ) : Type 0 where

@@ -1,5 +1,5 @@
 -- What the lines of a pair file are converted to one by one is what the file is converted to.
-use Rattle.duo_run.proofs.Common.{AtEnd, Ended, Err, Event, Heading, IfOk, InputCause, Line, LineCause, LineTaken, NoLine, Ok, PairRead, Refused, Result, ScheduleLine, Stop, TooMany, WholeHeader, append-nil, bytes_eq, codes, converted_by, end_taken, ended_at_stop, event_of, event_taken, event_text, flat_map, full_taken, header_in, header_of, header_piece, header_step, header_taken, header_text, heading_after, heading_is_whole, heading_new, input_after, input_by, is_full, last_text, later_taken, length_push, line_of_end, line_taken, line_text, lines_before, lines_of, read_none, refused_at, refused_line, said_after, schedule_format, slice_get, steps, stop_at, stop_by, stop_full, texts, with_room}
+use Rattle.pair_convert.proofs.Common.{AtEnd, Ended, Err, Event, Heading, IfOk, InputCause, Line, LineCause, LineTaken, NoLine, Ok, PairRead, Refused, Result, ScheduleLine, Stop, TooMany, WholeHeader, append-nil, bytes_eq, codes, converted_by, end_taken, ended_at_stop, event_of, event_taken, event_text, flat_map, full_taken, header_in, header_of, header_piece, header_step, header_taken, header_text, heading_after, heading_is_whole, heading_new, input_after, input_by, is_full, last_text, later_taken, length_push, line_of_end, line_taken, line_text, lines_before, lines_of, read_none, refused_at, refused_line, said_after, schedule_format, slice_get, steps, stop_at, stop_by, stop_full, texts, with_room}
 use Rattle.std.proofs.Common.{◌≡◌, ℕ, suc, ◌+◌, Bool, true, false, List, [], ◌∷◌, ◌++◌, length, take, map, refl, ap, ◌∙◌, sym, subst, append_assoc, add-zero, arith, rules}
 use Rattle.std.specs.Prelude.{◌==◌, if◌then◌else◌}
 use Rattle.schedule_file.specs.declared.event.ScheduleLine.TheVariants as said
@@ -172,7 +172,9 @@ heading_goes : (m : ℕ) (line : List ℕ) (rest : Lines) (next : Heading) (done
     → (heading_is_whole next ≡ false → Goes (m + 1) rest (told (m + 1 + 1) (reading next []) rest) (header_in (schedule_format kind.Pair) (m + 1 + 1) next rest))
     → Goes m (Ok line ∷ rest) (after_part (header_piece (m + 1) line) (told (m + 1 + 1) (reading next []) rest)) (if done then Ok (record { heading = next; lines = m + 1; rest = rest }) else header_in (schedule_format kind.Pair) (m + 1 + 1) next rest)
 heading_goes m line rest next true whole later = record { j = 1; count = refl; ends = whole; is = piece_before m line rest 0 _ _ (no_part (m + 1 + 1 == 1) (texts rest) (told (m + 1 + 1) (reading next []) rest)) }
-heading_goes m line rest next false more later = let goes = later more in record { j = suc goes.j; count = goes.count ∙ omega arith; ends = goes.ends; is = piece_before m line rest goes.j _ _ goes.is }
+heading_goes m line rest next false more later =
+    let goes = later more in
+    record { j = suc goes.j; count = goes.count ∙ omega arith; ends = goes.ends; is = piece_before m line rest goes.j _ _ goes.is }
 
 heading_told : (m : ℕ) (h : Heading) (line : List ℕ) (rest : Lines) → ((next : Heading) → heading_is_whole next ≡ false → Goes (m + 1) rest (told (m + 1 + 1) (reading next []) rest) (header_in (schedule_format kind.Pair) (m + 1 + 1) next rest))
     → (next : Result Heading LineCause) → Goes m (Ok line ∷ rest) (of_heading (m + 1) (reading h []) line rest next) (header_step heading_is_whole (m + 1) rest (λ next. header_in (schedule_format kind.Pair) (m + 1 + 1) next rest) next)

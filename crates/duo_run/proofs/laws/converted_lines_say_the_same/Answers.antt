@@ -1,5 +1,0 @@
-use Rattle.duo_run.proofs.Conversion.SameLines.{event_line_same}
-use Rattle.duo_run.proofs.laws.converted_lines_say_the_same.Goals as goal
-
-pub returns-clause-event : goal.returns-clause-event
-returns-clause-event c = event_line_same
