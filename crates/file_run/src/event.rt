@@ -23,10 +23,7 @@ fn read_after<F: Format>(
     ensures { (k : F.Kind) → what_event (F.format k).event result said.new ≡ says_after (F.format k).event (F.says grammar.now) full line.now }
 {
     if !full {
-        match F::read(grammar, line, said) {
-            Ok(()) => Ok(()),
-            Err(cause) => Err(Refusal::Line(cause)),
-        }
+        F::read(grammar, line, said).map_err(Refusal::Line)
     } else if line == b"end".as_slice() {
         *said = F::end();
         Ok(())

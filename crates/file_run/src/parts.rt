@@ -29,9 +29,7 @@ pub(crate) fn put_text<M: Machine, K: Sink>(
 {
     loop {
         let part = text.bytes();
-        if let Err(failed) = output.put(sink, part) {
-            return Err(failed);
-        }
+        output.put(sink, part)?;
         machine.more(handed, text);
         if text.bytes().is_empty() {
             return Ok(());

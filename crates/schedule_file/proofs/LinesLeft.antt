@@ -1,5 +1,5 @@
 -- Each line of a header leaves fewer to come.
-use Rattle.schedule_file.proofs.Common.{AppRule, Becomes, Err, HeaderKind, HeaderLine, Heading, IfOk, IfOk-weaker, IsTrue, LineCause, Ok, OnOk, Place, Result, RuleLine, Word, and_parts, common_steps, header_line, heading_with, highs_of, leb-true, lengths_line, list_with, lows_of, map_ok, master_line, master_with_app, may_stand, nat_le, no_field, one_hex_field, profile_line, profile_taken, range_line, ranges_with, rule_begun, rule_len, rule_line, rule_place, rule_with_bytes, rule_with_pairs, slave_line, slave_with_bytes, slave_with_pairs}
+use Rattle.schedule_file.proofs.Common.{AppRule, Err, HeaderKind, HeaderLine, Heading, IfOk, IfOk-at_ok, IfOk-weaker, IsTrue, LineCause, Ok, Place, Result, RuleLine, Word, and_parts, common_steps, header_line, heading_with, highs_of, leb-true, lengths_line, list_with, lows_of, map_ok, master_line, master_with_app, may_stand, nat_le, no_field, one_hex_field, profile_line, profile_taken, range_line, ranges_with, rule_begun, rule_len, rule_line, rule_place, rule_with_bytes, rule_with_pairs, slave_line, slave_with_bytes, slave_with_pairs}
 use Rattle.schedule_file.specs.Fields.{◌>>=◌}
 use Rattle.std.proofs.Common.{◌≡◌, ℕ, ◌+◌, ◌-◌, ◌/◌, ◌≤◌, ◌<◌, Bool, true, List, [], ◌∷◌, ◌++◌, length, length-append, arith, refl, rules}
 use Rattle.std.specs.Prelude.{if◌then◌else◌}
@@ -8,7 +8,7 @@ use Rattle.schedule_file.specs.LinesLeft.{left_after, lines_left}
 use Rattle.schedule_file.specs.declared.header_line.HeaderLine.TheVariants as says
 use Rattle.schedule_file.specs.declared.line_cause.LineCause.TheVariants as cause
 use Rattle.schedule_file.specs.declared.place.Word.TheVariants as word
-use Rattle.schedule_file.proofs.Sound.{IfOk-map, hex_sound, ok_if, range_sound, so_is}
+use Rattle.schedule_file.proofs.Sound.{IfOk-map, hex_sound, ok_if, range_sound}
 
 -- how many lines may be left, at least, where a line with this word may stand
 abbrev least : Word → ℕ → ℕ → ℕ
@@ -88,7 +88,6 @@ heading_with-fewer : (h : Heading) (w : Word) (fields : List (List ℕ)) (line :
 heading_with-fewer h w fields line stands e =
     rw (← e) at (line_fewer h w fields stands (left-least h.kind h.place w (length h.master.app) (rule_len h.slave.rule) stands))
 
--- the same of a call that takes the line
-pub heading_fewer : (result : Result (Unit {0}) LineCause) (h h' : Heading) (w : Word) (fields : List (List ℕ)) (line : HeaderLine) → IsTrue (may_stand h.kind h.place w) → Ok line ≡ header_line w fields → Becomes result h' (heading_with h line)
-    → OnOk result (lines_left h' < lines_left h)
-heading_fewer result h h' w fields line stands e said = so_is result h' (heading_with h line) (λ x. lines_left x < lines_left h) (heading_with-fewer h w fields line stands e) said
+-- the same of the header after the line
+pub heading_fewer : (h h' : Heading) (w : Word) (fields : List (List ℕ)) (line : HeaderLine) → IsTrue (may_stand h.kind h.place w) → Ok line ≡ header_line w fields → heading_with h line ≡ Ok h' → lines_left h' < lines_left h
+heading_fewer h h' w fields line stands e said = IfOk-at_ok (λ x. lines_left x < lines_left h) said (heading_with-fewer h w fields line stands e)

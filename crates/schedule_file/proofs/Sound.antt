@@ -70,7 +70,7 @@ pub so_is : {A : Type 0} (result : Result (Unit {0}) LineCause) (new : A) (said 
 so_is (Ok u) new said P is same = IfOk-at_ok P same is
 so_is (Err e) new said P is same = tt
 
-lengths_sound : (fields : List (List ℕ)) → IfOk (lengths_line fields) (λ line. IsTrue (is_length line.master) × IsTrue (is_length line.slave))
+pub lengths_sound : (fields : List (List ℕ)) → IfOk (lengths_line fields) (λ line. IsTrue (is_length line.master) × IsTrue (is_length line.slave))
 lengths_sound fields =
     each (next_field fields) _ _ (λ first. each (one_field first.1) _ _ (λ second. each (number_16 first.0) _ _ (λ master. each (number_16 second) _ _ (λ slave. ok_if (is_length master && is_length slave) _ cause.Length _ (λ e. and_parts (is_length master) (is_length slave) e)))))
 

@@ -19,7 +19,6 @@ left_after place.RuleAny app listed = 1
 left_after place.RuleExact app listed = 1 + (max_app - listed)
 left_after place.RuleRanges app listed = 1 + (max_app - listed)
 left_after place.Done app listed = 0
-left_after place.Refused app listed = 0
 
 -- the most lines that a header may still have: each `app`, `bytes` or `range` line has at least one byte of `max_app`
 abbrev pub lines_left : Heading → ℕ

@@ -13,7 +13,6 @@ last_left pairs_stage.Start last = 1
 last_left pairs_stage.Title last = 0
 last_left pairs_stage.Pairs last = lines_left last
 last_left pairs_stage.Done last = lines_left last
-last_left pairs_stage.Refused last = 0
 
 -- at most 1,032 lines are those of each pair that is still to come
 abbrev pub pairs_lines_left : PairsHeading → ℕ

@@ -1,6 +1,5 @@
 //! What an event's line says by its word and the fields after it: one reader for each kind of event. Each writes the
-//! event over `event`, which is as it was after an error. So what a line says is made in its place. A tick is the
-//! commonest line. So the readers that need more room than it stand by themselves.
+//! event over `event`, which is as it was after an error.
 ghost use Rattle.std.specs.Prelude.{◌≡◌, [], ◌∷◌, OnErr, option_map};
 ghost use Rattle.fsoe_base.specs.LengthsOf.{length_of};
 ghost use Rattle.schedule_file.specs.EventLine.{switch_of, reference_of, delivered_len, bare_line, deliver_line, altered_line, raw_line, put_line, hold_line, nonce_line, event_said};
@@ -223,8 +222,7 @@ pub fn read_said(
     }
 }
 
-/// What a word says of an event where none was said before. A function clears the room of all its locals, so that this
-/// one, which makes an event, stands by itself.
+/// What a word says of an event where none was said before. It alone makes one anew.
 #[inline(never)]
 fn read_first(
     word: (EventWord, End),
@@ -242,8 +240,8 @@ fn read_first(
     Ok(())
 }
 
-/// What a word says of an event at an end with its fields, written over an event. A tick is written over a tick alone
-/// where there is one: to write an event of another kind blanks a frame's room.
+/// What a word says of an event at an end with its fields, written over an event. A new kind of event is blanked in
+/// full.
 #[inline(always)]
 pub fn read_step(
     word: (EventWord, End),

@@ -1,5 +1,5 @@
 //! The header of an input, line by line.
-ghost use Rattle.std.specs.Prelude.{◌≡◌, ◌<◌, IsTrue, IfOk, OnOk, OnErr};
+ghost use Rattle.std.specs.Prelude.{◌≡◌, ◌<◌, IsTrue, IfOk, OnOk};
 ghost use Rattle.schedule_file.specs.Field.{fields_of};
 ghost use Rattle.schedule_file.specs.FieldsRead.{Becomes};
 ghost use Rattle.schedule_file.specs.Header.{heading_new, heading_after, wants_profile, profile_given, heading_with, profile_taken, heading_is_whole, rule_place, IsMasterOf, IsSlaveOf};
@@ -117,22 +117,28 @@ impl Header {
 
     /// Reads the next line. Returns true if and only if it is `go`, which ends the header. An error is the first of
     /// these causes that applies: `Header` if its first word isn't allowed here, `Fields`, `Number`, `Hex`, `Length`,
-    /// `Range`. `Range` also if a `profile` line had to come. Every line after a refused one, and after `go`, is
-    /// refused as `Header`. Each line leaves fewer to come: a header has at most 1,032.
+    /// `Range`. `Range` also if a `profile` line had to come. Every line after `go` is refused as `Header`; after a
+    /// refused line don't read further. Each line leaves fewer to come: a header has at most 1,032.
+    #[tactic(auto, using(crate::proofs::Sound::said_in_range, crate::proofs::LinesLeft::heading_fewer))]
     pub fn line(&mut self, line: &[u8]) -> Result<bool, LineCause>
         ensures next { Becomes result self.new (heading_after self.old line.now) }
         ensures done { IfOk result (λ done. done ≡ heading_is_whole self.new) }
-        ensures refused { OnErr result (self.new.place ≡ Place.Refused) }
         ensures kind { self.new.kind ≡ self.old.kind }
         ensures fewer { OnOk result (lines_left self.new < lines_left self.old) }
     {
-        match self.read(line) {
-            Ok(()) => Ok(self.is_done()),
-            Err(cause) => {
-                self.place = Place::Refused;
-                Err(cause)
+        if self.place.is_start() {
+            if line != self.kind.title() {
+                return Err(LineCause::Header);
             }
+            self.place = Place::Title;
+            return Ok(false);
         }
+        let (first, fields) = cut(line);
+        let word = self.place.admit(self.kind, first)?;
+        let says = read_header_line(word, fields)?;
+        self.accept_after_nonce(word)?;
+        self.take(says)?;
+        Ok(self.is_done())
     }
 
     /// Reads the next line of a header that is `begun`, as `line` does: its `master` or `slave` line says of which end
@@ -140,7 +146,6 @@ impl Header {
     pub fn node_line(&mut self, line: &[u8]) -> Result<bool, LineCause>
         ensures next { Becomes result self.new (node_heading_after self.old line.now) }
         ensures done { IfOk result (λ done. done ≡ heading_is_whole self.new) }
-        ensures refused { OnErr result (self.new.place ≡ Place.Refused) }
         ensures fewer { OnOk result (lines_left self.new < lines_left self.old) }
     {
         self.kind = self.kind_after(line);
@@ -175,26 +180,6 @@ impl Header {
         ensures { result ≡ may_end self.now }
     {
         self.place.admits(self.kind, Word::Go)
-    }
-
-    #[tactic(auto, using(crate::proofs::Sound::said_in_range, crate::proofs::LinesLeft::heading_fewer))]
-    fn read(&mut self, line: &[u8]) -> Result<(), LineCause>
-        ensures next { Becomes result self.new (heading_after self.old line.now) }
-        ensures kind { self.new.kind ≡ self.old.kind }
-        ensures fewer { OnOk result (lines_left self.new < lines_left self.old) }
-    {
-        if self.place.is_start() {
-            if line != self.kind.title() {
-                return Err(LineCause::Header);
-            }
-            self.place = Place::Title;
-            return Ok(());
-        }
-        let (first, fields) = cut(line);
-        let word = self.place.admit(self.kind, first)?;
-        let says = read_header_line(word, fields)?;
-        self.accept_after_nonce(word)?;
-        self.take(says)
     }
 
     /// Whether the end whose line was read last is in profile Two for its nonce, so that its `profile` has to come

@@ -1,5 +1,6 @@
 //! What one header line says, by its fields.
-ghost use Rattle.std.specs.Prelude.{◌≡◌, MatchResult, Ok, Err};
+ghost use Rattle.std.specs.Prelude.{◌≡◌, IfOk, IsTrue, MatchResult, Ok, Err};
+ghost use Rattle.fsoe_base.specs.Lengths.{is_length};
 ghost use Rattle.schedule_file.specs.FieldsRead.{fields_after};
 ghost use Rattle.schedule_file.specs.HeaderLine.{lengths_line, four_fields, end_numbers, master_line, slave_line, profile_line, any_line, rule_line, range_line, header_line};
 
@@ -61,8 +62,9 @@ pub enum HeaderLine {
 }
 
 /// `<master> <slave>`: how many safe data bytes each end sends.
-fn read_lengths(fields: Option<&[u8]>) -> Result<LengthsLine, LineCause>
-    ensures { result ≡ lengths_line (fields_after fields.entry) }
+pub fn read_lengths(fields: Option<&[u8]>) -> Result<LengthsLine, LineCause>
+    ensures value { result ≡ lengths_line (fields_after fields.entry) }
+    ensures valid { IfOk result (λ line. IsTrue (is_length line.master) × IsTrue (is_length line.slave)) }
 {
     let (master, rest) = next_field(fields)?;
     let slave = one_field(rest)?;

@@ -43,6 +43,7 @@ pub use field::{
 };
 pub use header::Header;
 pub use header_kind::HeaderKind;
+pub use header_line::{LengthsLine, read_lengths};
 pub use line_buf::{LineBuf, MAX_LINE};
 pub use line_cause::LineCause;
 pub use maker::Maker;

@@ -1,5 +1,5 @@
 //! The header of several pairs, line by line.
-ghost use Rattle.std.specs.Prelude.{◌≡◌, ◌⊎◌, ◌+◌, ◌<◌, ◌≤◌, IfOk, IfSome, IsTrue, OnErr, OnOk, Some, length, map};
+ghost use Rattle.std.specs.Prelude.{◌≡◌, ◌+◌, ◌<◌, ◌≤◌, IfOk, IfSome, IsTrue, OnOk, Some, length, map};
 ghost use Rattle.fsoe_base.specs.LengthsOf.{length_of};
 ghost use Rattle.schedule_file.specs.Event.{profile_of};
 ghost use Rattle.schedule_file.specs.FieldsRead.{fields_after, Becomes};
@@ -35,8 +35,6 @@ pub enum PairsStage {
     Pairs,
     /// `go`.
     Done,
-    /// A line that was refused.
-    Refused,
 }
 
 /// A header that is read line by line, without newlines, from its first line to `go`. The fields of a line are
@@ -116,40 +114,26 @@ impl PairsHeader {
     /// Reads the next line. Returns true if and only if it is `go`, which ends the header. An error is the first of
     /// these causes that applies: `Header` if its first word isn't allowed here, `Fields`, `Number`, `Hex`, `Length`,
     /// `Range`. `Header` also at `pair` and `go` before the lines of a pair may end, `Range` also at a `pair` line
-    /// whose number isn't the next or is above 16. Every line after a refused one, and after `go`, is refused as
-    /// `Header`. Each line leaves fewer to come: a header has at most 16,513.
+    /// whose number isn't the next or is above 16. Every line after `go` is refused as `Header`; after a refused line
+    /// don't read further. Each line leaves fewer to come: a header has at most 16,513.
     pub fn line(&mut self, line: &[u8]) -> Result<bool, LineCause>
         ensures next { Becomes result self.new (pairs_heading_after self.old line.now) }
         ensures done { IfOk result (λ done. done ≡ pairs_heading_is_whole self.new) }
-        ensures refused { OnErr result (self.new.stage ≡ PairsStage.Refused) }
-        ensures fewer { OnOk result (pairs_lines_left self.new < pairs_lines_left self.old) }
-    {
-        match self.read(line) {
-            Ok(()) => Ok(self.is_done()),
-            Err(cause) => {
-                self.stage = PairsStage::Refused;
-                Err(cause)
-            }
-        }
-    }
-
-    fn read(&mut self, line: &[u8]) -> Result<(), LineCause>
-        ensures next { Becomes result self.new (pairs_heading_after self.old line.now) }
         ensures fewer { OnOk result (pairs_lines_left self.new < pairs_lines_left self.old) }
     {
         let (first, fields) = cut(line);
         match self.stage {
             PairsStage::Start if line == b"fsoe 2 pairs".as_slice() => {
                 self.stage = PairsStage::Title;
-                Ok(())
             }
-            PairsStage::Title if first == b"pair".as_slice() => self.take_pair(fields),
+            PairsStage::Title if first == b"pair".as_slice() => self.take_pair(fields)?,
             PairsStage::Pairs if first == b"pair".as_slice() && self.last.may_end() => {
-                self.take_pair(fields)
+                self.take_pair(fields)?;
             }
-            PairsStage::Pairs => self.take_last(line),
-            _ => Err(LineCause::Header),
+            PairsStage::Pairs => self.take_last(line)?,
+            _ => return Err(LineCause::Header),
         }
+        Ok(self.is_done())
     }
 
     /// The number of pairs of which a line was read.
@@ -159,13 +143,12 @@ impl PairsHeader {
     {
         match self.stage {
             PairsStage::Pairs | PairsStage::Done => self.before.len() as u16 + 1,
-            PairsStage::Start | PairsStage::Title | PairsStage::Refused => 0,
+            PairsStage::Start | PairsStage::Title => 0,
         }
     }
 
     /// Takes a `pair` line.
     fn take_pair(&mut self, fields: Option<&[u8]>) -> Result<(), LineCause>
-        requires { (self.old.stage ≡ PairsStage.Title) ⊎ (self.old.stage ≡ PairsStage.Pairs) }
         ensures next { Becomes result self.new (pair_taken self.old (fields_after fields.entry)) }
         ensures fewer { OnOk result (pairs_lines_left self.new < pairs_lines_left self.old) }
     {
@@ -183,7 +166,7 @@ impl PairsHeader {
         let last = mem::replace(&mut self.last, Header::begun_pair());
         match self.stage {
             PairsStage::Pairs | PairsStage::Done => self.before.push_reserved(last),
-            PairsStage::Start | PairsStage::Title | PairsStage::Refused => self.before.clear(),
+            PairsStage::Start | PairsStage::Title => self.before.clear(),
         }
         self.stage = PairsStage::Pairs;
     }

@@ -68,8 +68,6 @@ pub enum Place {
     RuleRanges,
     /// `go`.
     Done,
-    /// A line that was refused.
-    Refused,
 }
 
 impl Place {

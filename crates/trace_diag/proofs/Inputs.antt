@@ -1,7 +1,7 @@
 -- Inputs with traces: a header that is done has valid lengths, frames are from 1 to 255 bytes, and each input has a
 -- report.
 use Rattle.trace_diag.proofs.Common.{All-append, All-cons, All-head, All-nil, All-tail, AreBytes, AreOfBytes, AtEnd, DiagnosisStands, Difference, Ended, EndsWhole, InputCause, IsVerdict, Lengths, Noted, NotesFrame, Refused, ReportsSoFar, Stop, TraceHeading, TraceStands, TraceView, WholeHeaderOf, append-nil, first_difference, frame_said, header_in, header_read, header_step, trace_heading_new, input_by, input_read, is_length, judge_reporting, length-reverse, lengths_taken, line_taken, lines_of, refused_at, reverse-append, settings_told, trace_format, trace_heading_after, trace_is_whole, trace_line, trace_said}
-use Rattle.std.proofs.Common.{◌≡◌, ◌<◌, ◌+◌, ◌-◌, ◌^◌, ◌&&◌, ℕ, List, [], ◌∷◌, ◌++◌, length, reverse, Bool, true, false, Option, Some, None, IfOk, IfSome, Result, Ok, Err, IsTrue, refl, sym, ap, subst, ◌∙◌, arith, if◌then◌else◌, rules}
+use Rattle.std.proofs.Common.{◌≡◌, ◌<◌, ◌+◌, ◌-◌, ◌^◌, ℕ, List, [], ◌∷◌, ◌++◌, length, reverse, Bool, true, false, Option, Some, None, IfOk, IfSome, Result, Ok, Err, IsTrue, refl, sym, ap, subst, ◌∙◌, arith, if◌then◌else◌, rules}
 use Rattle.std.specs.Str.{bytes_eq}
 use Rattle.std.proofs.lemmas.Result.{IfOk-at_ok}
 use Rattle.std.specs.Prelude.{codes}
@@ -11,11 +11,10 @@ use Rattle.hex.specs.declared.error.FromHexError.{FromHexError}
 use Rattle.fsoe_base.specs.declared.lengths.TheConstants.{MOST_FRAME}
 use Rattle.schedule_file.proofs.Fitting.{input_is}
 use Rattle.schedule_file.proofs.Headed.{either}
-use Rattle.schedule_file.proofs.Sound.{each, IfOk-every, IfOk-map}
+use Rattle.schedule_file.proofs.Sound.{IfOk-every, IfOk-map, lengths_sound}
 use Rattle.schedule_file.specs.Field.{bytes_said, fields_of, some_bytes}
 use Rattle.schedule_file.specs.Fields.{map_ok, by_word, no_field, value_or}
 use Rattle.schedule_file.specs.HeaderLine.{lengths_line}
-use Rattle.schedule_file.specs.declared.header_line.LengthsLine.{LengthsLine}
 use Rattle.schedule_file.specs.declared.line_cause.LineCause.{LineCause}
 use Rattle.schedule_file.specs.declared.line_cause.LineCause.TheVariants as cause
 use Rattle.file_run.specs.Machine.{MayCome, TakesEvent, EndsReport}
@@ -35,16 +34,10 @@ AreValid master slave = IsTrue (is_length master) × IsTrue (is_length slave)
 abbrev HasLengths : TraceHeading → Type 0
 HasLengths h = AreValid h.master h.slave
 
-valid-if : (m s : ℕ) (a b : Bool) → is_length m ≡ a → is_length s ≡ b → IfOk (if a && b then Ok (record { master = m; slave = s }) else Err cause.Length) (λ (l : LengthsLine). AreValid l.master l.slave)
-valid-if m s a b h k = grind arith
-
-lengths-valid : (fields : List (List ℕ)) → IfOk (lengths_line fields) (λ (l : LengthsLine). AreValid l.master l.slave)
-lengths-valid fields = search (rules, each, valid-if)
-
 line-holds : (at : Stage) (h : TraceHeading) (text word : List ℕ) (fields : List (List ℕ)) → HasLengths h → IfOk (line_taken at h text word fields) HasLengths
 line-holds stage.Start h text word fields k = either (bytes_eq text (codes "fsoe 1 trace")) (Ok (record h { stage = stage.Title })) (Err cause.Header) HasLengths k tt
 line-holds stage.Title h text word fields k =
-    either (bytes_eq word (codes "lengths")) (map_ok lengths_taken (lengths_line fields)) (Err cause.Header) HasLengths (IfOk-map (lengths_line fields) lengths_taken HasLengths (lengths-valid fields)) tt
+    either (bytes_eq word (codes "lengths")) (map_ok lengths_taken (lengths_line fields)) (Err cause.Header) HasLengths (IfOk-map (lengths_line fields) lengths_taken HasLengths (lengths_sound fields)) tt
 line-holds stage.Lengths h text word fields k =
     either (bytes_eq word (codes "go")) (map_ok (λ none. record h { stage = stage.Done }) (no_field fields)) (Err cause.Header) HasLengths
     (IfOk-map (no_field fields) (λ none. record h { stage = stage.Done }) HasLengths (IfOk-every (no_field fields) (λ none. HasLengths (record h { stage = stage.Done })) (λ none. k))) tt

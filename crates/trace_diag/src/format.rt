@@ -47,10 +47,7 @@ impl Format for TraceFormat {
     }
 
     fn read(_: &(), line: &[u8], said: &mut TraceLine) -> Result<(), LineCause> {
-        match read_trace_line(line, said) {
-            Ok(()) => Ok(()),
-            Err(cause) => Err(cause),
-        }
+        read_trace_line(line, said)
     }
 
     fn event(line: &TraceLine) -> Option<&Noted> {

@@ -119,11 +119,11 @@ pub(crate) fn wrong_in_piece(
     ensures place { result ≡ first_failing (piece_holds c (payload_holds phase conn parameters.now) from) 0 load.now }
     ensures within { IfSome result (λ place. place < 256) }
 {
-    for p in 0..load.len() {
+    for (p, byte) in load.iter().enumerate() {
         let holds = if p < c {
-            payload_holds(phase, conn, parameters, from + p, load[p])
+            payload_holds(phase, conn, parameters, from + p, *byte)
         } else {
-            load[p] == 0
+            *byte == 0
         };
         if !holds {
             return Some(p);
@@ -139,8 +139,8 @@ pub(crate) fn wrong_in_echo(load: &[u8], want: &[u8]) -> Option<usize>
     ensures place { result ≡ first_differing 0 load.now (padded want.now (length load.now)) }
     ensures within { IfSome result (λ place. place < 256) }
 {
-    for p in 0..load.len() {
-        if load[p] != byte_at(want, p) {
+    for (p, byte) in load.iter().enumerate() {
+        if *byte != byte_at(want, p) {
             return Some(p);
         }
     }
