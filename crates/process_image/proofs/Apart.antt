@@ -1,24 +1,10 @@
--- The first fault of slots, test by test. Slots without one lie inside both images, and share no byte of the output
--- image.
-use Rattle.process_image.proofs.Common.{Place, Plan, Slot, first_fault, first_outside, first_pair, first_with, lie_inside, outside_or, overlap, pair_or, places_from, plan_of, share, spans_of}
-use Rattle.std.proofs.Common.{◌≡◌, ◌≤◌, ◌<◌, ◌⊎◌, ℕ, suc, ◌+◌, ◌&&◌, List, [], ◌∷◌, length, Option, Some, None, Bool, true, false, nat_lt, nat_le, if◌then◌else◌, leb-true, refl, ap, arith, rules}
+-- Slots without a fault lie inside both images, and share no byte of the output image.
+use Rattle.process_image.proofs.Common.{Place, Plan, first_fault, first_outside, first_pair, first_with, lie_inside, overlap, pair_or, share, spans_of}
+use Rattle.std.proofs.Common.{◌≡◌, ◌≤◌, ◌⊎◌, ℕ, ◌+◌, ◌&&◌, List, [], ◌∷◌, length, Option, Some, None, Bool, true, false, nat_lt, nat_le, if◌then◌else◌, leb-true, arith, rules}
 use Rattle.std.proofs.lemmas.Bool.{and_parts, or_parts}
-use Rattle.process_image.specs.declared.fault.SlotFault.{SlotFault}
-use Rattle.process_image.specs.declared.fault.SlotFault.TheVariants as fault
+use Rattle.image_file.specs.declared.fault.SlotFault.{SlotFault}
+use Rattle.image_file.specs.declared.fault.SlotFault.TheVariants as fault
 use Rattle.process_image.proofs.Giving.{len_at, AwayFrom, AreApart}
-
-pub places_count : (n : ℕ) (slots : List Slot) → length (places_from n slots) ≡ length slots
-places_count n [] = refl
-places_count n (slot ∷ slots) = ap suc (places_count (suc n) slots)
-
--- there are more than 64
-pub too_many : (size_in size_out : ℕ) (slots : List Slot) → 64 < length slots → Some fault.TooMany ≡ first_fault (plan_of size_in size_out slots)
-too_many size_in size_out slots h = search (rules, places_count)
-
--- there aren't: then it is what the other tests say
-pub tested : (size_in size_out : ℕ) (slots : List Slot) (o : Option ℕ) → length slots ≤ 64 → o ≡ first_outside size_in size_out (places_from 1 slots)
-    → outside_or o (first_pair (places_from 1 slots)) ≡ first_fault (plan_of size_in size_out slots)
-tested size_in size_out slots o h k = search (rules, places_count)
 
 -- a test that is followed by no fault
 chosen : {A : Type 0} (b : Bool) (x : A) (rest : Option A) → (if b then Some x else rest) ≡ None → (b ≡ false) × (rest ≡ None)

@@ -1,19 +1,11 @@
 -- Images that were just made.
-use Rattle.process_image.proofs.Common.{All-cons, All-head, All-nil, All-tail, AllZip, AllZip-long, AreNumbered, ImagesView, IsNew, IsNewSeat, IsSeatOf, IsSound, IsSoundSeat, Core, IsEndOf, Place, Seat, Setup, Slot, SlotHeader, StandsFor, bytes_at, first_fault, frame_len, slot_frame, is_length, length-replicate, nat_tests, places_from, plan_of, receives, sends, setup_of, with_bytes, with_frames}
-use Rattle.std.proofs.Common.{◌≡◌, ◌≤◌, ℕ, suc, ◌+◌, List, [], ◌∷◌, map, length, replicate, All, None, IsTrue, refl, sym, ap, subst, ◌∙◌, arith, inl, inr, rules}
-use Rattle.std.proofs.lemmas.Bool.{cases_eq}
+use Rattle.process_image.proofs.Common.{All-cons, All-head, All-nil, All-tail, AllZip, AllZip-long, AreNumbered, ImagesView, IsNew, IsNewSeat, IsSeatOf, IsSound, IsSoundSeat, Place, Seat, Slot, StandsFor, bytes_at, first_fault, frame_len, slot_frame, length-replicate, places_from, plan_of, receives, sends, setup_of, with_bytes, with_frames}
+use Rattle.std.proofs.Common.{◌≡◌, ◌≤◌, ℕ, suc, ◌+◌, List, [], ◌∷◌, map, length, replicate, All, None, refl, sym, ap, ◌∙◌, rules}
 use Rattle.std.proofs.lemmas.List.{drop-replicate, replicate-append-replicate, take-replicate}
-use Rattle.process_image.proofs.Apart.{few_places, places_count, plan_apart}
+use Rattle.process_image.proofs.Apart.{few_places, plan_apart}
+use Rattle.image_file.proofs.Faults.{places_count}
 use Rattle.process_image.proofs.Giving.{AreApart, len_at}
-use Rattle.process_image.proofs.Zips.{zip_same}
-
--- a frame has at most 255 bytes
-pub frame_most : (l : ℕ) → IsTrue (is_length l) → frame_len l ≤ 255
-frame_most l h = elim (cases_eq l 1) [ inl one ↦ grind (arith, nat_tests) | inr other ↦ grind (arith, nat_tests) ]
-
--- a new end is set to settings that the lines of a slot say
-pub made : (s : SlotHeader) (core : Core) (setup : Setup) → setup_of core ≡ setup → IsEndOf s setup → IsEndOf s (setup_of core)
-made s core setup set is = subst (λ (t : Setup). IsEndOf s t) (sym set) is
+use Rattle.image_file.proofs.Zips.{zip_same}
 
 -- zeros in zeros
 pub zeros_at : (at len size : ℕ) → at + len ≤ size → bytes_at at len (replicate size 0) ≡ replicate len 0

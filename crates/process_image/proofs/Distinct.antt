@@ -2,7 +2,7 @@
 use Rattle.process_image.proofs.Common.{ImageEvent, Move, Place, Plan, Unwritten, and_move, at_samples, slot_contents, distinct_after, frames_in, input, move_in, moves, slot_next_deed, option_map, output, pointwise, sampled, told, with_bytes}
 use Rattle.std.proofs.Common.{◌≡◌, ℕ, ◌==◌, List, [], ◌∷◌, ◌++◌, replicate, Option, Some, None, Bool, true, nat_eq, if◌then◌else◌, refl, sym, ap, ap₂, ◌∙◌, arith, rules}
 use Rattle.param_load.specs.declared.entry.Move.TheVariants as move
-use Rattle.process_image.specs.declared.event.ImageEvent.TheVariants as event
+use Rattle.image_file.specs.declared.event.ImageEvent.TheVariants as event
 
 -- where nothing was written since, what was sampled last is the input image
 unwritten-is : (size : ℕ) (calls : List ImageEvent) → Unwritten calls → sampled size calls ≡ input size calls

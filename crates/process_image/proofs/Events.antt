@@ -2,7 +2,7 @@
 use Rattle.process_image.proofs.Common.{AnswersReset, AreNumbered, Did, DoesEvent, Follows, ImageEvent, ImagesView, IsDidOf, Move, Place, Plan, ShowsAt, StandsFor, TellsEvent, append-nil, slot_deeds, slot_entry_line, image_event_lines, if_named, move_in, move_line, slot_next_deed, option_map, slot_in, told_line}
 use Rattle.std.proofs.Common.{◌≡◌, ◌≤◌, ◌<◌, ◌+◌, ℕ, zero, suc, List, [], ◌∷◌, ◌++◌, length, slice_get, Option, Some, None, refl, sym, ap, subst, ◌∙◌, arith}
 use Rattle.param_load.specs.declared.entry.Move.TheVariants as move
-use Rattle.process_image.specs.declared.event.ImageEvent.TheVariants as event
+use Rattle.image_file.specs.declared.event.ImageEvent.TheVariants as event
 use Rattle.process_image.proofs.One.{Names, it, unnamed}
 use Rattle.process_image.proofs.ToldLines.{number_at, shown_entry}
 

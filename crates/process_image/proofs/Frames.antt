@@ -2,7 +2,7 @@
 use Rattle.process_image.proofs.Common.{All-cons, All-head, All-nil, All-tail, HoldsFrames, ImageEvent, ImagesView, IsBeside, Place, Plan, ShowsFrames, StandsFor, WritesFit, bytes_at, common_steps, slot_contents, input, length-replicate, output, share, spans_of, with_bytes, with_frames}
 use Rattle.std.proofs.Common.{◌≡◌, ◌≤◌, ◌+◌, ◌-◌, ◌⊎◌, ℕ, List, [], ◌∷◌, length, take, drop, All, false, refl, sym, ap, ◌∙◌, arith, rules}
 use Rattle.std.proofs.lemmas.List.{drop-take}
-use Rattle.process_image.specs.declared.event.ImageEvent.TheVariants as event
+use Rattle.image_file.specs.declared.event.ImageEvent.TheVariants as event
 use Rattle.process_image.proofs.Apart.{plan_apart}
 use Rattle.process_image.proofs.Beginning.{zeros_at}
 use Rattle.process_image.proofs.Following.{seats_long}

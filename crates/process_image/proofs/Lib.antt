@@ -1,5 +1,6 @@
 pub mod Apart
 pub mod Beginning
+pub mod Common
 pub mod Counts
 pub mod Distinct
 pub mod Events
@@ -11,15 +12,12 @@ pub mod Keeping
 pub mod Looping
 pub mod One
 pub mod Reading
-pub mod Seats
 pub mod Runs
+pub mod Seats
 pub mod SentLength
 pub mod Set
 pub mod SomeReport
 pub mod Telling
-pub mod Tested
 pub mod ToldLines
 pub mod WithBytes
-pub mod Written
 pub mod Zips
-pub mod Common

@@ -1,7 +1,7 @@
 -- A call that is a move of one slot, or of none.
 use Rattle.process_image.proofs.Common.{All-head, All-tail, AllZip, AreNumbered, Follows, ImageEvent, ImagesView, IsSeatOf, IsSoundSeat, IsStepOf, Move, Place, Seat, SeatStep, after_steps, slot_contents, if_named, input, move_in, nat_tests, sampled, with_bytes, with_sent}
 use Rattle.std.proofs.Common.{◌≡◌, ◌≤◌, ℕ, zero, suc, ◌+◌, ◌==◌, List, [], ◌∷◌, map, slice_get, slice_set, All, Some, None, true, false, if◌then◌else◌, refl, sym, ap, subst, ◌∙◌, arith}
-use Rattle.process_image.specs.declared.event.ImageEvent.TheVariants as event
+use Rattle.image_file.specs.declared.event.ImageEvent.TheVariants as event
 use Rattle.process_image.proofs.Following.{IsPart, stands_more}
 use Rattle.process_image.proofs.Seats.{stays, still, still_step}
 

@@ -3,16 +3,16 @@ use Rattle.process_image.proofs.Common.{All, All-cons, All-nil, AllZip, DoesEven
 use Rattle.schedule_file.specs.EventLine.{switch_of}
 use Rattle.std.proofs.Common.{◌≡◌, ◌+◌, ◌==◌, ℕ, zero, suc, List, [], ◌∷◌, ◌++◌, Bool, true, false, length, map, reverse, slice_get, Option, Some, None, IfSome, append_assoc, leb-true, eqb-true, refl, sym, ap, subst, ◌∙◌, arith}
 use Rattle.std.specs.Prelude.{◌<◌, if◌then◌else◌}
-use Rattle.process_image.specs.EventLine.{slot_and_field}
+use Rattle.image_file.specs.EventLine.{slot_and_field}
 use Rattle.schedule_file.proofs.Sound.{ok_if, worded}
 use Rattle.schedule_file.specs.declared.line_cause.LineCause.TheVariants as cause
 use Rattle.file_run.specs.Machine.{IsSaid}
-use Rattle.process_image.specs.declared.event.ImageEvent.TheVariants as event
-use Rattle.process_image.specs.declared.event.ImageLine.{ImageLine}
-use Rattle.process_image.specs.declared.event.ImageLine.TheVariants as line
-use Rattle.process_image.specs.declared.event_line.SlotEnd.{SlotEnd}
-use Rattle.process_image.specs.declared.event_line.Word.{Word}
-use Rattle.process_image.specs.declared.event_line.Word.TheVariants as word
+use Rattle.image_file.specs.declared.event.ImageEvent.TheVariants as event
+use Rattle.image_file.specs.declared.event.ImageLine.{ImageLine}
+use Rattle.image_file.specs.declared.event.ImageLine.TheVariants as line
+use Rattle.image_file.specs.declared.event_line.SlotEnd.{SlotEnd}
+use Rattle.image_file.specs.declared.event_line.Word.{Word}
+use Rattle.image_file.specs.declared.event_line.Word.TheVariants as word
 use Rattle.process_image.proofs.Beginning.{numbered_so}
 
 -- the lines of the first events come first

@@ -35,7 +35,9 @@ reset-long s code = search (rules, frame-long, valid_length, reset-load-long, co
 
 -- a piece with zeros after it
 padded-long : (bytes : List ℕ) (l : ℕ) → length bytes ≤ l → length (padded bytes l) ≡ l
-padded-long bytes l h = let e : length (padded bytes l) ≡ length bytes + length (replicate (l - length bytes) 0) = length-append bytes (replicate (l - length bytes) 0) in omega (arith, e, length-replicate {A = ℕ} (l - length bytes) 0)
+padded-long bytes l h =
+    let e : length (padded bytes l) ≡ length bytes + length (replicate (l - length bytes) 0) = length-append bytes (replicate (l - length bytes) 0) in
+    omega (arith, e, length-replicate {A = ℕ} (l - length bytes) 0)
 
 piece-short : (s : Setup) → piece_len s ≤ sends s
 piece-short s = grind arith

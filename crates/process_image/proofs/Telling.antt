@@ -3,10 +3,10 @@ use Rattle.process_image.proofs.Common.{All-head, All-tail, AllZip, DoesEach, Fo
 use Rattle.std.proofs.Common.{◌≡◌, ℕ, List, [], ◌∷◌, ◌++◌, map, length, take, drop, All, Option, refl, sym, ap, subst, ◌∙◌, arith}
 use Rattle.std.proofs.lemmas.List.{length-map}
 use Rattle.param_load.specs.declared.entry.Move.TheVariants as move
-use Rattle.process_image.specs.declared.event.ImageEvent.TheVariants as event
+use Rattle.image_file.specs.declared.event.ImageEvent.TheVariants as event
 use Rattle.process_image.proofs.Following.{IsPart, stands_more}
 use Rattle.process_image.proofs.Keeping.{steps_setups, steps_sound, written_back}
-use Rattle.process_image.proofs.Zips.{zip_same}
+use Rattle.image_file.proofs.Zips.{zip_same}
 
 -- steps of this kind, each of which tells this, are the parts of slots of a call that writes nothing, and at which this
 -- word is told of each

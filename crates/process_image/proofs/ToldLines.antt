@@ -2,7 +2,7 @@
 use Rattle.process_image.proofs.Common.{AllZip, AnswersSample, AnswersTick, AreLinesOf, AreNumbered, Deed, Did, Follows, ImageEvent, ImagesView, IsLineOf, IsRun, IsSeatOf, Move, Place, Plan, Seat, Setup, ShowsAt, StandsFor, TellsEvent, append-nil, slot_deeds, slot_entry_line, image_event_lines, last_frame, length-take-le, move_in, move_line, slot_next_deed, option_map, take_all, take_more, told, told_line}
 use Rattle.std.proofs.Common.{◌≡◌, ◌+◌, ◌<◌, ◌≤◌, ℕ, zero, suc, List, [], ◌∷◌, ◌++◌, length, map, take, get_or, slice_get, Option, None, Some, append_assoc, refl, sym, ap, ap₂, subst, ◌∙◌, arith, rules}
 use Rattle.param_load.specs.declared.entry.Move.TheVariants as move
-use Rattle.process_image.specs.declared.event.ImageEvent.TheVariants as event
+use Rattle.image_file.specs.declared.event.ImageEvent.TheVariants as event
 use Rattle.std.specs.Prelude.{if◌then◌else◌}
 use Rattle.end_model.proofs.Told.{told_sent}
 use Rattle.process_image.proofs.Following.{deeds_more, reached}
@@ -39,7 +39,8 @@ shown_entry plan v calls event n k p what did text h at moves done shows =
     let number : suc k ≡ p.number = let q = number_at 1 plan.places k p h.made.numbers at in omega (arith, q) in
     let shown : option_map (λ (p : Place). told_line n (suc k) did p.setup (slot_deeds plan.size_in p (event ∷ calls))) (slice_get plan.places k) ≡ Some text = shows.shows plan (event ∷ calls) h in
     let is : told_line n (suc k) did p.setup (slot_deeds plan.size_in p (event ∷ calls)) ≡ text =
-    let s : Some (told_line n (suc k) did p.setup (slot_deeds plan.size_in p (event ∷ calls))) ≡ Some text = ap (option_map (λ (p : Place). told_line n (suc k) did p.setup (slot_deeds plan.size_in p (event ∷ calls)))) (sym at) ∙ shown in cc
+    let s : Some (told_line n (suc k) did p.setup (slot_deeds plan.size_in p (event ∷ calls))) ≡ Some text = ap (option_map (λ (p : Place). told_line n (suc k) did p.setup (slot_deeds plan.size_in p (event ∷ calls)))) (sym at) ∙ shown in
+    cc
     in
     sym is ∙ ap₂ (λ (d : Did) (e : List Deed). told_line n (suc k) d p.setup e) done more ∙ told-entry n (suc k) p e x number run
 

@@ -9,9 +9,9 @@ use Rattle.end_model.specs.Deed.{Deed, is_empty}
 use Rattle.end_model.specs.Setup.{Setup, sends}
 use Rattle.end_model.specs.Step.{step, run}
 use Rattle.process_image.specs.Image.{bytes_at, with_bytes, input, sampled}
-use Rattle.process_image.specs.Places.{Place, Plan, spans_of}
-use Rattle.process_image.specs.declared.event.ImageEvent.{ImageEvent}
-use Rattle.process_image.specs.declared.event.ImageEvent.TheVariants as image_event
+use Rattle.image_file.specs.Places.{Place, Plan, spans_of}
+use Rattle.image_file.specs.declared.event.ImageEvent.{ImageEvent}
+use Rattle.image_file.specs.declared.event.ImageEvent.TheVariants as image_event
 
 -- the contents of a slot: the bytes of this input image where its frame lies
 abbrev pub slot_contents : Place → List ℕ → List ℕ

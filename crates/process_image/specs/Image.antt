@@ -1,7 +1,7 @@
 -- Bytes of an image, and the input image by looking back over calls, newest first.
 use Rattle.std.specs.Prelude.{ℕ, ◌+◌, List, [], ◌∷◌, ◌++◌, length, take, drop, replicate, slice_range}
-use Rattle.process_image.specs.declared.event.ImageEvent.{ImageEvent}
-use Rattle.process_image.specs.declared.event.ImageEvent.TheVariants as image_event
+use Rattle.image_file.specs.declared.event.ImageEvent.{ImageEvent}
+use Rattle.image_file.specs.declared.event.ImageEvent.TheVariants as image_event
 
 -- so many bytes of an image from a place on
 abbrev pub bytes_at : ℕ → ℕ → List ℕ → List ℕ

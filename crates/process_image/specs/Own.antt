@@ -6,9 +6,9 @@ use Rattle.param_load.specs.declared.entry.Move.{Move}
 use Rattle.param_load.specs.declared.entry.Move.TheVariants as move
 use Rattle.process_image.specs.Calls.{slot_contents}
 use Rattle.process_image.specs.Image.{input}
-use Rattle.process_image.specs.Places.{Place}
-use Rattle.process_image.specs.declared.event.ImageEvent.{ImageEvent}
-use Rattle.process_image.specs.declared.event.ImageEvent.TheVariants as image_event
+use Rattle.image_file.specs.Places.{Place}
+use Rattle.image_file.specs.declared.event.ImageEvent.{ImageEvent}
+use Rattle.image_file.specs.declared.event.ImageEvent.TheVariants as image_event
 
 -- nothing was written after the last sample, nor at all where there was none
 abbrev pub Unwritten : List ImageEvent → Type 0

@@ -1,62 +1,18 @@
 -- The report of images.
-use Rattle.std.specs.Prelude.{◌≡◌, ℕ, ◌+◌, nat_le, Bool, List, [], ◌∷◌, ◌++◌, length, map, reverse, codes, decimal, Option, Some, None, Result}
-use Rattle.std.specs.List.{AllZip}
+use Rattle.std.specs.Prelude.{◌≡◌, ℕ, ◌+◌, List, [], ◌∷◌, ◌++◌, length, reverse, codes, decimal, Option, Some, None}
 use Rattle.hex.specs.Hex.{encode_lower}
-use Rattle.fsoe_base.specs.declared.command.End.TheVariants as side
 use Rattle.entry_text.specs.EntryText.{entry_text}
 use Rattle.param_load.specs.declared.entry.Move.{Move}
-use Rattle.schedule_file.specs.Header.{IsMasterOf, IsSlaveOf}
-use Rattle.schedule_file.specs.Input.{Stop, AtEnd, Refused, own_length, heading_profile}
-use Rattle.schedule_file.specs.declared.line_cause.LineCause.{LineCause}
+use Rattle.schedule_file.specs.Input.{Stop, AtEnd, Refused}
 use Rattle.file_run.specs.Report.{events_line, refused_line, last_line}
-use Rattle.end_model.specs.Setup.{Setup, OfMaster, OfSlave}
 use Rattle.end_model.specs.Deed.{Deed}
 use Rattle.end_model.specs.Outputs.{out}
 use Rattle.end_model.specs.Readiness.{state_of}
 use Rattle.process_image.specs.Calls.{move_in, slot_deeds, slot_next_deed, output}
-use Rattle.process_image.specs.EventLine.{image_line}
-use Rattle.process_image.specs.Header.{ImageHeading, slots_of, slot_end}
-use Rattle.process_image.specs.Places.{AreNumbered, Place, Plan}
-use Rattle.process_image.specs.declared.event.ImageEvent.{ImageEvent}
-use Rattle.process_image.specs.declared.event.ImageLine.{ImageLine}
-use Rattle.process_image.specs.declared.event.ImageLine.TheVariants as image_says
-use Rattle.process_image.specs.declared.event_line.SlotEnd.{SlotEnd}
-use Rattle.process_image.specs.declared.header.SlotHeader.{SlotHeader}
-
--- what lines of events look at of a slot
-abbrev pub end_terms : SlotHeader → SlotEnd
-end_terms s = record { sends = own_length s.own (slot_end s); profile = heading_profile s.own (slot_end s) }
-
--- the event of a line, if it is one
-abbrev pub event_in : ImageLine → Option ImageEvent
-event_in (image_says.Step event) = Some event
-event_in image_says.End = None
-
--- what a line says that stands after a header
-abbrev pub image_said_after : ImageHeading → List ℕ → Result ImageLine LineCause
-image_said_after h text = image_line h.size_in (map end_terms (slots_of h)) text
-
--- no event may come after 2,000
-abbrev pub image_is_full : ImageHeading → List ImageEvent → Bool
-image_is_full h events = nat_le 2000 (length events)
-
--- an end is set to what the lines of a slot say
-abbrev pub IsEndOf : SlotHeader → Setup → Type 0
-IsEndOf s (OfMaster settings) = (slot_end s ≡ side.Master) × IsMasterOf s.own settings
-IsEndOf s (OfSlave settings) = (slot_end s ≡ side.Slave) × IsSlaveOf s.own settings
-
--- a slot stands where its lines say, with an end that is set as they say
-pub record IsSlotOf (s : SlotHeader) (p : Place) : Type 0 where
-  pub at_in_is : p.at_in ≡ s.at_in
-  pub at_out_is : p.at_out ≡ s.at_out
-  pub end_is : IsEndOf s p.setup
-
--- images are made as a header says; its slots are numbered in their order
-pub record IsPlanOf (h : ImageHeading) (plan : Plan) : Type 0 where
-  pub size_in_is : plan.size_in ≡ h.size_in
-  pub size_out_is : plan.size_out ≡ h.size_out
-  pub slots : AllZip IsSlotOf (slots_of h) plan.places
-  pub numbers : AreNumbered 1 plan.places
+use Rattle.image_file.specs.Header.{ImageHeading}
+use Rattle.image_file.specs.Made.{IsPlanOf}
+use Rattle.image_file.specs.Places.{Place, Plan}
+use Rattle.image_file.specs.declared.event.ImageEvent.{ImageEvent}
 
 -- the line of what the end of a slot did at the event of this number, with the state and the outputs after it, and the
 -- frame that it sent

@@ -3,10 +3,10 @@ use Rattle.std.specs.Prelude.{◌≡◌, ◌≤◌, ◌+◌, ℕ, length, replic
 use Rattle.fsoe_base.specs.Lengths.{frame_len}
 use Rattle.end_model.specs.Setup.{sends, receives}
 use Rattle.end_core.specs.Core.{setup_of, IsAtRest}
-use Rattle.process_image.specs.Places.{most_slots}
+use Rattle.image_file.specs.Places.{most_slots}
 use Rattle.process_image.specs.Standing.{ImagesView}
 use Rattle.process_image.specs.declared.seat.Seat.{Seat}
-use Rattle.process_image.specs.declared.slot.Slot.{Slot}
+use Rattle.image_file.specs.declared.slot.Slot.{Slot}
 
 -- the end of a slot may send: it is at rest, and its frames lie inside an output image of this size
 pub record MaySend (size_out : ℕ) (seat : Seat) : Type 0 where

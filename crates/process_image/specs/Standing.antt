@@ -9,11 +9,11 @@ use Rattle.end_model.specs.Step.{step}
 use Rattle.end_core.specs.Core.{setup_of}
 use Rattle.end_core.specs.Standing.{IsAfter}
 use Rattle.process_image.specs.Calls.{slot_contents, move_in, slot_deeds, slot_next_deed, slot_frame, output}
-use Rattle.process_image.specs.Fault.{IsPlan}
+use Rattle.image_file.specs.Fault.{IsPlan}
 use Rattle.process_image.specs.Image.{bytes_at, input, sampled}
-use Rattle.process_image.specs.Places.{Place, Plan, share, spans_of, slot_numbered}
-use Rattle.process_image.specs.declared.event.ImageEvent.{ImageEvent}
-use Rattle.process_image.specs.declared.event.ImageEvent.TheVariants as image_event
+use Rattle.image_file.specs.Places.{Place, Plan, share, spans_of, slot_numbered}
+use Rattle.image_file.specs.declared.event.ImageEvent.{ImageEvent}
+use Rattle.image_file.specs.declared.event.ImageEvent.TheVariants as image_event
 use Rattle.process_image.specs.declared.seat.Seat.{Seat}
 
 -- what contracts see: the slots with their ends, and both images

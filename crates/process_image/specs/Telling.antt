@@ -5,12 +5,13 @@ use Rattle.fsoe_base.specs.declared.did.Did.{Did}
 use Rattle.param_load.specs.Profile.{allows_id}
 use Rattle.end_model.specs.Setup.{sends}
 use Rattle.end_model.specs.Runs.{profile_of}
-use Rattle.process_image.specs.Places.{Plan, slot_numbered}
-use Rattle.process_image.specs.Report.{image_event_lines, image_lines, IsPlanOf}
+use Rattle.image_file.specs.Places.{Plan, slot_numbered}
+use Rattle.process_image.specs.Report.{image_event_lines, image_lines}
+use Rattle.image_file.specs.Made.{IsPlanOf}
 use Rattle.process_image.specs.Standing.{ImagesView, AnswersReset, StandsFor, Follows, HasSlot, Keeps, setups_of}
-use Rattle.process_image.specs.declared.event.ImageEvent.{ImageEvent}
-use Rattle.process_image.specs.declared.event.ImageEvent.TheVariants as image_event
-use Rattle.process_image.specs.Header.{ImageHeading}
+use Rattle.image_file.specs.declared.event.ImageEvent.{ImageEvent}
+use Rattle.image_file.specs.declared.event.ImageEvent.TheVariants as image_event
+use Rattle.image_file.specs.Header.{ImageHeading}
 use Rattle.file_run.specs.Waiting.{WaitingText}
 
 -- an event may come to images: bytes lie inside the input image, a slot exists, and its end may be put or given this

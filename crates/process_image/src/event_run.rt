@@ -2,12 +2,12 @@
 ghost use Rattle.std.specs.Prelude.{◌≡◌, ◌≤◌, ◌+◌, [], length};
 ghost use Rattle.process_image.specs.Standing.{Follows, Keeps};
 ghost use Rattle.process_image.specs.Telling.{DoesEvent, FitsImages, IsDidOf, slot_in};
-ghost use Rattle.process_image.specs.declared.event.ImageEvent.TheVariants as event;
+ghost use Rattle.image_file.specs.declared.event.ImageEvent.TheVariants as event;
 
-use crate::event::ImageEvent;
 use crate::images::Images;
 use fsoe_base::Did;
 use fsoe_io::LineText;
+use image_file::ImageEvent;
 
 /// Writes bytes into the input image. Nothing is reported.
 #[tactic(auto, using(crate::proofs::Events::write_tells))]

@@ -8,17 +8,15 @@ ghost use Rattle.end_model.specs.Setup.{sends, receives};
 ghost use Rattle.end_model.specs.Runs.{profile_of};
 ghost use Rattle.end_core.specs.Core.{setup_of};
 ghost use Rattle.end_core.specs.Standing.{IsNew};
-ghost use Rattle.process_image.specs.declared.event.ImageEvent.TheVariants as event;
-ghost use Rattle.process_image.specs.declared.fault.SlotFault.TheVariants as fault;
+ghost use Rattle.image_file.specs.declared.event.ImageEvent.TheVariants as event;
+ghost use Rattle.image_file.specs.declared.fault.SlotFault.TheVariants as fault;
 
-use crate::fault::SlotFault;
 use crate::making::{seats_of, zeros};
 use crate::seat::{Seat, overwrite, sample_all, tick_all};
-use crate::slot::Slot;
-use crate::spans::first_fault;
 use crate::told_lines::write_line;
 use fsoe_base::{Did, FrameBuf, MOST_DATA, MOST_FRAME, State};
 use fsoe_io::LineText;
+use image_file::{Slot, SlotFault, first_fault};
 use std::marker::Model;
 
 /// An input image and an output image of up to 64 slots, no two of which share a byte. Only `new` allocates.
@@ -44,9 +42,9 @@ impl Model for Images {
 
 impl Images {
     ghost use Rattle.process_image.specs.Calls.{last_frame, output};
-    ghost use Rattle.process_image.specs.Fault.{first_fault, plan_of};
+    ghost use Rattle.image_file.specs.Fault.{first_fault, plan_of};
     ghost use Rattle.process_image.specs.Standing.{setups_of, slots_in, StandsFor, HasSlot, Follows, Keeps, AnswersSample, AnswersTick, AnswersReset, ShowsAt, ShowsImage, ShowsFrames};
-    ghost use Rattle.process_image.specs.Places.{most_slots, slot_numbered};
+    ghost use Rattle.image_file.specs.Places.{most_slots, slot_numbered};
     ghost use Rattle.process_image.specs.SlotLines.{told_line};
     ghost use Rattle.process_image.specs.Sound.{IsSoundSeat};
 

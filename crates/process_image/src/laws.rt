@@ -1,24 +1,19 @@
 //! What holds of images over all their calls, and of example runs. The calls do nothing: each law is a contract.
-ghost use Rattle.std.specs.Prelude.{◌≡◌, ℕ, [], ◌∷◌, ◌++◌, List, Some, None, Ok, Err, codes, false, length, replicate, take};
+ghost use Rattle.std.specs.Prelude.{◌≡◌, ℕ, ◌∷◌, ◌++◌, List, None, codes, false, length, replicate};
 ghost use Rattle.fsoe_base.specs.Lengths.{frame_len};
 ghost use Rattle.param_load.specs.declared.entry.Move.{Move};
-ghost use Rattle.schedule_file.specs.declared.line_cause.LineCause.TheVariants as cause;
 ghost use Rattle.end_model.specs.Deed.{Deed, is_empty};
 ghost use Rattle.end_model.specs.Setup.{Setup, sends};
 ghost use Rattle.end_model.specs.Step.{step};
 ghost use Rattle.end_model.specs.Runs.{IsProper, IsRun};
 ghost use Rattle.process_image.specs.Calls.{slot_contents, moves, output};
-ghost use Rattle.process_image.specs.Fault.{first_fault};
 ghost use Rattle.process_image.specs.Own.{Unwritten, WritesFit, at_samples, distinct_after, frames_in};
 ghost use Rattle.process_image.specs.Image.{input};
-ghost use Rattle.process_image.specs.Places.{Place, Plan, share, spans_of};
+ghost use Rattle.image_file.specs.Places.{Place, Plan, share, spans_of};
 ghost use Rattle.process_image.specs.Standing.{told};
-ghost use Rattle.process_image.specs.Worked.{one_slave, two_frames, two_halves, side_by_side, first_exchange, sharing, crowded, one_uneven, two_slots, stage_after, one_said, w, Reports};
-ghost use Rattle.process_image.specs.declared.event.ImageEvent.{ImageEvent};
-ghost use Rattle.process_image.specs.declared.event.ImageEvent.TheVariants as event;
-ghost use Rattle.process_image.specs.declared.event.ImageLine.TheVariants as line;
-ghost use Rattle.process_image.specs.declared.fault.SlotFault.TheVariants as fault;
-ghost use Rattle.process_image.specs.declared.header.Stage.TheVariants as stage;
+ghost use Rattle.process_image.specs.Worked.{one_slave, two_frames, two_halves, side_by_side, first_exchange, Reports};
+ghost use Rattle.image_file.specs.declared.event.ImageEvent.{ImageEvent};
+ghost use Rattle.image_file.specs.declared.event.ImageEvent.TheVariants as event;
 
 /// A frame that an end sends has as many bytes as its frames have, so that it fills its place in the output image.
 #[tactic(auto, using(crate::proofs::SentLength::step_long))]
@@ -32,26 +27,6 @@ pub fn worked_reports()
     ensures changes_alone { Reports one_slave two_frames (codes "2 1 took Reset Reset 0000 > 2a0000c42d0000\n5 1 took Session Session 0000 > 4e020090470000\nevents 5\nout 4e020090470000\n") }
     ensures half_written { Reports one_slave two_halves (codes "2 1 took Reset Reset 0000 > 2a0000c42d0000\n4 1 drop InReset Reset 0000\n6 1 took Session Session 0000 > 4e020090470000\nevents 6\nout 4e020090470000\n") }
     ensures both_ends { Reports side_by_side first_exchange (codes "1 1 again Reset 0000 > 2a0000c42d0000\n1 2 quiet Reset 0000\n3 2 took Reset Reset 0000 > 2a0000c42d0000\n5 1 took Reset Session 0000 > 4e0100123e0000\nevents 5\nout 4e0100123e00002a0000c42d0000\n") }
-{}
-
-/// Worked lines of a header and of events, and slots that share a byte: the line that says a slot's lengths is refused.
-/// Then the first fault of slots that have several.
-#[tactic(auto, unfolding(hex::proofs::OnLiterals::hex_on_literals))]
-pub fn worked_lines()
-    ensures apart { stage_after (two_slots (codes "slot 2 7 7")) ≡ Ok stage.Slots }
-    ensures shared { stage_after (two_slots (codes "slot 2 6 7")) ≡ Err cause.Range }
-    ensures not_before { stage_after (take 8 (two_slots (codes "slot 2 6 7"))) ≡ Ok stage.Slots }
-    ensures slave_fits { stage_after (one_uneven (codes "slave 2 200 1000 2")) ≡ Ok stage.Slots }
-    ensures master_too_long { stage_after (one_uneven (codes "master 1 2 100 1")) ≡ Err cause.Range }
-    ensures out_of_turn { stage_after (two_slots (codes "slot 3 7 7")) ≡ Err cause.Range }
-    ensures fault { first_fault sharing ≡ Some (fault.Overlap 1 2) }
-    ensures fault_outside { first_fault (record sharing { size_out = 13 }) ≡ Some (fault.Bounds 2) }
-    ensures too_many { first_fault crowded ≡ Some fault.TooMany }
-    ensures write { one_said (codes "w 7 2a0000c42d0000") ≡ Ok (line.Step (w 7 (codes "2a0000c42d0000"))) }
-    ensures outside { one_said (codes "w 8 2a0000c42d0000") ≡ Err cause.Position }
-    ensures no_slot { one_said (codes "p 2 zz") ≡ Err cause.NoLink }
-    ensures no_number { one_said (codes "n 2 65536") ≡ Err cause.Number }
-    ensures length { one_said (codes "p 1 010203") ≡ Err cause.Length }
 {}
 
 /// The frames that are delivered to a slot are its contents at the samples, in their order, except those that equal the

@@ -44,25 +44,15 @@
 //! ```
 #![tactic(auto)]
 
-mod event;
-mod event_line;
 mod event_run;
-mod fault;
-mod header;
 mod images;
 pub mod laws;
 mod making;
 mod run;
-mod said;
 mod seat;
-mod slot;
-mod spans;
 mod told_lines;
 
 pub use end_core::Core;
-pub use event::{ImageEvent, ImageLine, MOST_WRITTEN};
-pub use fault::SlotFault;
-pub use header::ImageHeader;
+pub use image_file::{ImageEvent, ImageHeader, ImageLine, MOST_WRITTEN, Slot, SlotFault};
 pub use images::Images;
 pub use run::run_image;
-pub use slot::Slot;

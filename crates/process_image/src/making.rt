@@ -2,11 +2,10 @@
 ghost use Rattle.std.specs.Prelude.{◌≡◌, replicate, IfOk, IfErr};
 ghost use Rattle.std.specs.List.{AllZip};
 ghost use Rattle.process_image.specs.Sound.{IsNewSeat};
-ghost use Rattle.process_image.specs.declared.fault.SlotFault.TheVariants as fault;
+ghost use Rattle.image_file.specs.declared.fault.SlotFault.TheVariants as fault;
 
-use crate::fault::SlotFault;
 use crate::seat::Seat;
-use crate::slot::Slot;
+use image_file::{Slot, SlotFault};
 use std::alloc::Global;
 
 /// The seats of new slots, in their order.

@@ -3,88 +3,22 @@ ghost use Rattle.std.specs.Prelude.{◌≡◌, ◌≤◌, ◌+◌, ◌*◌, ◌+
 ghost use Rattle.hex.specs.Hex.{encode_lower};
 ghost use Rattle.process_image.specs.Ran.{RanImage};
 ghost use Rattle.process_image.specs.Telling.{DoesEvent, FitsImages};
-ghost use Rattle.process_image.specs.declared.header.TheConstants.{MOST_SIZE};
+ghost use Rattle.image_file.specs.declared.header.TheConstants.{MOST_SIZE};
 ghost use Rattle.file_run.specs.declared.waiting.TheConstants.{MOST_TEXT};
 ghost use Rattle.file_run.specs.Outside.{told};
 
-use crate::event::{ImageEvent, MOST_EVENTS};
-use crate::event_line::{SlotEnd, read_image_line};
 use crate::event_run;
-use crate::fault::SlotFault;
-use crate::header::ImageHeader;
 use crate::images::Images;
-use crate::said::Said;
-use crate::spans::MOST_SLOTS;
 use crate::told_lines::{self, Telling};
-use arrayvec::ArrayVec;
-use file_run::{Format, Machine, Stopped, Waiting, run_over, write_events};
+use file_run::{Machine, Stopped, Waiting, run_over, write_events};
 use fsoe_base::Memory;
 use fsoe_io::{Ended, LineText, Sink, Source, Status};
-use schedule_file::LineCause;
+use image_file::{ImageEvent, ImageFormat, ImageHeader, MOST_EVENTS, SlotFault};
 use std::alloc::Global;
 use std::marker::Model;
 
 /// The most bytes of an image whose digits are made in one piece.
 const PIECE: usize = 512;
-
-/// How the lines of an input of images are parsed.
-pub(crate) struct ImageFormat;
-
-/// How the lines after the header of images are parsed: by the size of the input image, and by the ends of the slots.
-#[derive(Drop)]
-pub(crate) struct ImageGrammar {
-    size_in: u16,
-    ends: ArrayVec<SlotEnd, MOST_SLOTS>,
-}
-
-impl Format for ImageFormat {
-    ghost use Rattle.std.specs.Prelude.{false};
-    ghost use Rattle.process_image.specs.EventLine.{image_line};
-    ghost use Rattle.process_image.specs.LinesLeft.{image_lines_left};
-    ghost use Rattle.process_image.specs.Ran.{image_format};
-
-    type Header = ImageHeader;
-
-    type Grammar = ImageGrammar;
-
-    type Line = Said;
-
-    type Event = ImageEvent;
-
-    ghost Kind = { Unit {0} };
-
-    ghost format = { λ kind. image_format };
-
-    ghost kind = { λ h. tt };
-
-    ghost lines_left = { image_lines_left };
-
-    ghost says = { λ grammar text. image_line grammar.size_in grammar.ends.items text };
-
-    fn line(header: &mut ImageHeader, line: &[u8]) -> Result<bool, LineCause> {
-        header.line(line)
-    }
-
-    fn grammar(header: &ImageHeader) -> ImageGrammar {
-        let (size_in, _) = header.sizes();
-        ImageGrammar {
-            size_in,
-            ends: header.ends(),
-        }
-    }
-
-    fn end() -> Said {
-        Said::end()
-    }
-
-    fn read(grammar: &ImageGrammar, line: &[u8], said: &mut Said) -> Result<(), LineCause> {
-        read_image_line(line, grammar.size_in, grammar.ends.as_slice(), said)
-    }
-
-    fn event(line: &Said) -> Option<&ImageEvent> {
-        line.event()
-    }
-}
 
 /// Images that run over the events of an input, and their report. All memory is allocated before the first event.
 #[derive(Drop)]
@@ -96,7 +30,7 @@ pub(crate) struct ImageRun {
 impl Model for ImageRun {
     ghost use Rattle.std.specs.Prelude.{◌≤◌, length};
     ghost use Rattle.process_image.specs.Telling.{RunView};
-    ghost use Rattle.process_image.specs.declared.header.TheConstants.{MOST_SIZE};
+    ghost use Rattle.image_file.specs.declared.header.TheConstants.{MOST_SIZE};
 
     ghost Value = { RunView };
 

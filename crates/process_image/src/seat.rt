@@ -5,9 +5,9 @@ ghost use Rattle.process_image.specs.Sound.{IsNewSeat, IsSoundSeat, MaySend};
 ghost use Rattle.param_load.specs.declared.entry.Move.TheVariants as move;
 ghost use Rattle.process_image.specs.Steps.{DoesEach, IsSampleStep, IsStepOf, told_by, did_in};
 
-use crate::slot::Slot;
 use end_core::Core;
 use fsoe_base::{Did, FrameBuf, frame_len};
+use image_file::Slot;
 
 /// Writes these bytes into an image from this place on, and changes no other.
 pub(crate) fn overwrite(image: &mut [u8], at: usize, bytes: &[u8])
@@ -43,7 +43,7 @@ impl Seat {
     ghost use Rattle.process_image.specs.Steps.{with_sent, Does, seat_contents};
 
     /// A slot of which nothing is sampled yet.
-    #[tactic(auto, using(crate::proofs::Beginning::frame_most))]
+    #[tactic(auto, using(image_file::proofs::Slots::frame_most))]
     pub(crate) fn new(slot: Slot) -> Seat
         ensures { IsNewSeat slot result }
     {

@@ -4,15 +4,15 @@ ghost use Rattle.end_core.specs.Standing.{Shows};
 ghost use Rattle.process_image.specs.SlotLines.{AddsLine, entry_told, told_line};
 ghost use Rattle.process_image.specs.Standing.{HasSlot};
 ghost use Rattle.process_image.specs.Telling.{DoesEvent};
-ghost use Rattle.process_image.specs.declared.event.ImageEvent.TheVariants as event;
+ghost use Rattle.image_file.specs.declared.event.ImageEvent.TheVariants as event;
 
 use crate::images::Images;
-use crate::spans::MOST_SLOTS;
 use end_core::Core;
 use entry_text::push_entry;
 use file_run::{MOST_TEXT, Waiting};
 use fsoe_base::{Did, MOST_FRAME, Memory};
 use fsoe_io::LineText;
+use image_file::MOST_SLOTS;
 use std::alloc::Global;
 use std::array;
 

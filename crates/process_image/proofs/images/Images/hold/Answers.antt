@@ -1,6 +1,6 @@
 use Rattle.std.proofs.Common.{◌-◌, refl, arith, rules}
 use Rattle.param_load.specs.declared.entry.Move.TheVariants as move
-use Rattle.process_image.specs.declared.event.ImageEvent.TheVariants as event
+use Rattle.image_file.specs.declared.event.ImageEvent.TheVariants as event
 use Rattle.process_image.proofs.Counts.{seat_there}
 use Rattle.process_image.proofs.Set.{set_follows, set_sound, set_setups}
 use Rattle.process_image.proofs.images.Images.hold.Goals as goal

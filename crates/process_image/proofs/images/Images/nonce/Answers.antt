@@ -1,7 +1,7 @@
 use Rattle.process_image.proofs.Common.{Setup, allows_id, profile_of}
 use Rattle.std.proofs.Common.{◌-◌, IsTrue, refl, arith, rules}
 use Rattle.param_load.specs.declared.entry.Move.TheVariants as move
-use Rattle.process_image.specs.declared.event.ImageEvent.TheVariants as event
+use Rattle.image_file.specs.declared.event.ImageEvent.TheVariants as event
 use Rattle.process_image.proofs.Counts.{seat_there}
 use Rattle.process_image.proofs.Set.{own_setup, set_follows, set_sound, set_setups}
 use Rattle.process_image.proofs.images.Images.nonce.Goals as goal

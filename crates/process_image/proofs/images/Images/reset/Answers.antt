@@ -1,7 +1,7 @@
 use Rattle.process_image.proofs.Common.{common_steps, step, with_sent}
 use Rattle.std.proofs.Common.{◌-◌, length, refl, ap, ◌∙◌, arith, rules}
 use Rattle.param_load.specs.declared.entry.Move.TheVariants as move
-use Rattle.process_image.specs.declared.event.ImageEvent.TheVariants as event
+use Rattle.image_file.specs.declared.event.ImageEvent.TheVariants as event
 use Rattle.process_image.proofs.Counts.{seat_numbered, seat_there}
 use Rattle.process_image.proofs.Keeping.{written_back}
 use Rattle.process_image.proofs.One.{one_follows}

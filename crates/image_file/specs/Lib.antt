@@ -1,0 +1,10 @@
+pub mod EventLine
+pub mod Fault
+pub mod Header
+pub mod Input
+pub mod LinesLeft
+pub mod Made
+pub mod Places
+pub mod Said
+pub mod Tested
+pub mod Worked

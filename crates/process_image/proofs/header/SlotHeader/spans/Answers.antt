@@ -1,5 +1,0 @@
-use Rattle.std.proofs.Common.{rules}
-use Rattle.process_image.proofs.header.SlotHeader.spans.Goals as goal
-
-pub returns : goal.returns
-returns c = search rules

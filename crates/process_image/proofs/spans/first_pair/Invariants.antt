@@ -1,6 +1,0 @@
-use Rattle.process_image.proofs.Common.{first_pair, places_from}
-use Rattle.std.proofs.Common.{◌≡◌, ◌+◌, drop}
-use Rattle.process_image.proofs.spans.first_pair.Given as goal
-
-abbrev pub invariant-loop-i : goal.invariant-loop-i
-invariant-loop-i l = first_pair (places_from (l.i + 1) (drop l.i l.slots)) ≡ first_pair (places_from 1 l.slots)

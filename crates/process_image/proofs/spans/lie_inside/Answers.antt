@@ -1,5 +1,0 @@
-use Rattle.std.proofs.Common.{rules}
-use Rattle.process_image.proofs.spans.lie_inside.Goals as goal
-
-pub returns-then-reaches_into : goal.returns-then-reaches_into
-returns-then-reaches_into c = search rules
