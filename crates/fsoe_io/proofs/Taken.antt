@@ -14,7 +14,10 @@ consumes_then a b c x y h k = grind (arith, common_steps)
 
 -- what is held stays the beginning of a line where a fill gave nothing
 pub some_held : (old new more : List ℕ) → IsLine old → new ≡ old ++ more → length more ≡ 0 → (length new == 0) ≡ false → IsUnended new
-some_held old (b ∷ new) [] line e none h = let same : b ∷ new ≡ old = e ∙ append-nil old in let kept : IsLine (b ∷ new) = subst IsLine (sym same) line in (omega arith, kept.0, kept.1)
+some_held old (b ∷ new) [] line e none h =
+    let same : b ∷ new ≡ old = e ∙ append-nil old in
+    let kept : IsLine (b ∷ new) = subst IsLine (sym same) line in
+    (omega arith, kept.0, kept.1)
 some_held old _ _ line e none h = cc
 
 -- and the input ends there

@@ -1,10 +1,9 @@
 //! The names of loads that failed.
-ghost use Rattle.std.specs.Prelude.{◌≡◌, ◌≢◌, ◌<◌, List, ℕ, [], ◌∷◌, ◌++◌, IfOk, OnOk, string_bytes};
-ghost use Rattle.fsoe_io.specs.Desk.{failed_loads};
-ghost use Rattle.fsoe_io.specs.Faults.{Rose};
+ghost use Rattle.std.specs.Prelude.{◌≡◌, ◌<◌, [], ◌∷◌, ◌++◌, IfOk, OnOk, if◌then◌else◌, string_bytes};
+ghost use Rattle.fsoe_io.specs.Calls.{has_failed};
 
-use fsoe_base::Memory;
-use std::alloc::Global;
+use crate::desk::LoadFault;
+use std::alloc::{AllocError, Global};
 use std::marker::Model;
 
 /// The names of the loads that failed, in order. Room for the next name is allocated before its load.
@@ -35,37 +34,24 @@ impl FailedLoads {
         }
     }
 
-    /// Allocates room for one more name, and copies the name for it. `Memory` if there is none.
-    pub fn room_for(&mut self, name: &str) -> Result<String, Memory>
+    /// Allocates room for one more name, and copies the name for it.
+    pub fn room_for(&mut self, name: &str) -> Result<String, AllocError>
         ensures names { self.new.names ≡ self.old.names }
         ensures room { OnOk result (0 < self.new.room) }
         ensures copied { IfOk result (λ copied. string_bytes copied ≡ name.now) }
     {
         let alloc = *self.names.allocator();
-        if self.names.reserve(1).is_err() {
-            return Err(Memory);
-        }
-        match String::from_str(alloc, name) {
-            Ok(copied) => Ok(copied),
-            Err(_) => Err(Memory),
-        }
+        self.names.reserve(1)?;
+        String::from_str(alloc, name)
     }
 
-    /// Records the name of a load that failed: the count of this name rises by one, and no other.
-    #[tactic(auto, using(crate::proofs::Shelves::failed_rose))]
-    pub fn note(&mut self, name: String)
+    /// Records the name where its load failed.
+    pub fn note(&mut self, name: String, loaded: &Result<Vec<u8>, LoadFault>)
         requires { 0 < self.old.room }
-        ensures names { self.new.names ≡ self.old.names ++ string_bytes name ∷ [] }
-        ensures rose { Rose (failed_loads self.old.names (string_bytes name)) (failed_loads self.new.names (string_bytes name)) }
-        ensures others { (other : List ℕ) → other ≢ string_bytes name → failed_loads self.new.names other ≡ failed_loads self.old.names other }
+        ensures { self.new.names ≡ (if has_failed loaded.now then self.old.names ++ string_bytes name ∷ [] else self.old.names) }
     {
-        self.push(name);
-    }
-
-    fn push(&mut self, name: String)
-        requires { 0 < self.old.room }
-        ensures { self.new.names ≡ self.old.names ++ string_bytes name ∷ [] }
-    {
-        self.names.push_reserved(name);
+        if matches!(loaded, Err(LoadFault::Failed)) {
+            self.names.push_reserved(name);
+        }
     }
 }

@@ -1,5 +1,5 @@
 //! The files of the system as a desk: the trusted edge.
-ghost use Rattle.std.specs.Prelude.{◌≡◌, ◌≢◌, ◌≤◌, ◌<◌, ℕ, List, None, false, [], ◌∷◌, ◌++◌, length, IfOk, IfSome, IsErr, if◌then◌else◌};
+ghost use Rattle.std.specs.Prelude.{◌≡◌, ◌≤◌, ◌<◌, None, [], ◌∷◌, ◌++◌, length, IfOk, IfSome, IsErr, if◌then◌else◌};
 ghost use Rattle.fsoe_io.specs.Desk.{failed_loads};
 ghost use Rattle.fsoe_io.specs.Calls.{has_failed};
 ghost use Rattle.fsoe_io.specs.Faults.{Rose};
@@ -22,9 +22,8 @@ fn read_within<S: Source>(alloc: Global, source: &mut S, limit: usize) -> Result
     let mut text = Vec::new(alloc);
     let mut buffer = [0; 4096];
     loop {
-        let count = match source.read(&mut buffer) {
-            Ok(count) => count,
-            Err(_) => return Err(LoadFault::Failed),
+        let Ok(count) = source.read(&mut buffer) else {
+            return Err(LoadFault::Failed);
         };
         if count == 0 {
             return Ok(text);
@@ -90,22 +89,14 @@ impl<R: Files + AllocGlobal> Desk for FileDesk<R> {
 
     fn load(&mut self, name: &str, limit: usize) -> Result<Vec<u8>, LoadFault>
         ensures within { IfOk result (λ text. length text.items ≤ limit) }
-        ensures later { failed_loads self.old.failed.names name.now ≤ failed_loads self.new.failed.names name.now }
-        ensures others { (other : List ℕ) → other ≢ name.now → failed_loads self.new.failed.names other ≡ failed_loads self.old.failed.names other }
-        ensures cause { result ≡ Err LoadFault.Failed → Rose (failed_loads self.old.failed.names name.now) (failed_loads self.new.failed.names name.now) }
-        ensures stayed { has_failed result ≡ false → failed_loads self.new.failed.names name.now ≡ failed_loads self.old.failed.names name.now }
         // A load that fails, and no other, is recorded.
         ensures noted { self.new.failed.names ≡ (if has_failed result then self.old.failed.names ++ name.now ∷ [] else self.old.failed.names) }
     {
         let Ok(copied) = self.failed.room_for(name) else {
             return Err(LoadFault::Memory);
         };
-        match read_file(&self.rt, name, limit) {
-            Err(LoadFault::Failed) => {
-                self.failed.note(copied);
-                Err(LoadFault::Failed)
-            }
-            answer => answer,
-        }
+        let loaded = read_file(&self.rt, name, limit);
+        self.failed.note(copied, &loaded);
+        loaded
     }
 }

@@ -1,9 +1,7 @@
 //! Desks in memory.
-ghost use Rattle.std.specs.Io.KnownBytes.{Keeps};
-ghost use Rattle.std.specs.Prelude.{◌≡◌, ◌≢◌, ◌≤◌, ◌<◌, ◌+◌, ◌⊎◌, false, Some, List, ℕ, [], ◌∷◌, ◌++◌, if◌then◌else◌, length, map, IsSome, IsNone, IfOk, IfSome, option_map};
+ghost use Rattle.std.specs.Prelude.{◌≡◌, ◌≢◌, ◌≤◌, ◌<◌, ◌+◌, ◌⊎◌, Some, [], ◌∷◌, ◌++◌, if◌then◌else◌, length, map, IsSome, IsNone, IfOk, IfSome, option_map};
 ghost use Rattle.fsoe_io.specs.Desk.{named, text_under, failed_loads};
 ghost use Rattle.fsoe_io.specs.Calls.{has_failed};
-ghost use Rattle.fsoe_io.specs.Faults.{Rose};
 ghost use Rattle.fsoe_io.specs.Planned.{is_next_listed, with_one_more};
 
 use crate::desk::{Desk, LoadFault};
@@ -91,10 +89,7 @@ impl MemDesk {
     /// Creates a desk of these texts under their names; if a name occurs twice, the first one is used. It fails at the
     /// calls that `fails` lists by their number from 1.
     pub fn new(files: Vec<(String, Vec<u8>)>, fails: Vec<u64>) -> MemDesk
-        ensures files { result.files ≡ map named files.items }
-        ensures fails { result.planned.fails ≡ fails.items }
-        ensures calls { result.planned.calls ≡ 0 }
-        ensures failed { result.failed ≡ [] }
+        ensures { result ≡ record { files = map named files.items; planned = record { fails = fails.items; calls = 0 }; failed = [] } }
     {
         let alloc = *files.allocator();
         MemDesk {
@@ -114,11 +109,6 @@ impl Desk for MemDesk {
         ensures bytes { IfOk result (λ text. IfSome (text_under self.old.files name.now) (λ held. text.items ≡ held)) }
         ensures within { IfOk result (λ text. length text.items ≤ limit) }
         ensures too_long { result ≡ Err LoadFault.TooLong → IfSome (text_under self.old.files name.now) (λ held. limit < length held) }
-        ensures told { (any : List ℕ) → Keeps (text_under self.old.files any) (text_under self.new.files any) }
-        ensures later { failed_loads self.old.failed name.now ≤ failed_loads self.new.failed name.now }
-        ensures others { (other : List ℕ) → other ≢ name.now → failed_loads self.new.failed other ≡ failed_loads self.old.failed other }
-        ensures cause { result ≡ Err LoadFault.Failed → Rose (failed_loads self.old.failed name.now) (failed_loads self.new.failed name.now) }
-        ensures stayed { has_failed result ≡ false → failed_loads self.new.failed name.now ≡ failed_loads self.old.failed name.now }
         // It fails exactly at the listed calls and where the name is absent, unless memory runs out.
         ensures fails { IsSome (text_under self.old.files name.now) → result ≢ Err LoadFault.Memory → has_failed result ≡ is_next_listed self.old.planned }
         ensures absent { IsNone (text_under self.old.files name.now) → (result ≡ Err LoadFault.Failed) ⊎ (result ≡ Err LoadFault.Memory) }
@@ -130,12 +120,11 @@ impl Desk for MemDesk {
         let Ok(copied) = self.failed.room_for(name) else {
             return Err(LoadFault::Memory);
         };
-        match find_text(&self.files, name) {
+        let loaded = match find_text(&self.files, name) {
             Some(text) if !fails => copy_of(text, limit),
-            _ => {
-                self.failed.note(copied);
-                Err(LoadFault::Failed)
-            }
-        }
+            _ => Err(LoadFault::Failed),
+        };
+        self.failed.note(copied, &loaded);
+        loaded
     }
 }

@@ -44,12 +44,7 @@ impl MemSink {
     /// `fails` lists by their number from 1. `Memory` where there is none for the room.
     pub fn new(alloc: Global, room: usize, most: usize, fails: Vec<u64>) -> Result<MemSink, Memory>
         requires { 0 < most }
-        ensures written { IfOk result (λ s. s.written ≡ []) }
-        ensures room { IfOk result (λ s. s.room ≡ room) }
-        ensures most { IfOk result (λ s. s.most ≡ most) }
-        ensures fails { IfOk result (λ s. s.planned.fails ≡ fails.items) }
-        ensures calls { IfOk result (λ s. s.planned.calls ≡ 0) }
-        ensures refusals { IfOk result (λ s. s.refusals ≡ 0) }
+        ensures { IfOk result (λ sink. sink ≡ record { written = []; room = room; most = most; planned = record { fails = fails.items; calls = 0 }; refusals = 0 }) }
     {
         match vec![in alloc; 0; room] {
             Ok(room) => Ok(MemSink {
@@ -129,8 +124,7 @@ impl Model for SureSink {
 impl SureSink {
     /// A sink with room for `room` bytes. `Memory` where there is none for the room.
     pub fn new(alloc: Global, room: usize) -> Result<SureSink, Memory>
-        ensures written { IfOk result (λ s. s.written ≡ Some []) }
-        ensures room { IfOk result (λ s. s.room ≡ room) }
+        ensures { IfOk result (λ sink. sink ≡ record { written = Some []; room = room }) }
     {
         match vec![in alloc; 0; room] {
             Ok(room) => Ok(SureSink {
@@ -160,9 +154,7 @@ impl Sink for SureSink {
     ghost faults = { λ _. 0 };
 
     fn write(&mut self, piece: &[u8]) -> Result<usize, Failed>
-        ensures bound { TakesSome result piece.now }
         ensures bytes { WriteGrows self.old.written self.new.written result piece.now }
-        ensures cause { HasCause 0 0 result }
         // It takes the whole piece, and what was written stays known if and only if the piece fits into the room.
         ensures count { result ≡ Ok (length piece.now) }
         ensures tells { IfSome self.old.written (λ written.

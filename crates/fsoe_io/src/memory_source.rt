@@ -43,7 +43,6 @@ impl Source for SureSource {
     fn read(&mut self, buffer: &mut [u8]) -> Result<usize, Failed>
         ensures bound { ReadsAtMost result buffer.new }
         ensures bytes { ReadConsumes (Some self.old) (Some self.new) result buffer.new }
-        ensures cause { HasCause 0 0 result }
         // It gives as much as there is room for.
         ensures count { result ≡ Ok (min (length buffer.old) (length self.old)) }
     {
@@ -78,10 +77,7 @@ impl MemSource {
     /// by their number from 1.
     pub fn new(bytes: Vec<u8>, most: usize, fails: Vec<u64>) -> MemSource
         requires { 0 < most }
-        ensures left { result.left ≡ bytes.items }
-        ensures most { result.most ≡ most }
-        ensures fails { result.planned.fails ≡ fails.items }
-        ensures calls { result.planned.calls ≡ 0 }
+        ensures { result ≡ record { left = bytes.items; most = most; planned = record { fails = fails.items; calls = 0 } } }
     {
         MemSource {
             whole: SureSource::new(bytes),

@@ -4,8 +4,7 @@ ghost use Rattle.fsoe_io.specs.Calls.{HasCause};
 ghost use Rattle.fsoe_io.specs.Output.{Puts};
 ghost use Rattle.fsoe_io.specs.Sink.{most_waiting};
 
-use crate::put::put_all;
-use crate::sink::Sink;
+use crate::sink::{Sink, put_all};
 use crate::source::Failed;
 use std::marker::Model;
 

@@ -22,8 +22,7 @@ impl Model for PlannedCalls {
 impl PlannedCalls {
     /// The calls that `fails` lists are to fail, and none was made.
     pub fn new(fails: Vec<u64>) -> PlannedCalls
-        ensures fails { result.fails ≡ fails.items }
-        ensures calls { result.calls ≡ 0 }
+        ensures { result ≡ record { fails = fails.items; calls = 0 } }
     {
         PlannedCalls { fails, calls: 0 }
     }

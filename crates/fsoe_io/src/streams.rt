@@ -2,7 +2,7 @@
 ghost use Rattle.std.specs.Prelude.{◌≡◌, List, None, ℕ};
 ghost use Rattle.std.specs.Io.{ReadsAtMost};
 ghost use Rattle.std.specs.Io.KnownBytes.{ReadConsumes, WriteAppends};
-ghost use Rattle.fsoe_io.specs.Calls.{HasCause, TakesSome, WriteGrows};
+ghost use Rattle.fsoe_io.specs.Calls.{HasCause, TakesSome};
 
 use crate::sink::Sink;
 use crate::source::{Failed, Source};
@@ -31,7 +31,6 @@ impl<R: Read> Source for StdSource<R> {
 
     fn read(&mut self, buffer: &mut [u8]) -> Result<usize, Failed>
         ensures bound { ReadsAtMost result buffer.new }
-        ensures bytes { ReadConsumes None None result buffer.new }
         ensures cause { HasCause self.old.faults self.new.faults result }
         // Of the bytes that the reader tells, none is lost.
         ensures inner { ReadConsumes (R.remaining self.old.inner) (R.remaining self.new.inner) result buffer.new }
@@ -70,7 +69,6 @@ impl<W: Write> Sink for StdSink<W> {
 
     fn write(&mut self, piece: &[u8]) -> Result<usize, Failed>
         ensures bound { TakesSome result piece.now }
-        ensures bytes { WriteGrows None None result piece.now }
         ensures cause { HasCause self.old.faults self.new.faults result }
         // Where the writer tells its bytes, it took as many as are told.
         ensures inner { WriteAppends (W.contents self.old.inner) (W.contents self.new.inner) result piece.now }

@@ -17,7 +17,12 @@ fn after_name(mut args: Vec<String>) -> Vec<String>
 /// The arguments after the program's name. An argument that isn't UTF-8 belongs to no command, so there are none then.
 pub fn words_of<R: Env + AllocGlobal>(rt: &R) -> io::Result<Vec<String>> {
     match env::args(rt) {
-        Ok(args) => Ok(after_name(args.collect(rt.alloc())?)),
+        Ok(args) => {
+            // `collect` would go on where there is no room for all of them.
+            let mut words = Vec::with_capacity(rt.alloc(), args.len())?;
+            words.extend(args)?;
+            Ok(after_name(words))
+        }
         Err(e) if e.kind() == io::ErrorKind::InvalidData => Ok(Vec::new(rt.alloc())),
         Err(e) => Err(e),
     }

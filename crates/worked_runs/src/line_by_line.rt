@@ -3,10 +3,11 @@
 ghost use Rattle.std.specs.Prelude.{None, if◌then◌else◌};
 
 use black_channel::{Channel, PerfectChannel};
-use duo_run::{run_convert, run_replay};
+use duo_run::run_replay;
 use fsoe_base::End;
 use fsoe_io::{Ended, Failed, Sink, Source, Status, SureDesk};
 use node_runner::run_node;
+use pair_convert::run_convert;
 use plant_file::{Wanted, run_file};
 use plant_run::Journal;
 use process_image::run_image;

@@ -22,6 +22,17 @@ fn joined(alloc: Global, parts: &[&str]) -> Result<Vec<u8>, AllocError> {
     Ok(text)
 }
 
+/// A source that gives `most` bytes of an input in a call, and fails at the read of this number, of 0 at none.
+fn source_of(alloc: Global, input: &[u8], most: usize, fails: u64) -> Option<MemSource> {
+    let fails = vec![in alloc; fails].ok()?;
+    Some(MemSource::new(input.to_vec(alloc).ok()?, most.max(1), fails))
+}
+
+/// A sink that takes `most` bytes in a call, and fails at the write of this number, of 0 at none.
+fn sink_of(alloc: Global, most: usize, fails: u64) -> Option<MemSink> {
+    MemSink::new(alloc, 100_000, most.max(1), vec![in alloc; fails].ok()?).ok()
+}
+
 /// Replays an input, of which `most` bytes come and go in a call; the read and the write of these numbers fail, of 0
 /// none. None where there is no memory for it.
 fn run_over(
@@ -31,22 +42,23 @@ fn run_over(
     read_fails: u64,
     write_fails: u64,
 ) -> Option<(Ended, MemSink)> {
-    let most = most.max(1);
-    let bytes = input.to_vec(alloc).ok()?;
-    let mut source = MemSource::new(bytes, most, vec![in alloc; read_fails].ok()?);
-    let mut sink = MemSink::new(alloc, 100_000, most, vec![in alloc; write_fails].ok()?).ok()?;
+    let mut source = source_of(alloc, input, most, read_fails)?;
+    let mut sink = sink_of(alloc, most, write_fails)?;
     let ended = run_replay(alloc, &mut source, &mut sink);
     Some((ended, sink))
 }
 
-#[test]
-fn a_write_that_fails_ends_a_replay(rt: HostRuntime) -> Result<(), Fail> {
-    let input = joined(rt.alloc(), &[HEADER, UNTIL_DATA, "end\n"])?;
-    let (ended, sink) = run_over(rt.alloc(), &input, 8, 0, 3).ok_or("not run")?;
+/// Whether a replay with 8 bytes in a call ends as it must at its third write, which fails.
+fn ends_with_write(alloc: Global) -> Option<bool> {
+    let input = joined(alloc, &[HEADER, UNTIL_DATA, "end\n"]).ok()?;
+    let (ended, sink) = run_over(alloc, &input, 8, 0, 3)?;
     let (status, place) = (Status::Write, 16);
-    assert_eq!(rt; ended, Ended { status, place });
-    assert_eq!(rt; sink.bytes(), b"1 m quiet Reset ".as_slice());
-    Ok(())
+    Some(ended == Ended { status, place } && sink.bytes() == b"1 m quiet Reset ".as_slice())
+}
+
+#[test]
+fn a_write_that_fails_ends_a_replay(rt: HostRuntime) {
+    assert!(rt; ends_with_write(rt.alloc()) == Some(true));
 }
 
 /// What is written after the first `lines` lines of an input with one tick or none.
@@ -88,9 +100,8 @@ fn each_read_that_fails_ends_a_replay_after_the_whole_lines(rt: HostRuntime) -> 
     Ok(())
 }
 
-/// The first `count` events of a seed, each a line.
-pub(crate) fn events_of(alloc: Global, number: u64, count: u16) -> Result<Vec<u8>, AllocError> {
-    let mut text = Vec::new(alloc);
+/// Appends the first `count` events of a seed, each a line.
+fn push_events(text: &mut Vec<u8>, number: u64, count: u16) -> Result<(), AllocError> {
     let mut maker = Maker::new(number);
     let mut line = LineBuf::new();
     for _ in 0..count {
@@ -98,28 +109,38 @@ pub(crate) fn events_of(alloc: Global, number: u64, count: u16) -> Result<Vec<u8
         text.extend_from_slice(line.bytes())?;
         text.push(b'\n')?;
     }
-    Ok(text)
+    Ok(())
 }
 
-/// How the run of the first 500 events of a seed ends, and what it writes.
-fn run_number(alloc: Global, number: u64) -> Option<(Ended, MemSink)> {
-    let mut sink = MemSink::new(alloc, 1000, 1000, Vec::new(alloc)).ok()?;
-    let ended = run_bulk(number, 500, &mut sink);
-    Some((ended, sink))
+/// A pair file with the first 500 events of seed 3.
+fn input_of_3(alloc: Global) -> Result<Vec<u8>, AllocError> {
+    let header = "fsoe 1 pair\nlengths 2 2\nmaster 1 2 100 1\nslave 2 100 1000 2\nrule any 0\ngo\n";
+    let mut input = joined(alloc, &[header])?;
+    push_events(&mut input, 3, 500)?;
+    input.extend_from_slice(b"end\n")?;
+    Ok(input)
+}
+
+/// How these events end.
+const OTHER_154: Ended = Ended {
+    status: Status::Other,
+    place: 154,
+};
+
+fn replay_of_3_ends(alloc: Global) -> Option<bool> {
+    let input = input_of_3(alloc).ok()?;
+    let (ended, sink) = run_over(alloc, &input, 1000, 0, 0)?;
+    Some(ended == OTHER_154 && sink.bytes().ends_with(b"\nevents 500\nother 154\n"))
+}
+
+fn bulk_of_3_ends(alloc: Global) -> Option<bool> {
+    let mut sink = sink_of(alloc, 1000, 0)?;
+    let ended = run_bulk(3, 500, &mut sink);
+    Some(ended == OTHER_154 && sink.bytes().ends_with(b"\nother 154\n"))
 }
 
 #[test]
-fn a_replay_of_the_events_of_a_number_ends_alike(rt: HostRuntime) -> Result<(), Fail> {
-    let header = "fsoe 1 pair\nlengths 2 2\nmaster 1 2 100 1\nslave 2 100 1000 2\nrule any 0\ngo\n";
-    let mut input = joined(rt.alloc(), &[header])?;
-    input.extend_from_slice(&events_of(rt.alloc(), 3, 500)?)?;
-    input.extend_from_slice(b"end\n")?;
-    let (ended, sink) = run_over(rt.alloc(), &input, 1000, 0, 0).ok_or("not run")?;
-    let (status, place) = (Status::Other, 154);
-    assert_eq!(rt; ended, Ended { status, place });
-    assert!(rt; sink.bytes().ends_with(b"\nevents 500\nother 154\n"));
-    let (ended, sink) = run_number(rt.alloc(), 3).ok_or("no memory")?;
-    assert_eq!(rt; ended, Ended { status, place });
-    assert!(rt; sink.bytes().ends_with(b"\nother 154\n"));
-    Ok(())
+fn a_replay_of_the_events_of_a_number_ends_alike(rt: HostRuntime) {
+    assert!(rt; replay_of_3_ends(rt.alloc()) == Some(true));
+    assert!(rt; bulk_of_3_ends(rt.alloc()) == Some(true));
 }

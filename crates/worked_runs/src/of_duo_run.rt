@@ -87,11 +87,15 @@ fn judged(alloc: Global, entries: &[Entry]) -> Option<Option<u64>> {
     Some(monitor.other())
 }
 
+/// Whether 5,000 events of seed 5 make as many entries, of which both monitors find the same first `other` entry.
+fn find_of_5(alloc: Global) -> Result<bool, Fail> {
+    let mut pair = pair(alloc, 100)?;
+    pair.number(5, 5000)?;
+    Ok(pair.entries.len() == 5000 && judged(alloc, &pair.entries) == Some(Some(1668)))
+}
+
 #[test]
 fn both_monitors_find_the_first_other_entry(rt: HostRuntime) -> Result<(), Fail> {
-    let mut pair = pair(rt.alloc(), 100)?;
-    pair.number(5, 5000)?;
-    assert_eq!(rt; pair.entries.len(), 5000);
-    assert_eq!(rt; judged(rt.alloc(), &pair.entries), Some(Some(1668)));
+    assert!(rt; find_of_5(rt.alloc())?);
     Ok(())
 }

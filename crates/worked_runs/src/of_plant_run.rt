@@ -103,13 +103,18 @@ fn forger(alloc: Global) -> Option<ListChannel> {
     ListChannel::new(alloc, gifts, 0).ok()
 }
 
+fn run_forged(alloc: Global, lines: &str) -> Option<(Ended, MemSink)> {
+    let mut channel = forger(alloc)?;
+    let mut sink = MemSink::new(alloc, 2_000, 2_000, Vec::new(alloc)).ok()?;
+    let (ended, _) = run(alloc, &mut channel, lines, &mut sink)?;
+    Some((ended, sink))
+}
+
 /// Whether a run over forged frames tells that the connection of the drive has an `other` entry, and ends with this
 /// text. The stop is let go for a moment between so many ticks and so many more.
 fn ends_forged(alloc: Global, before: usize, after: usize, last: &str) -> Option<bool> {
     let lines = script(alloc, before, after).ok()?;
-    let mut channel = forger(alloc)?;
-    let mut sink = MemSink::new(alloc, 2_000, 2_000, Vec::new(alloc)).ok()?;
-    let (ended, _) = run(alloc, &mut channel, &lines, &mut sink)?;
+    let (ended, sink) = run_forged(alloc, &lines)?;
     let (status, place) = (Status::Other, 1);
     Some(ended == Ended { status, place } && sink.bytes().ends_with(last.as_bytes()))
 }

@@ -1,6 +1,6 @@
 use Rattle.std.proofs.Common.{◌≡◌, length, ◌-◌, ◌≤◌, take}
 use Rattle.fsoe_io.specs.Sink.{Grew}
-use Rattle.fsoe_io.proofs.put.put_all.Given as goal
+use Rattle.fsoe_io.proofs.sink.put_all.Given as goal
 
 abbrev pub invariant-loop-done : goal.invariant-loop-done
 invariant-loop-done g l =
