@@ -25,7 +25,7 @@ pub use Rattle.param_load.specs.declared.entry.Entry.{Entry}
 pub use Rattle.param_load.specs.declared.entry.Move.{Move}
 pub use Rattle.plant_conf.specs.declared.conf.BoundSpec.{BoundSpec}
 pub use Rattle.plant_conf.specs.declared.conf.LinkConf.{LinkConf}
-pub use Rattle.plant_core.specs.Doing.{Acted, Change, Delivers, Done, DoesLine, EachActs, GoesOn, IsReady, MasterTicked, MayMove, OffersNoted, Pulls, SlaveActs, SlaveTicks, sees, slave_move}
+pub use Rattle.plant_core.specs.Doing.{Acted, Change, Delivers, Done, DoesLine, EachActs, GoesOn, IsReady, MasterTicked, OffersNoted, Pulls, SlaveActs, SlaveTicks, sees, slave_move}
 pub use Rattle.plant_core.specs.Link.{AgesNote, Fixed, IsNoted, LinkStands, LinkView, NotesOne, fixed_of, new_ages, new_link}
 pub use Rattle.plant_core.specs.Making.{AreMade, is_named, links_made}
 pub use Rattle.plant_core.specs.Standing.{AllNoted, AreNoted, EachLink, HasDone, HasLink, IsPlant, LinkIs, LinksAre, PlantStands, PlantValue, PlantView, ShowsOn, ShowsPair, ShowsWorst, Starts, TellsOther, TellsStill, fixed_in, kept_at, lengths_kept}

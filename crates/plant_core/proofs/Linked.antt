@@ -1,5 +1,5 @@
 -- The slave of a connection and what notes its pair, after a deed of either end.
-use Rattle.plant_core.proofs.Common.{Acted, AgesNote, AgesView, Deed, Did, End, Entry, Fixed, HasAgeParts, IfSome, IsNoted, Lengths, LinkConf, LinkStands, LinkView, MayMove, Move, NotesOne, OfSlave, SlaveActs, SlaveIsAfter, SlaveView, ChannelTold, Trace, deed_in, deeds, delivered, is_some, new_ages, new_link, next_of, place_of, same_end, sent_uses, told_terms, watchdog_in}
+use Rattle.plant_core.proofs.Common.{Acted, AgesNote, AgesView, Deed, Did, End, Entry, Fixed, HasAgeParts, IfSome, IsNoted, Lengths, LinkConf, LinkStands, LinkView, Move, NotesOne, OfSlave, SlaveActs, SlaveIsAfter, SlaveView, ChannelTold, Trace, deed_in, deeds, delivered, is_some, new_ages, new_link, next_of, place_of, same_end, sent_uses, told_terms, watchdog_in}
 use Rattle.fsoe_base.specs.declared.did.Took.{Took}
 use Rattle.end_model.specs.Step.{step}
 use Rattle.std.proofs.Common.{◌≡◌, ℕ, ◌+◌, List, [], ◌∷◌, Bool, false, ap, ap₂, refl, sym, subst, Option, if◌then◌else◌, ◌∙◌, arith}
@@ -38,10 +38,6 @@ notes_one old new noted settings aged cut = record {
   fixed = ap₂ fixed_by (ap (λ (s : SlaveSettings). s.lengths) settings) aged;
   cut = cut;
 }
-
--- an event of the script is no tick, and nothing comes
-pub no_tick : (ss : SlaveSettings) (what : Move) → MayMove ss what → (is_tick what ≡ false) × (delivered what ≡ [])
-no_tick ss what h = grind arith
 
 pub slave_acts : (k : ℕ) (what : Move) (tick : Bool) (came : List ℕ) (old mid new : LinkView) (did : Did) (sent : List ℕ) (terms : Option Terms) (watchdog : Option ℕ) (before after : ChannelTold) → slave_core.Follows old.slave what mid.slave → slave_core.Answers old.slave what did sent
     → slave_core.Shows mid.slave terms told_terms → watchdog ≡ watchdog_in terms → IsNoted side.Slave tick came did sent watchdog mid new → Trace (sent_uses (place_of k side.Master) sent mid.cut) before after

@@ -1,8 +1,9 @@
 -- Acts in which one end of one connection does something, and no cycle is run.
-use Rattle.plant_core.proofs.Common.{Act, Acted, Beginning, Call, Delivers, Done, End, Entry, Event, Fits, GoesOn, Happen, HasDone, IfSome, IsNoted, IsOne, IsSome, IsSomeAnd, JournalStep, LinkConf, LinkIs, LinkStands, LinkView, LinksAre, MayMove, Move, MultiView, Nonce, Parcel, Placed, PlantEvent, PlantView, PullFrom, SlaveActs, StandsFor, ChannelTold, Trace, Use, all_pushes, append-nil, call_of, calls, delivery_call, each_none, each_one, eq-eqb, fixed_in, fixed_of, frames_of, is_cut, journal, Lengths, lengths_at, lengths_kept, link_at, next_of, no_entry, not_same, nothing, offers, offers_by, option_to_list, pair, pair_one, pair_other, pair_own, pairs_by, peer, place_of, pushes_each, pushes_of, sent_in, sent_uses, settings, slave_move, steps_of, uses_of, with_frame}
+use Rattle.plant_core.proofs.Common.{Act, Acted, Beginning, Call, Delivers, Done, End, Entry, Event, Fits, GoesOn, Happen, HasDone, IfSome, IsNoted, IsOne, IsSome, IsSomeAnd, JournalStep, LinkConf, LinkIs, LinkStands, LinkView, LinksAre, Move, MultiView, Nonce, OfSlave, Parcel, Placed, PlantEvent, PlantView, PullFrom, SlaveActs, StandsFor, ChannelTold, Trace, Use, all_pushes, append-nil, call_of, calls, delivery_call, each_none, each_one, eq-eqb, fixed_in, fixed_of, frames_of, is_cut, journal, Lengths, lengths_at, lengths_kept, link_at, next_of, no_entry, not_same, nothing, offers, offers_by, option_to_list, pair, pair_one, pair_other, pair_own, pairs_by, peer, place_of, pushes_each, pushes_of, sent_in, sent_uses, settings, slave_move, steps_of, uses_of, with_frame}
 use Rattle.std.proofs.Common.{◌≡◌, ◌≢◌, ◌≤◌, ◌<◌, ◌+◌, ◌-◌, length, ℕ, suc, ◌==◌, Bool, false, List, [], ◌∷◌, ◌++◌, slice_get, slice_index_or, slice_set, Option, Some, None, if◌then◌else◌, refl, sym, ap, ap₂, subst, ◌∙◌, arith}
 use Rattle.fsoe_base.specs.declared.command.End.TheVariants as side
 use Rattle.param_load.specs.declared.entry.Move.TheVariants as move
+use Rattle.end_model.specs.Runs.{IsProper}
 use Rattle.multi_master.specs.Standing as multi
 use Rattle.plant_model.specs.Pair.{is_tick_event}
 use Rattle.plant_model.specs.declared.event.PlantEvent.TheVariants as event
@@ -152,7 +153,7 @@ slave_goes old new act s n what first before after at c uses = record {
 pub record SlaveMoves (vs : List LinkView) (e : PlantEvent) (n : ℕ) (what : Move) : Type 0 where
   pub act : (b : Beginning) → IsAtSlave b (Happen (Event e)) (step.Script e) n what
   pub kept : IsSome (lengths_at (lengths_kept vs) n)
-  pub proper : (place : ℕ) (v : LinkView) → Placed vs n place v → MayMove v.slave.kit.settings what
+  pub proper : (place : ℕ) (v : LinkView) → Placed vs n place v → IsProper (OfSlave v.slave.kit.settings) what
   pub other : is_tick_event e ≡ false
 
 is_some_of : (o : Option Lengths) (P : Lengths → Type 0) → IsSomeAnd o P → IsSome o

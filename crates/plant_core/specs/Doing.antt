@@ -1,6 +1,6 @@
 -- What each part of a plant does of an act; `plant_model/Past` and `Acts` have their order. Contracts of private
 -- functions alone rest on these words. Entries and acts are listed newest first, steps oldest first.
-use Rattle.std.specs.Prelude.{◌≡◌, ◌+◌, ◌*◌, ℕ, suc, Bool, true, IsTrue, List, [], ◌∷◌, ◌++◌, length, map, slice_get, Option, Some, None, Vec, vec_len}
+use Rattle.std.specs.Prelude.{◌≡◌, ◌+◌, ◌*◌, ℕ, suc, Bool, true, List, [], ◌∷◌, ◌++◌, map, slice_get, Option, Some, None, Vec, vec_len}
 use Rattle.fsoe_base.specs.declared.command.End.{End}
 use Rattle.fsoe_base.specs.declared.command.End.TheVariants as side
 use Rattle.fsoe_base.specs.declared.did.Did.{Did}
@@ -13,9 +13,7 @@ use Rattle.plant_conf.specs.declared.conf.LinkConf.{LinkConf}
 use Rattle.multi_master.specs.Calls.{AppView, Rule, Call}
 use Rattle.multi_master.specs.Standing.{MultiView, StandsFor, changed}
 use Rattle.multi_master.specs.Standing as multi
-use Rattle.param_load.specs.Profile.{allows_id}
 use Rattle.param_load.specs.declared.master_settings.MasterSettings.{MasterSettings}
-use Rattle.param_load.specs.declared.slave_settings.SlaveSettings.{SlaveSettings}
 use Rattle.plant_model.specs.declared.event.PlantEvent.{PlantEvent}
 use Rattle.plant_model.specs.declared.event.PlantEvent.TheVariants as plant_event
 use Rattle.plant_model.specs.declared.journal.JournalStep.{JournalStep}
@@ -85,14 +83,6 @@ slave_move (plant_event.Hold link failsafe) = Some (link, move.Hold failsafe)
 slave_move (plant_event.Local link) = Some (link, move.Local)
 slave_move (plant_event.Nonce link side.Slave id) = Some (link, move.Nonce id)
 slave_move _ = None
-
--- an event of the script may happen so to a slave with these settings: it is no tick, and nothing comes
-abbrev pub MayMove : SlaveSettings → Move → Type 0
-MayMove ss (move.Put load) = length load ≡ ss.lengths.slave
-MayMove ss (move.Nonce id) = IsTrue (allows_id ss.profile id)
-MayMove ss (move.Hold failsafe) = Unit {0}
-MayMove ss move.Local = Unit {0}
-MayMove ss _ = ⊥
 
 -- the most steps that an event may note, where there are so many connections: at a tick its own and those of the offers
 -- of its cycle, and as many again for each of 64 parcels

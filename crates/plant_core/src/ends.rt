@@ -1,6 +1,8 @@
 //! Both ends of all connections of a plant.
-ghost use Rattle.std.specs.Prelude.{◌≡◌, ◌≤◌, ◌<◌, ◌+◌, ◌*◌, [], ◌∷◌, ◌++◌, Some, None, length, vec_len, vec_capacity};
+ghost use Rattle.std.specs.Prelude.{◌≡◌, ◌≤◌, ◌<◌, ◌+◌, ◌*◌, [], ◌∷◌, ◌++◌, Some, None, length, MatchOption, vec_len, vec_capacity};
+ghost use Rattle.plant_model.specs.declared.event.PlantEvent.TheVariants as plant_event;
 ghost use Rattle.plant_model.specs.declared.journal.JournalStep.TheVariants as step;
+ghost use Rattle.param_load.specs.MoveRef.{owned_move};
 ghost use Rattle.plant_core.specs.Doing.{room_for, slave_move};
 
 use crate::link::{Link, watchdog_in};
@@ -10,7 +12,7 @@ use black_channel::{Channel, Parcel, Place};
 use failsafe_io::Application;
 use fsoe_base::{Did, End, FrameBuf};
 use multi_master::MultiMaster;
-use param_load::Move;
+use param_load::{Answer, MoveRef};
 use plant_model::{JournalStep, PlantEvent};
 
 /// The most parcels that are pulled in a tick.
@@ -23,11 +25,9 @@ pub(crate) struct Ends<A> {
     pub(crate) links: Vec<Link>,
     pub(crate) dids: Vec<Did>,
     pub(crate) outs: Vec<FrameBuf>,
-    /// Where an end writes what it did at the last frame that was pulled, or at the last event at a slave. Its place
-    /// for data stays, since ticks have places of their own.
-    pub(crate) heard: Did,
-    /// Where an end writes what it sent then.
-    pub(crate) sent: FrameBuf,
+    /// What an end did at the last frame that was pulled, or at the last event at a slave. Its place for data stays,
+    /// since ticks have places of their own.
+    pub(crate) answer: Answer,
 }
 
 /// Notes in the journal that this parcel was pulled.
@@ -79,18 +79,18 @@ fn note_event(event: &PlantEvent, steps: &mut Vec<JournalStep>)
 }
 
 /// What an event of the script has happen to the slave of a connection, with the number of this, if it does.
-fn slave_move(event: &PlantEvent) -> Option<(u16, Move)>
-    ensures { result ≡ slave_move event.now }
+fn slave_move(event: &PlantEvent) -> Option<(u16, MoveRef<'_>)>
+    ensures { MatchOption result (slave_move event.now ≡ None) (λ to. slave_move event.now ≡ Some (to.0, owned_move to.1)) }
 {
     match event {
-        PlantEvent::Put { link, load } => Some((*link, Move::Put(load.copy()))),
-        PlantEvent::Hold { link, failsafe } => Some((*link, Move::Hold(*failsafe))),
-        PlantEvent::Local { link } => Some((*link, Move::Local)),
+        PlantEvent::Put { link, load } => Some((*link, MoveRef::Put(load.bytes()))),
+        PlantEvent::Hold { link, failsafe } => Some((*link, MoveRef::Hold(*failsafe))),
+        PlantEvent::Local { link } => Some((*link, MoveRef::Local)),
         PlantEvent::Nonce {
             link,
             end: End::Slave,
             id,
-        } => Some((*link, Move::Nonce(u32::from(*id)))),
+        } => Some((*link, MoveRef::Nonce(u32::from(*id)))),
         _ => None,
     }
 }
@@ -128,8 +128,8 @@ impl<A: Application> Ends<A> {
         }
         match to.end {
             End::Master => {
-                self.master
-                    .deliver_into(link, frame.bytes(), &mut self.heard, &mut self.sent);
+                let Answer { did, sent } = &mut self.answer;
+                self.master.deliver_into(link, frame.bytes(), did, sent);
                 note_offers(&self.master, &mut self.links, steps);
                 note_pulled(to, frame, steps);
                 let watchdog = watchdog_in(self.master.terms(link));
@@ -138,21 +138,16 @@ impl<A: Application> Ends<A> {
                     link,
                     false,
                     frame.bytes(),
-                    &self.heard,
-                    &self.sent,
+                    &self.answer.did,
+                    &self.answer.sent,
                     watchdog,
                     channel,
                 );
             }
             End::Slave => {
                 note_pulled(to, frame, steps);
-                self.links[usize::from(link) - 1].deliver(
-                    link,
-                    frame.bytes(),
-                    channel,
-                    &mut self.heard,
-                    &mut self.sent,
-                );
+                let event = MoveRef::Deliver(frame.bytes());
+                self.links[usize::from(link) - 1].act(link, event, channel, &mut self.answer);
             }
         }
     }
@@ -174,8 +169,25 @@ impl<A: Application> Ends<A> {
         }
     }
 
-    /// Does an event of the script. At a tick come the slaves, the masters with a cycle of the application, the offers
-    /// that it changed, and then what the channel gives.
+    /// Does a tick: first the slaves, then the masters with a cycle of the application, the offers that it changed, and
+    /// then what the channel gives.
+    fn tick<C: Channel>(&mut self, steps: &mut Vec<JournalStep>, channel: &mut C)
+        requires ready { IsReady self.old steps.old }
+        requires room { vec_len steps.old + room_for plant_event.Tick (vec_len self.old.links) ≤ vec_capacity steps.old }
+        ensures line { let seen = sees A.rule A.holds A.guards in DoesLine (seen self.old steps.old) (Event plant_event.Tick) (seen self.new steps.new) (C.told channel.old) (C.told channel.new) }
+        ensures name_stays { C.name channel.new ≡ C.name channel.old }
+        ensures ready { IsReady self.new steps.new }
+    {
+        note_event(&PlantEvent::Tick, steps);
+        tick_slaves(&mut self.links, channel);
+        self.master
+            .tick(self.outs.as_mut_slice(), self.dids.as_mut_slice());
+        masters_ticked(&mut self.links, &self.dids, &self.outs, channel);
+        note_offers(&self.master, &mut self.links, steps);
+        self.pull_all(steps, channel);
+    }
+
+    /// Does an event of the script.
     pub(crate) fn happen<C: Channel>(
         &mut self,
         event: &PlantEvent,
@@ -189,26 +201,15 @@ impl<A: Application> Ends<A> {
         ensures name_stays { C.name channel.new ≡ C.name channel.old }
         ensures ready { IsReady self.new steps.new }
     {
+        if let PlantEvent::Tick = event {
+            return self.tick(steps, channel);
+        }
         note_event(event, steps);
         if let Some((link, what)) = slave_move(event) {
-            self.links[usize::from(link) - 1].happen(
-                link,
-                &what,
-                channel,
-                &mut self.heard,
-                &mut self.sent,
-            );
+            self.links[usize::from(link) - 1].act(link, what, channel, &mut self.answer);
             return;
         }
         match event {
-            PlantEvent::Tick => {
-                tick_slaves(&mut self.links, channel);
-                self.master
-                    .tick(self.outs.as_mut_slice(), self.dids.as_mut_slice());
-                masters_ticked(&mut self.links, &self.dids, &self.outs, channel);
-                note_offers(&self.master, &mut self.links, steps);
-                self.pull_all(steps, channel);
-            }
             PlantEvent::Nonce {
                 link,
                 end: End::Master,

@@ -2,27 +2,30 @@
 ghost use Rattle.std.specs.Prelude.{◌≡◌, ◌+◌, ◌<◌, ◌≤◌, ◌^◌, ◌&&◌, not, List, [], None, IfSome, IsSome, false, is_some, length, option_copied};
 ghost use Rattle.fsoe_base.specs.Did.{nothing};
 ghost use Rattle.fsoe_base.specs.Image.{bit_of};
-ghost use Rattle.param_load.specs.declared.entry.Move.TheVariants as event;
+ghost use Rattle.param_load.specs.MoveRef.{owned_move};
+ghost use Rattle.end_model.specs.Deed.{delivered};
 ghost use Rattle.end_model.specs.Readiness as model;
 ghost use Rattle.end_model.specs.Outputs as looking_back;
 ghost use Rattle.param_load.specs.declared.entry.Entry.{Entry};
+ghost use Rattle.end_model.specs.Runs.{IsProper};
+ghost use Rattle.end_model.specs.Setup.{OfSlave};
 ghost use Rattle.exchange_model.specs.Ends.{peer};
+ghost use Rattle.exchange_model.specs.Honest.{is_tick};
 ghost use Rattle.exchange_model.specs.Monitor.{view_of};
 ghost use Rattle.exchange_model.specs.Other.{first_other};
 ghost use Rattle.fsoe_base.specs.declared.command.End.TheVariants as side;
 ghost use Rattle.fsoe_base.specs.declared.lengths.TheConstants.{MOST_DATA};
-ghost use Rattle.plant_core.specs.Doing.{MayMove};
 ghost use Rattle.plant_model.specs.Gifts.{place_of, sent_uses};
 ghost use Rattle.plant_model.specs.Uses.{Trace};
 ghost use Rattle.reaction_bound.specs.Age.{told_age, worst_of};
 ghost use Rattle.reaction_bound.specs.Ages as ages;
 ghost use Rattle.reaction_bound.specs.Ages.{watchdog_in};
-ghost use Rattle.slave_core.specs.Standing.{Answers, Follows, Shows};
+ghost use Rattle.slave_core.specs.Standing.{Shows};
 
 use crate::watch::Watch;
 use black_channel::{Channel, Place};
 use fsoe_base::{Did, End, FrameBuf, State};
-use param_load::{Move, Terms};
+use param_load::{Answer, MoveRef, Terms};
 use plant_conf::LinkConf;
 use slave_core::Slave;
 use std::marker::Model;
@@ -54,23 +57,15 @@ pub(crate) fn watchdog_in(terms: Option<&Terms>) -> Option<u16>
     }
 }
 
-/// Lets this event of the script happen at a slave, and writes what it did and the frame that it sent.
-#[tactic(auto, using(slave_core::proofs::Law::set_answers))]
-fn act(slave: &mut Slave, what: &Move, did: &mut Did, out: &mut FrameBuf)
-    requires { MayMove slave.old.kit.settings what.now }
-    ensures follows { Follows slave.old what.now slave.new }
-    ensures answers { Answers slave.old what.now did.new out.new }
-    ensures settings { slave.new.kit.settings ≡ slave.old.kit.settings }
+/// Whether an event is a tick, and the bytes that come at it.
+fn parts_of(event: MoveRef<'_>) -> (bool, &[u8])
+    ensures tick { result.0 ≡ is_tick (owned_move event.entry) }
+    ensures came { result.1.now ≡ delivered (owned_move event.entry) }
 {
-    // A setting does nothing else, and sends nothing.
-    did.clear();
-    out.clear();
-    match what {
-        Move::Put(load) => slave.put(load.bytes()),
-        Move::Hold(failsafe) => slave.hold(*failsafe),
-        Move::Nonce(id) => slave.nonce(*id),
-        Move::Local => *did = slave.reset(out),
-        Move::Deliver(_) | Move::Tick => {}
+    match event {
+        MoveRef::Tick => (true, &[]),
+        MoveRef::Deliver(frame) => (false, frame),
+        _ => (false, &[]),
     }
 }
 
@@ -100,59 +95,25 @@ impl Link {
         }
     }
 
-    /// Lets this event of the script happen at the slave of this connection, and notes it. Writes what it did and the
-    /// frame that it sent, which is pushed.
-    pub(crate) fn happen<C: Channel>(
+    /// Lets this event happen at the slave of this connection, and notes it. Writes what it did and the frame that it
+    /// sent, which is pushed.
+    pub(crate) fn act<C: Channel>(
         &mut self,
         link: u16,
-        what: &Move,
+        event: MoveRef<'_>,
         channel: &mut C,
-        did: &mut Did,
-        out: &mut FrameBuf,
+        answer: &mut Answer,
     )
         requires few { self.old.monitor.noted + 1 < 2 ^ 64 }
-        requires proper { MayMove self.old.slave.kit.settings what.now }
-        ensures acts { SlaveActs link what.now self.old self.new (C.told channel.old) (C.told channel.new) }
+        requires proper { IsProper (OfSlave self.old.slave.kit.settings) (owned_move event) }
+        ensures acts { SlaveActs link (owned_move event.entry) self.old self.new (C.told channel.old) (C.told channel.new) }
         ensures name_stays { C.name channel.new ≡ C.name channel.old }
     {
-        act(&mut self.slave, what, did, out);
+        self.slave.act(event, answer);
         let watchdog = watchdog_in(self.slave.terms());
-        self.acted(End::Slave, link, false, &[], did, out, watchdog, channel);
-    }
-
-    /// Does the same with this frame that comes, and copies nothing.
-    pub(crate) fn deliver<C: Channel>(
-        &mut self,
-        link: u16,
-        frame: &[u8],
-        channel: &mut C,
-        did: &mut Did,
-        out: &mut FrameBuf,
-    )
-        requires few { self.old.monitor.noted + 1 < 2 ^ 64 }
-        ensures acts { SlaveActs link (event.Deliver frame.now) self.old self.new (C.told channel.old) (C.told channel.new) }
-        ensures name_stays { C.name channel.new ≡ C.name channel.old }
-    {
-        self.slave.deliver_into(frame, did, out);
-        let watchdog = watchdog_in(self.slave.terms());
-        self.acted(End::Slave, link, false, frame, did, out, watchdog, channel);
-    }
-
-    /// Does the same at a tick.
-    pub(crate) fn tick<C: Channel>(
-        &mut self,
-        link: u16,
-        channel: &mut C,
-        did: &mut Did,
-        out: &mut FrameBuf,
-    )
-        requires few { self.old.monitor.noted + 1 < 2 ^ 64 }
-        ensures acts { SlaveActs link event.Tick self.old self.new (C.told channel.old) (C.told channel.new) }
-        ensures name_stays { C.name channel.new ≡ C.name channel.old }
-    {
-        self.slave.tick_into(did, out);
-        let watchdog = watchdog_in(self.slave.terms());
-        self.acted(End::Slave, link, true, &[], did, out, watchdog, channel);
+        let (tick, came) = parts_of(event);
+        let Answer { did, sent } = answer;
+        self.acted(End::Slave, link, tick, came, did, sent, watchdog, channel);
     }
 
     /// Notes what an end of this connection did, by whether it was a tick, the bytes that came, and the watchdog in its

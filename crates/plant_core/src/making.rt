@@ -37,16 +37,15 @@ fn parts_made(
 {
     let mut settings = Vec::with_capacity(alloc, confs.len())?;
     let mut links = Vec::with_capacity(alloc, confs.len())?;
-    let mut dids = Vec::with_capacity(alloc, confs.len())?;
-    let mut outs = Vec::with_capacity(alloc, confs.len())?;
+    let mut dids = Vec::new(alloc);
+    dids.resize_with(confs.len(), Did::nothing)?;
+    let mut outs = Vec::new(alloc);
+    outs.resize_with(confs.len(), FrameBuf::new)?;
     for i in 0..confs.len() {
         let conf = &confs[i];
         let aged = is_named(bounds, i as u16 + 1);
-        let link = Link::new(conf, aged);
-        settings.push(conf.master.copy())?;
-        links.push(link)?;
-        dids.push(Did::nothing())?;
-        outs.push(FrameBuf::new())?;
+        settings.push_reserved(conf.master.copy());
+        links.push_reserved(Link::new(conf, aged));
     }
     Ok((settings, links, dids, outs))
 }

@@ -19,8 +19,9 @@ use black_channel::Channel;
 use failsafe_io::{Application, Bit};
 use fb_net::{EntryOf, KindOf};
 use file_run::Stopped;
-use fsoe_base::{Did, End, FrameBuf, Memory, State};
+use fsoe_base::{End, Memory, State};
 use multi_master::MultiMaster;
+use param_load::Answer;
 use plant_conf::{BoundSpec, PlantConf};
 use plant_model::PlantEvent;
 use plant_setup::take_app;
@@ -85,8 +86,7 @@ impl<A: Application> Plant<A> {
             links: Vec::new(alloc),
             dids: Vec::new(alloc),
             outs: Vec::new(alloc),
-            heard: Did::nothing(),
-            sent: FrameBuf::new(),
+            answer: Answer::new(),
         };
         Plant {
             ends,

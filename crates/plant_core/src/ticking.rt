@@ -6,6 +6,7 @@ ghost use Rattle.plant_core.specs.Standing.{AreNoted};
 use crate::link::Link;
 use black_channel::Channel;
 use fsoe_base::{Did, End, FrameBuf};
+use param_load::{Answer, MoveRef};
 
 /// The slaves of all connections tick, in their order, and their frames are pushed.
 #[tactic(auto, using(crate::proofs::Acting::each_begun, crate::proofs::Acting::each_acted))]
@@ -16,10 +17,9 @@ pub(crate) fn tick_slaves<C: Channel>(links: &mut Vec<Link>, channel: &mut C)
     ensures count { vec_len links.new ≡ vec_len links.old }
     ensures name_stays { C.name channel.new ≡ C.name channel.old }
 {
-    let mut did = Did::nothing();
-    let mut out = FrameBuf::new();
+    let mut answer = Answer::new();
     for i in 0..links.len() {
-        links[i].tick(i as u16 + 1, channel, &mut did, &mut out);
+        links[i].act(i as u16 + 1, MoveRef::Tick, channel, &mut answer);
     }
 }
 

@@ -117,7 +117,9 @@ parcel_step b acts place link n side.Master frame (Some conf) at e h =
 -- the connection of the master of many that has the number of a link
 pub mastered : (b : Beginning) (acts : List Act) (place : ℕ) (link : LinkConf) → slice_get b.links place ≡ Some link → slice_get (masters b acts).connections place ≡ Some (master_with link (pair link (suc place) (journal b acts)))
 mastered b [] place link h = slice_get-map new_connection (settings b) place ∙ ap (option_map new_connection) (slice_get-map (λ l. l.master) b.links place ∙ ap (option_map (λ l. l.master)) h)
-mastered b (Start ∷ acts) place link h = let m : Meant = masters b acts in cycle_step (act_cycle b Start acts) (record m { app = b.app }) place link (journal b acts) (mastered b acts place link h)
+mastered b (Start ∷ acts) place link h =
+    let m : Meant = masters b acts in
+    cycle_step (act_cycle b Start acts) (record m { app = b.app }) place link (journal b acts) (mastered b acts place link h)
 mastered b (Happen (SaysEvent event.Tick) ∷ acts) place link h =
     let m : Meant = masters b acts in
     line_more (act_cycle b (Happen (SaysEvent event.Tick)) acts) (all_tick m) place link (journal b acts) (step.Script event.Tick)

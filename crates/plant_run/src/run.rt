@@ -15,24 +15,6 @@ use plant_conf::PlantConf;
 use plant_core::{Journal, Plant};
 use std::alloc::Global;
 
-/// Runs a plant that hasn't begun. The channel and the plant are the same ones after it.
-fn run_given<'a, 'o, H: Application, C: Channel, S: Source, K: Sink>(
-    given: &mut PlantRun<'a, 'o, H, C>,
-    source: &mut S,
-    sink: &mut K,
-) -> Ended
-    requires { given.old.plant.now.journal ≡ [] }
-    ensures channel_stays { given.new.channel.ghost_name ≡ given.old.channel.ghost_name }
-    ensures plant_stays { given.new.plant.ghost_name ≡ given.old.plant.ghost_name }
-    ensures name_stays { C.name given.new.channel.now ≡ C.name given.old.channel.now }
-    ensures ran { let A = ⟦<KindOf<H> as Application>⟧ in RanPlant (terms_of (app_view A.rule A.holds A.guards) given.old.conf.now given.old.plant.now.master.app given.old.spare.now.items) result (record {
-      source = told S.left S.faults source.old source.new;
-      sink = told K.written K.faults sink.old sink.new;
-    }) (C.told given.old.channel.now) (C.told given.new.channel.now) given.new.plant.now.journal }
-{
-    run_over::<Telling<'a, 'o, H, C>, S, K>(given, source, sink)
-}
-
 /// Runs a plant of this configuration's connections over its script: reads its first line, begins the plant, and does
 /// an event from each line up to `end`, at most 2,000. After each tick it writes `tick <n>`, and for each connection
 /// `<k> <state> <outputs> <state> <outputs>`, its master first. At the end it writes `ticks <n>`, and `other none` or
@@ -78,7 +60,7 @@ pub fn run_plant<H: Application, C: Channel, S: Source, K: Sink>(
         plant: &mut plant,
         watched: &mut watched,
     };
-    let ended = run_given(&mut given, source, sink);
+    let ended = run_over::<Telling<'_, '_, H, C>, S, K>(&mut given, source, sink);
     *journal = plant.into_journal();
     ended
 }

@@ -41,11 +41,11 @@ pub returns-in-Slave-clause-delivers : goal.returns-in-Slave-clause-delivers
 returns-in-Slave-clause-delivers g c =
     let links = c.args.self.now.links in
     let p = placed links.items links.len c.args.to.link _ _ (record { first = omega arith; last = omega arith }) links.ok.0 c.from-in-Slave.ensures c.index_mut-in-Slave.ensures.value in
-    let acts = rw c.bytes-in-Slave.ensures.value at c.deliver.ensures.acts in
+    let acts = rw c.bytes-in-Slave.ensures.value at c.act.ensures.acts in
     slave_delivered _ _ c.args.to c.args.frame.now _ _ c.in-Slave.is (record { place = _; was = _; is = _; placed = p; acts = acts; master = refl; links = refl; journal = c.note_pulled-in-Slave.ensures.noted })
 
 pub returns-in-Slave-clause-ready : goal.returns-in-Slave-clause-ready
 returns-in-Slave-clause-ready g c =
     let links = c.args.self.now.links in
     let p = placed links.items links.len c.args.to.link _ _ (record { first = omega arith; last = omega arith }) links.ok.0 c.from-in-Slave.ensures c.index_mut-in-Slave.ensures.value in
-    one_noted _ _ links.items _ _ _ _ _ _ _ c.requires.ready refl p.at (omega (arith, c.deliver.ensures.acts.notes.noted)) c.note_pulled-in-Slave.ensures.count
+    one_noted _ _ links.items _ _ _ _ _ _ _ c.requires.ready refl p.at (omega (arith, c.act.ensures.acts.notes.noted)) c.note_pulled-in-Slave.ensures.count

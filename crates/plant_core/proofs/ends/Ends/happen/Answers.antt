@@ -1,17 +1,17 @@
-use Rattle.plant_core.proofs.Common.{LinkView, SlaveTicks, written_back}
-use Rattle.std.proofs.Common.{◌≡◌, ◌+◌, ◌-◌, ◌*◌, ◌^◌, length, vec_len, refl, sym, ap, ◌∙◌, rules, arith}
+use Rattle.plant_core.proofs.Common.{LinkView}
+use Rattle.std.proofs.Common.{◌≡◌, vec_len, refl, sym, ap, ◌∙◌, rules, arith}
 use Rattle.plant_model.specs.declared.event.PlantEvent.TheVariants as event
 use Rattle.fsoe_base.specs.declared.command.End.TheVariants as side
-use Rattle.plant_core.proofs.Acting.{each_noted, few_at, kept_number, kept_placed, one_noted}
-use Rattle.plant_core.proofs.Cycling.{tick_goes}
+use Rattle.param_load.specs.MoveRef.{owned_move}
+use Rattle.plant_core.proofs.Acting.{few_at, kept_number, kept_placed, one_noted}
 use Rattle.plant_core.proofs.OneDeed.{cut_event, master_nonce, slave_at, slave_goes}
-use Rattle.plant_core.proofs.Pulling.{event_line, tick_line}
+use Rattle.plant_core.proofs.Pulling.{event_line}
 use Rattle.plant_core.proofs.ends.Ends.happen.Goals as goal
 
-pub happen-requires : goal.happen-requires
-happen-requires g c =
+pub act-requires : goal.act-requires
+act-requires g c =
     let links = c.args.self.now.links in
-    let at = slave_at links.items _ _ _ _ c.args.event.now c.in-Some.what (sym c.slave_move.ensures ∙ c.in-Some.is) c.requires.fits links.ok.0 c.from.ensures c.index_mut.ensures.value in
+    let at = slave_at links.items _ _ _ _ c.args.event.now (owned_move c.in-Some.what) c.in-Some.ensures c.requires.fits links.ok.0 c.from.ensures c.index_mut.ensures.value in
     let small = c.note_event.new.steps.small in
     let roomy = c.note_event.new.steps.ok.1 in
     record { few = few_at links.items (vec_len c.args.steps.now) _ _ c.requires.ready.noted (omega arith) at.0.at; proper = at.1.proper _ _ at.0 }
@@ -19,52 +19,13 @@ happen-requires g c =
 pub returns-in-Some : goal.returns-in-Some
 returns-in-Some g c =
     let links = c.args.self.now.links in
-    let at = slave_at links.items _ _ _ _ c.args.event.now c.in-Some.what (sym c.slave_move.ensures ∙ c.in-Some.is) c.requires.fits links.ok.0 c.from.ensures c.index_mut.ensures.value in
+    let at = slave_at links.items _ _ _ _ c.args.event.now (owned_move c.in-Some.what) c.in-Some.ensures c.requires.fits links.ok.0 c.from.ensures c.index_mut.ensures.value in
     record {
       line = event_line _ _ _ _ _ c.requires.fits at.1.other
-          (slave_goes _ _ _ _ c.in-Some.link c.in-Some.what _ _ _ at.1.act (record { place = _; was = _; is = _; placed = at.0; acts = c.happen.ensures.acts; master = refl; links = refl; journal = c.note_event.ensures.noted }) (λ b us t. t));
-      name_stays = c.happen.ensures.name_stays;
-      ready = one_noted _ _ links.items _ _ _ _ _ _ _ c.requires.ready refl at.0.at (omega (arith, c.happen.ensures.acts.notes.noted)) c.note_event.ensures.count;
+          (slave_goes _ _ _ _ c.in-Some.link (owned_move c.in-Some.what) _ _ _ at.1.act (record { place = _; was = _; is = _; placed = at.0; acts = c.act.ensures.acts; master = refl; links = refl; journal = c.note_event.ensures.noted }) (λ b us t. t));
+      name_stays = c.act.ensures.name_stays;
+      ready = one_noted _ _ links.items _ _ _ _ _ _ _ c.requires.ready refl at.0.at (omega (arith, c.act.ensures.acts.notes.noted)) c.note_event.ensures.count;
     }
-
-pub masters_ticked-requires : goal.masters_ticked-requires
-masters_ticked-requires g c =
-    let self = c.args.self.now in
-    let steps = c.note_event.new.steps in
-    let small = steps.small in
-    let roomy = steps.ok.1 in
-    let dids : length c.tick.new.dids ≡ length self.dids.items = cc in
-    let outs : length c.tick.new.outs ≡ length self.outs.items = cc in
-    let count = sym self.links.ok.0 ∙ sym c.tick_slaves.ensures.count in
-    record {
-      most = omega (arith, c.requires.ready.most, count);
-      few = each_noted SlaveTicks 0 (2 * vec_len c.args.steps.now) (2 ^ 64 - 2) _ _ _ _ (λ n v w t u a. a.notes) c.tick_slaves.ensures.acted (omega arith) c.requires.ready.noted;
-      dids = ap length (c.deref.ensures.value ∙ written_back c.tick.new.dids self.dids.items self.dids.len self.dids.ok.0 dids) ∙ dids ∙ c.requires.ready.dids_fit ∙ count;
-      outs = ap length (c.deref-in-Tick.ensures.value ∙ written_back c.tick.new.outs self.outs.items self.outs.len self.outs.ok.0 outs) ∙ outs ∙ c.requires.ready.outs_fit ∙ count;
-    }
-
-pub note_offers-requires : goal.note_offers-requires
-note_offers-requires g c =
-    let len = vec_len c.args.steps.now in
-    let noted = each_noted SlaveTicks 0 (2 * len) (2 * len + 1) _ _ _ _ (λ n v w t u a. a.notes) c.tick_slaves.ensures.acted (omega arith) c.requires.ready.noted in
-    record {
-      count = omega (arith, c.args.self.now.links.ok.0, c.requires.ready.count, ap length c.tick.ensures.settings);
-      room = omega (arith, rw c.in-Tick.is at c.requires.room);
-      noted = each_noted _ 0 (2 * len + 1) (2 * vec_len c.note_event.new.steps) _ _ _ _ (λ n v w t u a. a.noted.notes) c.masters_ticked.ensures.acted (omega arith) noted;
-    }
-
-pub pull_all-requires-clause-room : goal.pull_all-requires-clause-room
-pull_all-requires-clause-room g c = omega (arith, rw c.in-Tick.is at c.requires.room)
-
-pub returns-in-Tick-clause-line : goal.returns-in-Tick-clause-line
-returns-in-Tick-clause-line g c =
-    let dids = c.args.self.now.dids in
-    let outs = c.args.self.now.outs in
-    let dids_are : c.deref.result.now ≡ c.tick.new.dids = c.deref.ensures.value ∙ written_back c.tick.new.dids dids.items dids.len dids.ok.0 (cc) in
-    let outs_are : c.deref-in-Tick.result.now ≡ c.tick.new.outs = c.deref-in-Tick.ensures.value ∙ written_back c.tick.new.outs outs.items outs.len outs.ok.0 (cc) in
-    let masters = rw (dids_are, outs_are) at c.masters_ticked.ensures.acted in
-    let offers = rw (c.note_event.ensures.noted, c.in-Tick.is) at c.note_offers.ensures.offers in
-    rw c.in-Tick.is (tick_line _ _ _ _ _ _ (tick_goes _ _ _ _ _ _ _ _ _ c.tick_slaves.ensures.acted c.tick.ensures.follows c.tick.ensures.answers masters offers) c.pull_all.ensures.pulls)
 
 pub nonce-requires : goal.nonce-requires
 nonce-requires g c =
