@@ -1,7 +1,8 @@
 //! Which sources and which toolchain an archive or a program was made of, as a text.
 #![tactic(auto)]
 
-ghost use Rattle.std.specs.Prelude.{◌≡◌, ◌==◌, IsTrue, false, length};
+ghost use Rattle.std.specs.Prelude.{◌≡◌, ◌==◌, length};
+ghost use Rattle.build_text.specs.Copy.{build_copied};
 
 mod text;
 
@@ -9,9 +10,8 @@ pub use text::{BUILD, BUILD_LENGTH};
 
 /// Copies the text to `to` if that has its number of bytes. Returns whether it has.
 pub fn copy_build(to: &mut [u8]) -> bool
-    ensures copied { IsTrue result → to.new ≡ BUILD }
     ensures fits { result ≡ (length to.old == BUILD_LENGTH) }
-    ensures refused { result ≡ false → to.new ≡ to.old }
+    ensures copied { to.new ≡ build_copied to.old }
 {
     if to.len() != BUILD_LENGTH {
         return false;

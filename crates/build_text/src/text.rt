@@ -5,4 +5,4 @@ pub const BUILD_LENGTH: usize = 136;
 
 /// One line: the version, the sum of the sources, and the toolchain.
 pub const BUILD: [u8; BUILD_LENGTH] =
-    *b"gatepast 0.2.0 sources 0f01fcf4e15f02628936f2f5036d07e69510c744e59f1447c200a609e5dbe82b toolchain rattle-kit-13b logic dac8208d650f15bf\n";
+    *b"gatepast 0.2.0 sources d5ae18e3a3e40fbcb4511383d6507a065fc381f3efb6bae4f12337f6b45b4634 toolchain rattle-kit-13b logic dac8208d650f15bf\n";

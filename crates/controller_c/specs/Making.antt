@@ -42,6 +42,9 @@ kind_number kind.OnDelay = 7
 kind_number kind.OffDelay = 8
 kind_number kind.Feedback = 9
 
+abbrev pub highest_kind : ℕ
+highest_kind = kind_number kind.Feedback
+
 -- the number of why a connection is refused, or not
 abbrev pub connection_number : Option NewFault → ℕ
 connection_number None = OK
@@ -72,7 +75,7 @@ abbrev pub connect_answer : GpMasterSettings → List ℕ → ControllerView →
 connect_answer set app old = if_idle old (if nat_le (length app) 512 then first_refusal (master_refusal set) (connection_number (fault_with old set.conn)) else BAD_APP)
 
 abbrev pub block_answer : (kind inputs : ℕ) → ControllerView → ℕ
-block_answer kind inputs old = if_idle old (if nat_lt (length old.blocks) 256 && nat_le inputs most_inputs then (if nat_le kind 9 then OK else BAD_KIND) else TOO_MANY)
+block_answer kind inputs old = if_idle old (if nat_lt (length old.blocks) 256 && nat_le inputs most_inputs then (if nat_le kind highest_kind then OK else BAD_KIND) else TOO_MANY)
 
 abbrev pub drive_answer : ControllerView → ℕ
 drive_answer old = if_idle old (if nat_lt (length old.drives) 1024 then OK else TOO_MANY)

@@ -1,5 +1,6 @@
 //! The handle of a controller.
-ghost use Rattle.std.specs.Prelude.{◌≡◌, ◌≢◌, ◌==◌, if◌then◌else◌, false, length, true, Some};
+ghost use Rattle.std.specs.Prelude.{◌≡◌, ◌≢◌, false, true, Some};
+ghost use Rattle.build_text.specs.Copy.{build_answer, build_copied};
 ghost use Rattle.c_values.specs.Place.{served};
 ghost use Rattle.controller_c.specs.Handle.{IsSoundController, open_answer};
 ghost use Rattle.controller_c.specs.Making.{empty_controller};
@@ -9,9 +10,9 @@ use crate::controller_place::ControllerPlace;
 use crate::controller_room::ControllerRoom;
 use crate::most::GpMost;
 use crate::numbers::NO_MEMORY;
-use build_text::{BUILD, BUILD_LENGTH, copy_build};
+use build_text::copy_build;
 use c_values::numbers::{BAD_LENGTH, BUSY, NO_END, NO_ROOM, OK};
-use region::{Memory, Region};
+use region::Memory;
 use std::mem::{align_of, size_of};
 
 /// The handle of a controller: where its memory lies, and whether a controller is there.
@@ -32,9 +33,8 @@ pub extern "C" fn gp_controller_version() -> u32
 /// Writes the text that names the sources and the toolchain that the archive was made of, to as many bytes.
 #[unsafe(no_mangle)]
 pub extern "C" fn gp_controller_build(text: &mut [u8]) -> u8
-    ensures answer { result ≡ (if length text.old == BUILD_LENGTH then OK else BAD_LENGTH) }
-    ensures written { result ≡ OK → text.new ≡ BUILD }
-    ensures refused { result ≢ OK → text.new ≡ text.old }
+    ensures answer { result ≡ build_answer OK BAD_LENGTH text.old }
+    ensures copied { text.new ≡ build_copied text.old }
 {
     if copy_build(text) { OK } else { BAD_LENGTH }
 }
@@ -80,10 +80,7 @@ pub extern "C" fn gp_controller_open(
     if controller.place.is_null() {
         return NO_ROOM;
     }
-    let Ok(taken) = Region::forever(region, size) else {
-        return NO_MEMORY;
-    };
-    let Ok(room) = ControllerRoom::empty(taken, most) else {
+    let Ok(room) = ControllerRoom::within(region, size, most) else {
         return NO_MEMORY;
     };
     controller.place.put(room);

@@ -13,7 +13,7 @@ use fb_net::{BlockSpec, Drive, Net};
 use fsoe_base::{Did, FrameBuf};
 use multi_master::{MultiMaster, NewFault};
 use param_load::MasterSettings;
-use region::Region;
+use region::{Memory, Region};
 use std::alloc::AllocError;
 use std::marker::Model;
 use std::mem;
@@ -57,30 +57,26 @@ impl Model for ControllerRoom {
 }
 
 impl ControllerRoom {
-    /// A controller of no connection and no block, with room in this region for so many.
-    pub(crate) fn empty(region: InRegion, most: &GpMost) -> Result<ControllerRoom, AllocError>
+    /// A controller of no connection and no block, with room for so many in a region over `size` bytes of this memory.
+    pub(crate) fn within(
+        memory: Memory,
+        size: usize,
+        most: &GpMost,
+    ) -> Result<ControllerRoom, AllocError>
+        requires { memory.size ≡ size }
         ensures { IfOk result (λ made. made ≡ empty_controller) }
     {
+        let region = Region::forever(memory, size)?;
         let net = Net::of_faultless(Vec::new(region), Vec::new(region));
         let connections = usize::from(most.connections);
-        let (Ok(multi), Ok(blocks), Ok(drives), Ok(dids), Ok(frames), Ok(counts)) = (
-            MultiMaster::within(region, connections, net),
-            Vec::with_capacity(region, usize::from(most.blocks)),
-            Vec::with_capacity(region, usize::from(most.drives)),
-            Vec::with_capacity(region, connections),
-            Vec::with_capacity(region, connections),
-            Vec::with_capacity(region, connections),
-        ) else {
-            return Err(AllocError);
-        };
         Ok(ControllerRoom {
-            multi,
-            blocks,
-            drives,
+            multi: MultiMaster::within(region, connections, net)?,
+            blocks: Vec::with_capacity(region, usize::from(most.blocks))?,
+            drives: Vec::with_capacity(region, usize::from(most.drives))?,
             running: false,
-            dids,
-            frames,
-            counts,
+            dids: Vec::with_capacity(region, connections)?,
+            frames: Vec::with_capacity(region, connections)?,
+            counts: Vec::with_capacity(region, connections)?,
             heard: Did::nothing(),
             sent: FrameBuf::new(),
         })

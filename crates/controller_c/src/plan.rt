@@ -3,7 +3,7 @@
 ghost use Rattle.std.specs.Prelude.{◌≡◌, ◌≢◌, ◌<◌, ◌++◌, ◌∷◌, [], length, IfSome, None, Some};
 ghost use Rattle.c_values.specs.Place.{Between};
 ghost use Rattle.controller_c.specs.Handle.{IsSoundController, answer_by};
-ghost use Rattle.controller_c.specs.Making.{AddsBlock, ConnectsBy, block_answer, connect_answer, connection_number, drive_answer, kind_number};
+ghost use Rattle.controller_c.specs.Making.{AddsBlock, ConnectsBy, block_answer, connect_answer, connection_number, drive_answer, highest_kind, kind_number};
 ghost use Rattle.controller_c.specs.Wire.{named_bit, wire_of};
 
 use crate::controller::GpController;
@@ -36,7 +36,7 @@ fn connection_number(fault: NewFault) -> u8
 /// The kind of block with this number, if there is one.
 fn numbered_kind(number: u8) -> Option<BlockKind>
     ensures some { IfSome result (λ kind. kind_number kind ≡ number) }
-    ensures none { result ≡ None → 9 < number }
+    ensures none { result ≡ None → highest_kind < number }
 {
     Some(match number {
         0 => BlockKind::Const0,

@@ -1,6 +1,7 @@
 -- What is guarded is false.
 use Rattle.fb_net.proofs.Common.{AreOff, Bit, BlockSpec, Drive, NetBlock, NetCycle, bit_at, block_cycles, block_values, common_steps, driven_images, guarded_blocks, guarded_from, is_output_guarded, is_same_bit, is_wire_guarded, list_all, list_any, plan, values_from, wire_value, with_block}
-use Rattle.std.proofs.Common.{◌≡◌, ℕ, ◌+◌, ◌<◌, length, drop, Bool, true, false, not, ◌&&◌, ◌||◌, List, [], ◌∷◌, ◌++◌, get_or, map, refl, arith, rules}
+use Rattle.std.proofs.Common.{◌≡◌, ℕ, ◌+◌, ◌<◌, length, drop, Bool, true, false, not, ◌&&◌, ◌||◌, List, [], ◌∷◌, ◌++◌, get_or, map, refl, sym, ap, ◌∙◌, arith, rules}
+use Rattle.std.proofs.lemmas.List.Folds.{list_all-map}
 use Rattle.fb_lib.specs.Guarded.{is_guarded}
 use Rattle.fb_lib.proofs.Guarding.{off_at, value_off as block_off}
 use Rattle.fb_net.specs.declared.wire.Wire.{Wire}
@@ -33,6 +34,14 @@ none-on i o gs vs inputs (d ∷ ds) zero_in off g =
     neither : (same guarded on others more : Bool) → (guarded ≡ true → on ≡ false) → ((not same || guarded) && others) ≡ true
         → (others ≡ true → more ≡ false) → ((same && on) || more) ≡ false
     neither same guarded on others more h k l = grind arith
+
+-- a test of each of a list says of all, and of any, what the list of its results does
+pub all_told : {X : Type 0} (f : X → Bool) (xs : List X) (told : Bool) → told ≡ list_all f xs → told ≡ list_all (λ g. g) (map f xs)
+all_told f xs told is = is ∙ sym (list_all-map (λ g. g) f xs)
+
+pub any_told : {X : Type 0} (f : X → Bool) (xs : List X) (told : Bool) → told ≡ list_any f xs → told ≡ list_any (λ g. g) (map f xs)
+any_told f [] told is = is
+any_told f (x ∷ xs) told is = is ∙ ap (λ b. f x || b) (any_told f xs (list_any f xs) refl)
 
 -- one more block
 pub guarded_more : (blocks : List BlockSpec) (i : ℕ) (b : BlockSpec) (inp : Bit) (gs items all : List Bool) → i < length blocks → b ≡ get_or blocks i b

@@ -32,25 +32,19 @@ fn is_wire_guarded(wire: Wire, inp: Bit, guarded: &[bool]) -> bool
 }
 
 fn all_guarded(wires: &[Wire], inp: Bit, guarded: &[bool]) -> bool
-    ensures { result ≡ list_all (λ g. g) (map (is_wire_guarded inp guarded.now) wires.now) }
+    ensures { result ≡ list_all (is_wire_guarded inp guarded.now) wires.now }
 {
-    for wire in wires {
-        if !is_wire_guarded(*wire, inp, guarded) {
-            return false;
-        }
-    }
-    true
+    wires
+        .iter()
+        .all(|wire| is_wire_guarded(*wire, inp, guarded))
 }
 
 fn any_guarded(wires: &[Wire], inp: Bit, guarded: &[bool]) -> bool
-    ensures { result ≡ list_any (λ g. g) (map (is_wire_guarded inp guarded.now) wires.now) }
+    ensures { result ≡ list_any (is_wire_guarded inp guarded.now) wires.now }
 {
-    for wire in wires {
-        if is_wire_guarded(*wire, inp, guarded) {
-            return true;
-        }
-    }
-    false
+    wires
+        .iter()
+        .any(|wire| is_wire_guarded(*wire, inp, guarded))
 }
 
 /// Whether the wire of this input is guarded.
@@ -98,12 +92,8 @@ fn are_drives_guarded(drives: &[Drive], out: Bit, inp: Bit, guarded: &[bool]) ->
     ensures { result
         ≡ list_all (λ d. not (is_same_bit d.out out) || is_wire_guarded inp guarded.now d.from) drives.now }
 {
-    for drive in drives {
-        if is_same_bit(drive.out, out) && !is_wire_guarded(drive.from, inp, guarded) {
-            return false;
-        }
-    }
-    true
+    drives.iter().all(|drive| !is_same_bit(drive.out, out)
+        || is_wire_guarded(drive.from, inp, guarded))
 }
 
 /// Whether an output bit is guarded by an input bit, in a net of at most 256 blocks.

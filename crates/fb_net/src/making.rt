@@ -71,9 +71,8 @@ fn blocks_fault<M: Allocator>(blocks: &[BlockSpec<M>], ins: &[u8]) -> Option<Net
     requires { length blocks.now ≤ 256 }
     ensures { result ≡ blocks_fault ins.now 0 blocks.now }
 {
-    for i in 0..blocks.len() {
-        let spec = &blocks[i];
-        let fault = block_fault(spec, ins, i as u16);
+    for (before, spec) in blocks.iter().enumerate() {
+        let fault = block_fault(spec, ins, before as u16);
         if fault.is_some() {
             return fault;
         }
@@ -111,8 +110,8 @@ fn drive_fault(
 fn drives_fault(drives: &[Drive], ins: &[u8], outs: &[u8], count: u16) -> Option<NetFault>
     ensures { result ≡ drives_fault ins.now outs.now count [] drives.now }
 {
-    for i in 0..drives.len() {
-        let fault = drive_fault(drives[i], &drives[..i], ins, outs, count);
+    for (before, drive) in drives.iter().enumerate() {
+        let fault = drive_fault(*drive, &drives[..before], ins, outs, count);
         if fault.is_some() {
             return fault;
         }

@@ -49,8 +49,8 @@ pub(crate) fn values_in(value: &Value) -> Option<&[Value]>
 pub(crate) fn are_tables(values: &[Value]) -> bool
     ensures { result ≡ list_all (λ d. is_some (as_table d)) (map view values.now) }
 {
-    for i in 0..values.len() {
-        if !values[i].is_table() {
+    for value in values {
+        if !value.is_table() {
             return false;
         }
     }
@@ -61,8 +61,8 @@ pub(crate) fn are_tables(values: &[Value]) -> bool
 fn are_texts(values: &[Value]) -> bool
     ensures { result ≡ list_all (λ d. is_some (as_str d)) (map view values.now) }
 {
-    for i in 0..values.len() {
-        if !values[i].is_str() {
+    for value in values {
+        if !value.is_str() {
             return false;
         }
     }
@@ -80,11 +80,9 @@ pub(crate) fn required_wires(alloc: Global, table: &Table, key: Key) -> Result<W
         return Err(ConfFault::Kind(key));
     }
     let mut wires = Vec::new(alloc);
-    for i in 0..values.len() {
-        let text = values[i].as_str().ok_or(ConfFault::Kind(key))?;
-        let Some(wire) = words::wire(text.as_bytes()) else {
-            return Err(ConfFault::Range(key));
-        };
+    for value in values {
+        let text = value.as_str().ok_or(ConfFault::Kind(key))?;
+        let wire = words::wire(text.as_bytes()).ok_or(ConfFault::Range(key))?;
         if wires.push(wire).is_err() {
             return Err(ConfFault::Memory);
         }

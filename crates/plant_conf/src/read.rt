@@ -88,9 +88,9 @@ fn all_of<T: FromTable + Drop>(
 {
     let tables = tables_of(document, of)?;
     let mut all = Vec::new(alloc);
-    for i in 0..tables.len() {
-        let table = tables[i].as_table().ok_or(ConfFault::Kind(whole(of)))?;
-        let one = T::read(alloc, table, i as u16 + 1)?;
+    for (place, table) in tables.iter().enumerate() {
+        let table = table.as_table().ok_or(ConfFault::Kind(whole(of)))?;
+        let one = T::read(alloc, table, place as u16 + 1)?;
         if all.push(one).is_err() {
             return Err(ConfFault::Memory);
         }
@@ -146,13 +146,8 @@ pub fn read_conf(alloc: Global, text: &[u8]) -> Result<PlantConf, ConfFault>
     };
     match toml::table_from_str(alloc, text) {
         Ok(document) => read_document(alloc, &document),
-        Err(e) => {
-            if e.is_memory() {
-                Err(ConfFault::Memory)
-            } else {
-                Err(ConfFault::Syntax)
-            }
-        }
+        Err(fault) if fault.is_memory() => Err(ConfFault::Memory),
+        Err(_) => Err(ConfFault::Syntax),
     }
 }
 

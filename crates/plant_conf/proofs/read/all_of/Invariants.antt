@@ -6,12 +6,12 @@ use Rattle.plant_conf.specs.Meaning.{each}
 use Rattle.plant_conf.proofs.ArrayLaws.{after_read}
 use Rattle.plant_conf.proofs.read.all_of.Given as goal
 
-abbrev pub invariant-loop-i : goal.invariant-loop-i
-invariant-loop-i g l = record {
-  tables : list_all (λ d. is_some (as_table d)) (map view (drop l.i l.tables)) ≡ true;
+abbrev pub invariant-loop-place : goal.invariant-loop-place
+invariant-loop-place g l = record {
+  tables : list_all (λ d. is_some (as_table d)) (map view (drop l.place l.tables)) ≡ true;
   read :
       each g.T.FromTable.says 1 (filter_map as_table (map view l.tables))
-      ≡ after_read (map g.T.FromTable.values l.all.items) (each g.T.FromTable.says (l.i + 1) (filter_map as_table (map view (drop l.i l.tables))));
-  count : vec_len l.all ≡ l.i;
+      ≡ after_read (map g.T.FromTable.values l.all.items) (each g.T.FromTable.says (l.place + 1) (filter_map as_table (map view (drop l.place l.tables))));
+  count : vec_len l.all ≡ l.place;
   holds : All g.T.FromTable.Holds l.all.items;
 }

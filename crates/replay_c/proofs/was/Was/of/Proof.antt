@@ -1,84 +1,40 @@
 -- `of` makes the struct without fields, whose ghost field has the bytes of the slice.
-use Rattle.std.proofs.Common.{ℕ, List, [], ◌∷◌, ◌<◌, ◌^◌, length, refl}
-use seplogic.Ra.Ura.{Ura}
+use Rattle.std.proofs.Common.{[], ◌∷◌, refl}
+use Rattle.std.proofs.raw_atomic.Walks.{proved}
 use mir.Syntax.{named}
-use mir.Val.{Val}
-use base.Logic.{SProp, ent, emp, via, fst∗}
-use base.Fml.{Lft, Share}
-use prog.Memory.{Memory}
-use prog.Routine.{Routine}
-use prog.Wp.{Calls, Loops, WpFn, Tables}
-use contract.Monad.{Fun}
-use contract.Running.{tables, tables_of}
-use sound.WpLaws.{WpFn-mono}
-use types.Logic.{Logic}
-use types.Kit.{‵, raw, ◌⊛◌, ◌$◌, ◌∵◌, !, qed, move, split, fjoin, suffices, done}
+use base.Fml.{ftrue}
+use types.Kit.{‵, raw, ◌⊛◌, ◌$◌, ◌∵◌, !, qed, keep, move, split, fjoin, suffices, done}
 use types.Part.{agg}
 use types.Run.{enter, returns, no_more}
 use types.ByLocal.{alloc_all, pass_all, free_all, look_at, sets}
 use denote.RattleType.{owns}
 use denote.Builtin.{u8}
 use denote.Exit.{yes}
-use denote.Ref.{Bor}
 use denote.Signature.{plain}
-use denote.Slice.{ShrSlice, slice_val, shr_slice_vals, shr_slice_Tells}
+use denote.Slice.{ShrSlice, shr_slice_vals, shr_slice_Tells}
 use denote.Steps.{nothing}
-use denote.Triple.Entry.{alive, on_entry}
-use denote.Triple.Spec.{Meets, triple_of}
-use denote.Triple.Table.{entered}
-use denote.Triple.Walked.{says, Stays, stay_none_slice, walk_of, AllGo, Goes-none_slice, Walks, ends_at, walked, walk_Meets}
+use denote.Triple.Entry.{alive}
+use denote.Triple.Walked.{says, Stays, stay_none_slice, walk_of, Goes-none_slice, ends_at}
 use Rattle.replay_c.proofs.Empty.{none, none_made}
-use Rattle.replay_c.specs.contracts.was.Was as T
-use Rattle.replay_c.specs.contracts.was.Was.of as it
-use Rattle.replay_c.specs.contracts.was.Was.of.Key.{name as #it}
-use Rattle.replay_c.proofs.was.Was.of.Statement as stated
+use Rattle.replay_c.specs.contracts.was.Was.of as f
+use Rattle.replay_c.proofs.was.Was.of.Statement.{statement}
 use Rattle.replay_c.proofs.was.Was.of.Code as code
 
-abbrev stayed : Stays (it.ended).signature.params (it.ended).kept
+abbrev stayed : Stays f.ended.signature.params f.ended.kept
 stayed = (stay_none_slice (0 ∷ []) tt (plain (λ _. u8)) yes, tt)
 
-module _ {M : Type 1} {𝓤 : Ura M} (𝓛 : Logic 𝓤) (at_mem : Memory → SProp 𝓤) (run : Routine → Fun 𝓤) (κ : Lft) (q : Share) (s : Bor (List ℕ)) where
-  open 𝓛 use {H}
-
-  abbrev vals : List Val × Unit {0}
-  vals = (slice_val s.ref_ptr (length s.now) ∷ [], tt)
-
-  abbrev was : (T.the_row).Denot
-  was = record { bytes = s.now }
-
-  abbrev Post : Val → SProp 𝓤
-  Post = (walk_of 𝓛 it.ended stayed (it.clauses 𝓛 at_mem run)).post (((κ, tt), (q, tt), tt, (s, tt), vals), tt)
-
-  module _ (C : Calls 𝓤 H) (Λ : Loops 𝓤 H) where
-    walk : length s.now < 2 ^ 64 → ent 𝓤 (on_entry 𝓛 it.signature (κ, tt) (q, tt) (s, tt) vals) (WpFn 𝓤 H C Λ code.function (slice_val s.ref_ptr (length s.now) ∷ []) Post)
-    walk fits =
-        qed 𝓛 ((raw (alive 𝓛 it.signature (κ, tt) (q, tt)) ⊛ ‵ (owns (ShrSlice (named 0) κ u8 ∷ []) (s, tt) vals)) ∷ []) ∵
-        split ! $ enter ! C Λ code.function (slice_val s.ref_ptr (length s.now) ∷ []) Post $
-        alloc_all ! (λ l. pass_all ! refl ((tt, (tt, (record { fits = fits }, tt))), tt) $
-        sets ! (agg ! (no_more !)) refl (tt, tt) $
-        nothing ! $ none_made ! $ fjoin ! $
-        returns ! (look_at ! 0 refl) $ free_all ! refl $
-        suffices ! _ (ends_at 𝓛 it.ended stayed (it.clauses 𝓛 at_mem run) (((κ, tt), (q, tt), tt, (s, tt), vals), tt) none was (tt, tt) (tt, tt)) $ says ! refl $
-        move ! (1 ∷ 2 ∷ 0 ∷ []) $ done !)
-
-module _ {M : Type 1} {𝓤 : Ura M} (𝓛 : Logic 𝓤) (at_mem : Memory → SProp 𝓤) (run : Routine → Fun 𝓤) where
-  open 𝓛 use {H}
-
-  walks : (C : Calls 𝓤 H) (Λ : Loops 𝓤 H) → Walks 𝓛 it.ended stayed (WpFn 𝓤 H C Λ code.function) (it.clauses 𝓛 at_mem run)
-  walks C Λ =
-      walked 𝓛 it.ended stayed (it.clauses 𝓛 at_mem run) (WpFn 𝓤 H C Λ code.function) (λ κs. (shr_slice_vals, tt)) (λ κs. (shr_slice_Tells (named 0) κs.0 u8, tt))
-      (λ κs qs bounds a _ are. via 𝓤 _ (fst∗ 𝓤 _ (emp 𝓤)) (walk 𝓛 at_mem run κs.0 qs.0 a.0 C Λ are.0.0.1.0))
-
-  goes : AllGo 𝓛 1 (it.signature).params (it.ended).kept stayed
-  goes = (Goes-none_slice 𝓛 1 (0 ∷ []) tt (plain (λ _. u8)) yes, tt)
-
-meets : {M : Type 1} {𝓤 : Ura M} (𝓛 : Logic 𝓤) → (at_mem : Memory → SProp 𝓤) (run : Routine → Fun 𝓤) (𝓣 : Tables 𝓤 𝓛.H)
-    → Meets 𝓛 it.signature (WpFn 𝓤 𝓛.H 𝓣.C 𝓣.Λ code.function) (it.spec 𝓛 at_mem run)
-meets {𝓤 = 𝓤} 𝓛 at_mem run 𝓣 = walk_Meets 𝓛 it.ended stayed (goes 𝓛 at_mem run) (it.clauses 𝓛 at_mem run) (WpFn 𝓤 𝓛.H 𝓣.C 𝓣.Λ code.function) (WpFn-mono 𝓤 𝓛.H 𝓛.laws 𝓣 code.function) (walks 𝓛 at_mem run 𝓣.C 𝓣.Λ)
-
-pub of_spec : {M : Type 1} → stated.statement M
-unfolding tables_of
+pub of_spec : {M : Type 1} → statement M
 of_spec 𝓤 𝓛 𝓜 𝓡 wired =
-    entered 𝓤 𝓛.H (triple_of 𝓛 it.signature (it.spec 𝓛 𝓜.mem 𝓡.returns))
-    (tables 𝓤 𝓛.H 𝓜 𝓡 𝓡.env).C (tables 𝓤 𝓛.H 𝓜 𝓡 𝓡.env).Λ #it code.function (code.unfolded 𝓤 𝓛.H 𝓜 𝓡 wired)
-    (meets 𝓛 𝓜.mem 𝓡.returns (tables_of 𝓤 𝓛.H 𝓜 (tables 𝓤 𝓛.H 𝓜 𝓡 𝓡.env)))
+    let c = f.clauses 𝓛 𝓜.mem 𝓡.returns in let W = walk_of 𝓛 f.ended stayed c in
+    proved 𝓛 f.ended stayed c 𝓜 𝓡 (Goes-none_slice 𝓛 1 (0 ∷ []) tt (plain (λ _. u8)) yes, tt)
+    f.Key.name code.function (code.unfolded 𝓤 𝓛.H 𝓜 𝓡 wired)
+    (λ κs. (shr_slice_vals, tt)) (λ κs. (shr_slice_Tells (named 0) κs.0 u8, tt)) (λ κs qs bounds a _ are.
+    let vs = shr_slice_vals a.0 in let y : W.Ghost = ((κs, qs, bounds, a, (vs, tt)), tt) in
+    qed 𝓛 ((raw (alive 𝓛 f.ended.signature κs qs) ⊛ ‵ (owns (ShrSlice (named 0) κs.0 u8 ∷ []) a (vs, tt))) ∷ ‵ ftrue ∷ []) ∵
+    keep ! (0 ∷ []) $ split ! $ enter ! _ _ _ _ _ $
+    alloc_all ! (λ l. pass_all ! refl ((tt, (tt, (record { fits = are.0.0.1.0 }, tt))), tt) $
+    sets ! (agg ! (no_more !)) refl (tt, tt) $
+    nothing ! $ none_made ! $ fjoin ! $
+    returns ! (look_at ! 0 refl) $ free_all ! refl $
+    suffices ! _ (ends_at 𝓛 f.ended stayed c y none (record { bytes = a.0.now }) (tt, tt) (tt, tt)) $ says ! refl $
+    move ! (1 ∷ 2 ∷ 0 ∷ []) $ done !))
