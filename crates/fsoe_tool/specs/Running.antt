@@ -5,7 +5,7 @@ use Rattle.fsoe_io.specs.declared.status.Status.TheVariants as status
 use Rattle.file_run.specs.Ending.{Writes}
 use Rattle.file_run.specs.Outside.{Outside, Told}
 use Rattle.duo_run.specs.Bulk.{RanBulk}
-use Rattle.duo_run.specs.Convert.{RanConvert}
+use Rattle.pair_convert.specs.Convert.{RanConvert}
 use Rattle.duo_run.specs.Version.{RanReplay}
 use Rattle.node_runner.specs.Ran.{RanNode}
 use Rattle.process_image.specs.Ran.{RanImage}

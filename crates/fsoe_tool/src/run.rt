@@ -8,12 +8,13 @@ ghost use Rattle.fsoe_tool.specs.Running.{Runs, ended_of, reads_input, runs_plan
 
 use crate::command::{Command, command_said, file_named};
 use black_channel::Channel;
-use duo_run::{run_bulk, run_convert, run_replay};
+use duo_run::{run_bulk, run_replay};
 use failsafe_io::Application;
 use fb_net::AppEntry;
 use file_run::write_report;
 use fsoe_io::{Desk, Ended, Sink, Source, Status};
 use node_runner::run_node;
+use pair_convert::run_convert;
 use plant_file::{Wanted, run_file};
 use plant_run::Journal;
 use process_image::run_image;

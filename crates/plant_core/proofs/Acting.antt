@@ -82,8 +82,7 @@ pub all_acted : (Acts : Change) (to : End) (place : ℕ) (links : List LinkConf)
 all_acted Acts to place [] cut done next [] [] before after h p notes f = (tt, h)
 all_acted Acts to place (link ∷ links) cut done next (v ∷ old) (w ∷ new) before after h p notes f =
     let acted = f 0 place link v w before h.0 refl (omega arith) h.1 p.0.stands in
-    let rest = all_acted Acts to (suc place) links cut done next old new h.0 after h.2 p.1 notes (λ i n l x y t u at e a s. f (suc i) n l x y t u at (omega arith) a s) in
-    (
+    let rest = all_acted Acts to (suc place) links cut done next old new h.0 after h.2 p.1 notes (λ i n l x y t u at e a s. f (suc i) n l x y t u at (omega arith) a s) in (
       (record { stands = acted.stands; cut = (notes place v w before h.0 h.1).cut ∙ p.0.cut }, rest.0),
       trace_append (sent_uses (place_of (suc place) to) (next (suc place) link).sent (cut (suc place))) (each_uses (λ k link. sent_uses (place_of k to) (next k link).sent (cut k)) (suc (suc place)) links) before h.0 after
           (subst (λ (c : Bool). Trace (sent_uses (place_of (suc place) to) (next (suc place) link).sent c) before h.0) p.0.cut acted.channel) rest.1,

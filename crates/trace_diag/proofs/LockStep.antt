@@ -30,8 +30,7 @@ first_runs ms r x =
     let first = first_tick ms r [] (ticks ms.watchdog ms.some_watchdog) refl (idle ms r) in
     let y : Entry = asking_entry ms r [] in
     let enters : Enters ms r [] (event.Tick end_name.Master) y = first.0 in
-    let goes : world ms (partner ms r) (event.Tick end_name.Master ∷ []) ≡ y ∷ [] = ap (λ (e : Option Entry). going_on [] e (world_after ms (partner ms r) [])) enters.is in
-    (
+    let goes : world ms (partner ms r) (event.Tick end_name.Master ∷ []) ≡ y ∷ [] = ap (λ (e : Option Entry). going_on [] e (world_after ms (partner ms r) [])) enters.is in (
       assumption (ap (length {A = Entry}) goes, subst (λ (w : List Entry). IsOn ms r w end_name.Slave) (sym goes) (record { is_world = (enters.follows, tt); stage = first.1; coming = record { here = refl; none_back = refl } })),
       ap sent_in goes ∙ first-entry ms y (same_Some (entry_of (OfMaster ms) [] (step (OfMaster ms) [] move.Tick)) y enters.is),
     )

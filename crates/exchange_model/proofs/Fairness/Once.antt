@@ -109,4 +109,6 @@ once ms ss which (x ∷ w) h =
 
 -- no awaited item gives data twice
 pub at_most_once : (ms : MasterSettings) (ss : SlaveSettings) (which : End) (w : List Entry) → IsWorld ms ss w → IsDistinct nat_eq (numbers_taken which w)
-at_most_once ms ss which w h = let o : Once (items_of which (items w)) (items_of (peer which) (items w)) (numbers_taken which w) = once ms ss which w h in o.differ
+at_most_once ms ss which w h =
+    let o : Once (items_of which (items w)) (items_of (peer which) (items w)) (numbers_taken which w) = once ms ss which w h in
+    o.differ

@@ -205,12 +205,17 @@ delivery-leads : (turns : Bool) (ms : MasterSettings) (r : Partner ms) (w : List
 delivery-leads turns ms r w end_name.Slave end_name.Slave events accepts world had coming (Asked h) rest =
     let goes = asked_delivered ms r w coming.here h in new-leads turns ms r w end_name.Slave events had coming rest goes (heard ms r (goes.0 ∷ w) goes.2)
 delivery-leads turns ms r w end_name.Slave end_name.Slave events accepts world had coming (Down h) rest =
-    let goes = down_delivered ms r w accepts world coming.here h in new-leads turns ms r w end_name.Slave events had coming rest goes (heard ms r (goes.0 ∷ w) goes.2)
+    let goes = down_delivered ms r w accepts world coming.here h in
+    new-leads turns ms r w end_name.Slave events had coming rest goes (heard ms r (goes.0 ∷ w) goes.2)
 delivery-leads turns ms r w end_name.Master end_name.Master events accepts world had coming (Replied h) rest =
-    let goes = replied_delivered ms r w coming.here h in new-leads turns ms r w end_name.Master events had coming rest goes (heard-still ms r w goes.0 goes.1.at (Replied h))
+    let goes = replied_delivered ms r w coming.here h in
+    new-leads turns ms r w end_name.Master events had coming rest goes (heard-still ms r w goes.0 goes.1.at (Replied h))
 delivery-leads turns ms r w end_name.Master end_name.Master events accepts world had coming (Up h) rest =
-    let goes = up_delivered ms r w world coming.here h in new-leads turns ms r w end_name.Master events had coming rest goes (heard-still ms r w goes.0 goes.1.at (Up h))
-delivery-leads turns ms r w end_name.Master end_name.Slave events accepts world had coming (Asked h) rest = let k : false ≡ true = rest.asked h.slave_count in absurd (cc k)
+    let goes = up_delivered ms r w world coming.here h in
+    new-leads turns ms r w end_name.Master events had coming rest goes (heard-still ms r w goes.0 goes.1.at (Up h))
+delivery-leads turns ms r w end_name.Master end_name.Slave events accepts world had coming (Asked h) rest =
+    let k : false ≡ true = rest.asked h.slave_count in
+    absurd (cc k)
 delivery-leads turns ms r w end_name.Master end_name.Slave events accepts world had coming (Down h) rest =
     repeat-leads turns ms r w end_name.Master end_name.Slave h.before.frame events refl had coming (Down h) rest (λ z. let more : number_to comes_new end_name.Slave w ≡ suc h.k = h.slave_count in cc)
     (quiet_repeat ms r w end_name.Master ms.lengths.slave h.before refl coming.none_back)
@@ -284,7 +289,9 @@ pub steady_serves : (ms : MasterSettings) (ss : SlaveSettings) (events : List Ev
 steady_serves ms ss events m proper steady = (served false ms ss events m proper steady (λ t. cc)).steadily
 
 pub steady_fair : (ms : MasterSettings) (ss : SlaveSettings) (events : List Event) → Match ms ss → All (IsProperEvent ms ss) events → IsSteady ms ss events → Fair ms.lengths (world ms ss events)
-steady_fair ms ss events m proper steady = let s : ServesSteadily ms events (world ms ss events) = steady_serves ms ss events m proper steady in fair_run ms ss events m.same_lengths proper s.no_other
+steady_fair ms ss events m proper steady =
+    let s : ServesSteadily ms events (world ms ss events) = steady_serves ms ss events m proper steady in
+    fair_run ms ss events m.same_lengths proper s.no_other
 
 -- where each frame that comes is new, both tests say the same
 new-is : (a b : Bool) → (a ≡ true → b ≡ true) → (a && b) ≡ a

@@ -65,8 +65,16 @@ other-in which x w h = search (rules, looked-up-is)
 
 next-is : (which : End) (x : Entry) (w : List Entry) → x.end ≡ which
     → (record (lists_after which (list_of w) x) { noted = suc (length w); other = first_of_both (first_other w) (is_other_to (looked_up which (list_of w)) x.did.passed (delivered x.what)) (suc (length w)) }) ≡ list_of (x ∷ w)
-next-is end_name.Master x w h = let o = other-in end_name.Master x w h in let m = mine-is end_name.Master x w h in let s = theirs-by end_name.Master x w (is_empty x.sent) h in cc
-next-is end_name.Slave x w h = let o = other-in end_name.Slave x w h in let m = theirs-by end_name.Slave x w (is_empty x.sent) h in let s = mine-is end_name.Slave x w h in cc
+next-is end_name.Master x w h =
+    let o = other-in end_name.Master x w h in
+    let m = mine-is end_name.Master x w h in
+    let s = theirs-by end_name.Master x w (is_empty x.sent) h in
+    cc
+next-is end_name.Slave x w h =
+    let o = other-in end_name.Slave x w h in
+    let m = theirs-by end_name.Slave x w (is_empty x.sent) h in
+    let s = mine-is end_name.Slave x w h in
+    cc
 
 -- a monitor that steps so lists the entry
 pub lists_by : {old new : ListView} {x : Entry} → new ≡ listed_next old x → ListsEntry old x new
